@@ -45,7 +45,7 @@ pub struct Configuration {
     pub busy_poll: Duration,
     /// How long a step of a migration takes at least.
     pub pace: Duration,
-    /// How long clients may take at a stop to read what they were answered.
+    /// How long a stop takes at most, while clients send, or read what they were answered.
     pub grace: Duration,
     /// How many batches the log of a shard in a folder has before a base stands for them.
     pub log_batches: u64,
@@ -209,9 +209,20 @@ impl Cluster {
         self.configuration.rule.shards()
     }
 
-    /// How many keys of the shard hold something, as its last permit left it.
-    pub fn keys(&self, shard: u16) -> u64 {
-        self.keys[usize::from(shard)].load(Ordering::Relaxed)
+    /// Whether keys are counted, and what each server does: not where data outlives the process.
+    pub fn has_counts(&self) -> bool {
+        self.storage.durable().is_none()
+    }
+
+    /// How many keys of the shard hold something, as its last permit left it, where they are counted.
+    pub fn keys(&self, shard: u16) -> Option<u64> {
+        let count = self.keys[usize::from(shard)].load(Ordering::Relaxed);
+        self.has_counts().then_some(count)
+    }
+
+    /// How many keys of all shards do.
+    pub fn all_keys(&self) -> Option<u64> {
+        (0..self.shards()).map(|it| self.keys(it)).sum()
     }
 
     /// Notes how many keys of the shard hold something; for who has its permit.

@@ -71,7 +71,12 @@ impl Observer {
         let shards: Vec<_> = shards.filter_map(|it| self.shard(it)).collect();
         let servers = 1..=self.cluster.presence.servers();
         let servers = servers.map(|it| self.server(it, &shards)).collect();
-        Snapshot { servers, shards }
+        let data = self.cluster.storage.description();
+        Snapshot {
+            servers,
+            shards,
+            data,
+        }
     }
 
     /// How far the server's restart has come. Of several processes only the one that leads knows more than whether
@@ -92,15 +97,14 @@ impl Observer {
     fn server(&self, server: u16, shards: &[ShardRow]) -> ServerRow {
         let index = usize::from(server) - 1;
         let inlets = self.cluster.inlets().iter();
+        let admissions = inlets.map(|it| it.stats().servers[index].admissions.get());
         let doing = self.cluster.progress.of(server);
         ServerRow {
             server,
             standing: self.standing(server).map_or("unknown", |it| it.name()),
             domain: self.cluster.configuration.domains.domain_of(server),
             shards: shards.iter().filter(|it| it.owner == server).count(),
-            admissions: inlets
-                .map(|it| it.stats().servers[index].admissions.get())
-                .sum(),
+            admissions: self.cluster.has_counts().then(|| admissions.sum()),
             doing: doing.map(|it| it.to_string()),
             process: self.cluster.storage.peers().map(|it| process(it, server)),
         }

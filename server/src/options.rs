@@ -132,7 +132,7 @@ pub struct Options {
     #[arg(long, value_name = "always|second|no", default_value = "always", requires = "data", help_heading = DATA)]
     pub sync: Sync,
 
-    /// Batches of a shard's log before a base stands for them, from which the next start begins
+    /// Batches of a shard's log at most before a base stands for them, from which the next start begins
     #[arg(
         long,
         value_name = "COUNT",
@@ -177,7 +177,7 @@ pub struct Options {
     #[arg(long, value_name = "MILLISECONDS", default_value_t = 0, help_heading = THREADS)]
     pub pace: u64,
 
-    /// How long clients may take at a stop to read what they were answered
+    /// How long a stop takes at most, while clients send, or read what they were answered
     #[arg(long, value_name = "MILLISECONDS", default_value_t = 2_000, help_heading = THREADS)]
     pub grace: u64,
 

@@ -18,13 +18,13 @@ pub struct ShardRow {
     pub is_admitted: bool,
     /// How many steps its history has.
     pub generation: u64,
-    /// How many keys of it hold something.
-    pub keys: u64,
+    /// How many keys of it hold something, where they are counted.
+    pub keys: Option<u64>,
 }
 
 impl ShardRow {
     /// That of a shard with this record.
-    pub fn new(shard: u16, record: Record, keys: u64) -> ShardRow {
+    pub fn new(shard: u16, record: Record, keys: Option<u64>) -> ShardRow {
         ShardRow {
             shard,
             stand: record.stand.name(),
@@ -35,6 +35,16 @@ impl ShardRow {
             keys,
         }
     }
+
+    /// The same with its number and its keys.
+    pub fn line(&self) -> String {
+        format!("{} {self} {}", self.shard, counted(self.keys))
+    }
+}
+
+/// A count, or a dash where it isn't counted.
+fn counted(count: Option<u64>) -> String {
+    count.map_or_else(|| "-".to_owned(), |it| it.to_string())
 }
 
 /// As scripts are answered by `look`.
@@ -63,8 +73,8 @@ pub struct ServerRow {
     pub domain: u16,
     /// How many shards it owns.
     pub shards: usize,
-    /// How often it was admitted to a shard.
-    pub admissions: u64,
+    /// How often it was admitted to a shard, where that is counted.
+    pub admissions: Option<u64>,
     /// What its restart does now, if one is under way.
     pub doing: Option<String>,
     /// Its process, where servers have one each.
@@ -120,7 +130,7 @@ impl fmt::Display for ServerRow {
             doing,
             process,
         } = self;
-        let doing = doing.as_deref().unwrap_or("-");
+        let (doing, admissions) = (doing.as_deref().unwrap_or("-"), counted(*admissions));
         write!(f, "{server} {standing} {domain} {shards} {admissions} ")?;
         if let Some(process) = process {
             write!(f, "{process} ")?;
@@ -136,4 +146,6 @@ pub struct Snapshot {
     pub servers: Vec<ServerRow>,
     /// Each shard, by number.
     pub shards: Vec<ShardRow>,
+    /// Where data lies.
+    pub data: &'static str,
 }

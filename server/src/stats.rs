@@ -26,6 +26,27 @@ impl Counter {
     }
 }
 
+/// How many of something there are, which several threads change, and which is exact.
+#[derive(Debug, Default)]
+pub struct Gauge(AtomicU64);
+
+impl Gauge {
+    /// Notes that there is one more.
+    pub fn note_more(&self) {
+        self.0.fetch_add(1, Ordering::Relaxed);
+    }
+
+    /// Notes that there is one less.
+    pub fn note_less(&self) {
+        self.0.fetch_sub(1, Ordering::Relaxed);
+    }
+
+    /// How many there are.
+    pub fn get(&self) -> u64 {
+        self.0.load(Ordering::Relaxed)
+    }
+}
+
 /// Bounds of times, in microseconds.
 pub const LATENCY_BOUNDS: [u64; 14] = [
     10, 25, 50, 100, 250, 500, 1_000, 2_500, 5_000, 10_000, 25_000, 100_000, 1_000_000, 10_000_000,
@@ -107,8 +128,8 @@ pub struct Stats {
     pub refused: Counter,
     /// Connections that were accepted.
     pub accepted: Counter,
-    /// Connections that are open.
-    pub open: Counter,
+    /// Connections that are open, from when the thread is brought them.
+    pub open: Gauge,
     /// Connections whose next command waits for a shard that nobody executes.
     pub waiting: Counter,
     /// Bytes that came.

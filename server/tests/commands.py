@@ -1,6 +1,7 @@
 #!/usr/bin/env python3
 """Every command, beside redis-server and by redis-py: commands.py PROGRAM. It needs redis-server and redis-py."""
 import contextlib
+import itertools
 import pathlib
 import re
 import socket
@@ -79,6 +80,19 @@ DISCARD
 DISCARD
 EXEC
 MULTI
+SET {m}a 1
+MULTI
+INCR {m}a
+EXEC
+MULTI
+MSET {m}a 1 {m}b
+MSET {m}a 5 {m}b 6
+GET {m}a
+EXEC
+MULTI
+MSET {m}a
+EXEC
+MULTI
 INCR
 EXEC
 MULTI
@@ -106,7 +120,11 @@ CONFIG GET appendonly
 CONFIG GET nosuch
 COMMAND COUNT x
 SCAN x
+SCAN x COUNT 0
+SCAN 99 COUNT 0
 SCAN 0 COUNT 0
+SCAN 0 COUNT 0 COUNT 5
+SCAN 0 COUNT 0 COUNT x
 SCAN 0 COUNT x
 SCAN 0 NOSUCH 1
 SCAN 0 MATCH nosuch:* COUNT 1000
@@ -177,6 +195,16 @@ def answers_are_those_of_redis(program):
     return f"{count} answers"
 
 
+def who_quits_is_answered_and_cut_off(program):
+    with redis_served() as other, served(program) as server:
+        for port, lines in itertools.product((other, server.port), (b"QUIT\r\n", b"MULTI\r\nPING\r\nQUIT\r\n")):
+            with socket.create_connection(("127.0.0.1", port), 10) as one:
+                one.sendall(lines)
+                told = one.makefile("rb").read()
+            wanted = b"+OK\r\n+QUEUED\r\n+OK\r\n" if b"MULTI" in lines else b"+OK\r\n"
+            assert told == wanted, (port == other, told)
+
+
 def other_answers_are_named(program):
     with served(program) as server, server.client() as client:
         for line, wanted in OWN:
@@ -221,6 +249,7 @@ def scans_give_each_key_once_in_order(program):
             client = scans.of(server)
             scans.written(client)
             scans.checked(client, options)
+            scans.cursors_stay_known(server)
 
 
 def passwords_are_asked_for(program):
@@ -290,6 +319,7 @@ def the_shell_speaks_with_it(program):
 
 TESTS = [
     answers_are_those_of_redis,
+    who_quits_is_answered_and_cut_off,
     other_answers_are_named,
     redis_py_does_all,
     scans_give_each_key_once_in_order,

@@ -83,12 +83,39 @@ def commands_answer_as_in_memory(program):
                 assert "NOTDURABLE" in str(answer_of(one, words)).upper(), words
 
 
-# What goes over keys: shards have few, so that a cursor isn't told.
+def answers_have_a_bound(program):
+    """That to a command over several shards, and those to many commands of a client that reads nothing."""
+    with folder() as data, over(program, data) as durable, served.served(program) as memory:
+        with durable.client() as one, memory.client() as other:
+            many = ("MGET", *["a", "b"] * 63, "a", "c")
+            for length, is_refused in ((64_377, False), (64_378, True)):
+                for it in (one, other):
+                    it.ask("MSET", "a", b"x" * 65_535, "b", b"y" * 65_535, "c", b"z" * length)
+                told = one.raw(*many)
+                assert told == other.raw(*many) and told.startswith(b"-TOOLARGE") == is_refused, told[:99]
+            before, most = durable.memory(), 0
+            with durable.client() as deaf:
+                deaf.socket.sendall(served.packed("MGET", *["a"] * 127) * 40)
+                end = time.monotonic() + 1.5
+                while time.monotonic() < end:
+                    most = max(most, durable.memory() - before)
+                    time.sleep(0.01)
+                answer = b"*127\r\n" + (b"$65535\r\n" + b"x" * 65_535 + b"\r\n") * 127
+                assert all(deaf.stream.read(len(answer)) == answer for _ in range(40))
+        assert most < 64 << 20, f"{most} bytes more"
+    return f"{most >> 20} MiB more memory"
+
+
+# What goes over keys, of which shards have few, so that a cursor isn't told; and what transactions refuse.
 SCANS = [
     ("DBSIZE",), ("SCANRANGE", "", "", 9), ("SCANRANGE", "b", "{", 9), ("SCANRANGE", "x" * 256, "", 9),
     ("SCANRANGE", "", "", "x"), ("SCAN", 0, "COUNT", 99), ("SCAN", 0, "MATCH", "a*", "COUNT", 99), ("SCAN",),
     ("SCAN", "x"), ("SCAN", 99), ("SCAN", 0, "COUNT", 0), ("SCAN", 0, "NOSUCH", 1),
+    ("SCAN", "x", "COUNT", 0), ("SCAN", 99, "COUNT", 0), ("SCAN", 0, "COUNT", 0, "COUNT", 5),
+    ("SCAN", 0, "MATCH", "x" * 1_025), ("CONFIG", "GET", "x" * 1_025),
     ("MULTI",), ("SCAN", 0), ("SCANRANGE", "", "", 9), ("DISCARD",),
+    ("MULTI",), ("INCR", "{t}n"), ("MULTI",), ("MSET", "{t}1", 1, "{t}2"), ("INCR", "{t}n"), ("EXEC",),
+    ("MULTI",), ("MSET", "{t}1"), ("EXEC",), ("MSET", "{t}1", 1, "{t}2"),
 ]
 
 
@@ -111,6 +138,12 @@ def scans_give_each_key_once_in_order(program):
                 scans.checked(client, "after migrations")
             with served.served(program, "--data", data, *options) as server:
                 scans.checked(scans.of(server), "after a start")
+
+
+def cursors_stay_known_where_others_scan(program):
+    with folder() as data, over(program, data) as server, server.client() as client:
+        client.piped([("SET", it, 1) for it in range(9)])
+        scans.cursors_stay_known(server)
 
 
 def scans_give_what_stays_while_shards_move(program):
@@ -456,7 +489,9 @@ def answers(client, key):
 TESTS = [
     restarts_keep_all,
     commands_answer_as_in_memory,
+    answers_have_a_bound,
     scans_give_each_key_once_in_order,
+    cursors_stay_known_where_others_scan,
     scans_give_what_stays_while_shards_move,
     scans_wait_for_a_paused_shard,
     wrong_folders_are_refused_by_name,

@@ -1,7 +1,9 @@
 #!/usr/bin/env python3
 """Migrations, restarts and pauses while clients call: moves.py PROGRAM."""
+import contextlib
 import multiprocessing
 import select
+import signal
 import subprocess
 import threading
 import time
@@ -286,6 +288,21 @@ def a_server_ends_after_what_it_was_sent(program):
         server.process.poll = lambda: None  # it was to end here
 
 
+def a_stop_answers_all_that_came(program):
+    """Commands that came before the signal, by more connections than a thread looks at at once."""
+    with served(program, "--threads", 1) as server, contextlib.ExitStack() as stack:
+        clients = [stack.enter_context(server.client()) for _ in range(400)]
+        assert all(it.ask("PING") == "PONG" for it in clients)
+        server.process.send_signal(signal.SIGSTOP)
+        for client in clients:
+            client.send("INFO")
+        server.process.terminate()
+        server.process.send_signal(signal.SIGCONT)
+        assert all(b"redis_version" in it.read() for it in clients)
+        assert server.process.wait(timeout=10) == 0
+        server.process.poll = lambda: None  # it was to end here
+
+
 TESTS = [
     migrations_are_not_noticed,
     slow_migrations_are_forwarded,
@@ -301,6 +318,7 @@ TESTS = [
     each_word_tells_how_it_is_written,
     a_server_ends_within_a_restart,
     a_server_ends_after_what_it_was_sent,
+    a_stop_answers_all_that_came,
 ]
 
 if __name__ == "__main__":

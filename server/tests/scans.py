@@ -59,6 +59,15 @@ def scanned(client, count=100):
     return set(found)
 
 
+def cursors_stay_known(server):
+    """Where others scan the keys that were written, more often than cursors are kept."""
+    with server.client() as client, server.client() as other:
+        cursor, _ = client.ask("SCAN", 0, "COUNT", 1)
+        told = other.piped([("SCAN", 0, "COUNT", 1)] * 5_000)
+        assert len({it[0] for it in told}) == len(told), "a cursor is given twice"
+        assert client.ask("SCAN", cursor, "COUNT", 1) and refused(server, "SCAN", cursor) == "ERR"
+
+
 def refused(server, *words):
     """The name by which the command is refused."""
     with served.Client(server.port) as client:

@@ -43,7 +43,7 @@ def the_page_shows_how_all_stands(program):
         assert [it["shards"] for it in state["servers"]] == [2, 2, 2]
         row = state["shards"][0]
         assert (row["stand"], row["owner"], row["other"]) == ("Prepared", 1, 2), row
-        assert sum(it["keys"] for it in state["shards"]) == 1
+        assert sum(it["keys"] for it in state["shards"]) == 1 and state["data"].startswith("in memory alone")
 
 
 def metrics_are_in_the_format_of_prometheus(program):
@@ -62,6 +62,24 @@ def metrics_are_in_the_format_of_prometheus(program):
         assert values["durkenzo_command_seconds_count"] == values['durkenzo_command_seconds_bucket{le="+Inf"}'] == "102"
         assert values['durkenzo_changes_total{change="assign"}'] == "64", values
         assert "# TYPE durkenzo_commands_total counter" in lines and "# TYPE durkenzo_keys gauge" in lines
+
+
+def what_is_not_counted_is_not_told(program):
+    """Of data in a folder there are no counts of keys, nor of what each server did."""
+    port = free_port()
+    with tempfile.TemporaryDirectory() as folder:
+        options = ["--http-port", port, "--data", f"{folder}/data", "--shards", 4]
+        with served(program, *options) as server, server.client() as client:
+            assert client.piped([("SET", it, 1) for it in range(20)]) == ["OK"] * 20 and client.ask("DBSIZE") == 20
+            samples = [it for it in got(port, "/metrics").splitlines() if not it.startswith("#")]
+            names = {re.split("[{ ]", it)[0].removeprefix("durkenzo_") for it in samples}
+            assert not names & {"keys", "requests_total", "admissions_total"}, names
+            assert names >= {"generation", "up", "owned_shards", "commands_total"}, names
+            state = json.loads(got(port, "/state.json"))
+            assert {it["keys"] for it in state["shards"]} == {it["admissions"] for it in state["servers"]} == {None}
+            assert state["data"].startswith("in a folder") and b"# Keyspace" not in client.ask("INFO")
+            assert {it.split()[-1] for it in client.ask("SM", "SHARDS")} == {b"-"}
+            assert {it.split()[4] for it in client.ask("SM", "SERVERS")} == {b"-"}
 
 
 def settings_of(count, **members):
@@ -172,6 +190,7 @@ def what_is_not_accepted_is_told(program):
 TESTS = [
     the_page_shows_how_all_stands,
     metrics_are_in_the_format_of_prometheus,
+    what_is_not_counted_is_not_told,
     settings_of_scripts_are_taken,
     limits_of_settings_bind,
     loads_stay_within_settings,

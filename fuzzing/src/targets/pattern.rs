@@ -1,5 +1,7 @@
 use crate::target::{holds, Target};
 
+#[path = "../../../server/src/command/byte_set.rs"]
+mod byte_set;
 #[path = "../../../server/src/command/glob.rs"]
 mod glob;
 
@@ -15,16 +17,12 @@ impl Target for Pattern {
         let end = input.iter().position(|it| *it == b'\n');
         let (pattern, text) = input.split_at(end.unwrap_or(input.len()));
         let text = text.get(1..).unwrap_or_default();
-        glob::is_match(pattern, text);
-        holds(glob::is_match(b"*", text), || "* isn't all".to_owned())?;
+        is_match(pattern, text)?;
+        holds(is_match(b"*", text)?, || "* isn't all".to_owned())?;
         let literal: Vec<u8> = text.iter().flat_map(|it| [b'\\', *it]).collect();
-        holds(glob::is_match(&literal, text), || {
-            "it isn't itself".to_owned()
-        })?;
+        holds(is_match(&literal, text)?, || "it isn't itself".to_owned())?;
         let around = [b"*", &literal[..], b"*"].concat();
-        holds(glob::is_match(&around, text), || {
-            "it isn't in itself".to_owned()
-        })
+        holds(is_match(&around, text)?, || "it isn't in itself".to_owned())
     }
 
     fn words(&self) -> &[&'static [u8]] {
@@ -36,4 +34,14 @@ impl Target for Pattern {
     fn seeds(&mut self) -> Vec<Vec<u8>> {
         vec![b"a*[b-d]?\\*\nabcd*".to_vec()]
     }
+}
+
+/// Whether the text is of the pattern; a pattern that has to be refused as too long, and is, has all texts.
+fn is_match(pattern: &[u8], text: &[u8]) -> Result<bool, String> {
+    let written = glob::Pattern::new(pattern);
+    holds(
+        written.is_err() == (pattern.len() > glob::MAX_PATTERN),
+        || format!("a pattern of {} bytes: {written:?}", pattern.len()),
+    )?;
+    Ok(written.map_or(true, |it| it.is_match(text)))
 }

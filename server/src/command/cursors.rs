@@ -1,17 +1,10 @@
-use std::collections::VecDeque;
-use std::sync::{Mutex, PoisonError};
+use super::latest::{Latest, Position};
+use std::sync::{Arc, Mutex, PoisonError};
 
-/// How many cursors are known at a time; older ones are forgotten.
+/// How many cursors of all connections are known at a time; older ones are forgotten.
 const MOST: usize = 4_096;
-
-/// How far a SCAN has come: to this shard, behind this key of it, if there was one.
-#[derive(Clone, Debug, PartialEq, Eq)]
-pub struct Position {
-    /// The shard that it goes on with.
-    pub shard: u16,
-    /// The last key that was given.
-    pub after: Option<Box<[u8]>>,
-}
+/// How many of each connection are known besides.
+const MOST_OWN: usize = 16;
 
 /// Where the cursors of SCAN stand. Redis' cursors are numbers, and keys of an ordered map have none.
 #[derive(Debug, Default)]
@@ -22,37 +15,37 @@ pub struct Cursors {
 #[derive(Debug, Default)]
 struct Known {
     last: u64,
-    /// Positions with their cursors, which rise.
-    positions: VecDeque<(u64, Position)>,
+    latest: Latest,
 }
 
+/// The cursors that a connection was given last, which those of others don't have forgotten.
+#[derive(Clone, Debug, Default)]
+pub struct OwnCursors(Arc<Mutex<Latest>>);
+
 impl Cursors {
-    /// A new cursor, which isn't 0, at this position.
-    pub fn keep(&self, position: Position) -> u64 {
+    /// A new cursor, which isn't 0, at this position, for the connection that has these.
+    pub fn keep(&self, position: Position, own: &OwnCursors) -> u64 {
         let mut known = self.known.lock().unwrap_or_else(PoisonError::into_inner);
         known.last += 1;
         let cursor = known.last;
-        known.positions.push_back((cursor, position));
-        if known.positions.len() > MOST {
-            known.positions.pop_front();
-        }
+        known.latest.add(cursor, position.clone(), MOST);
+        drop(known);
+        let mut own = own.0.lock().unwrap_or_else(PoisonError::into_inner);
+        own.add(cursor, position, MOST_OWN);
         cursor
     }
 
-    /// Where the cursor stands: 0 at the beginning, and one that was forgotten nowhere.
-    pub fn position(&self, cursor: u64) -> Option<Position> {
+    /// Where the cursor stands, of the connection that has these: 0 at the beginning, and one that was forgotten
+    /// nowhere.
+    pub fn position(&self, cursor: u64, own: &OwnCursors) -> Option<Position> {
         if cursor == 0 {
-            return Some(Position {
-                shard: 0,
-                after: None,
-            });
+            return Some(Position::default());
         }
-        let known = self.known.lock().unwrap_or_else(PoisonError::into_inner);
-        let index = known
-            .positions
-            .binary_search_by_key(&cursor, |it| it.0)
-            .ok()?;
-        Some(known.positions[index].1.clone())
+        let own = own.0.lock().unwrap_or_else(PoisonError::into_inner);
+        own.position(cursor).or_else(|| {
+            let known = self.known.lock().unwrap_or_else(PoisonError::into_inner);
+            known.latest.position(cursor)
+        })
     }
 }
 
@@ -60,16 +53,41 @@ impl Cursors {
 mod tests {
     use super::*;
 
+    fn position(shard: u16) -> Position {
+        Position { shard, after: None }
+    }
+
     #[test]
-    fn the_newest_cursors_are_known() {
-        let cursors = Cursors::default();
-        let position = |shard| Position { shard, after: None };
+    fn the_newest_cursors_are_known_to_all() {
+        let (cursors, one, other) = (
+            Cursors::default(),
+            OwnCursors::default(),
+            OwnCursors::default(),
+        );
         for shard in 0..=MOST as u16 {
-            cursors.keep(position(shard));
+            cursors.keep(position(shard), &one);
         }
-        assert_eq!(cursors.position(0), Some(position(0)));
-        assert_eq!(cursors.position(1), None);
-        assert_eq!(cursors.position(2), Some(position(1)));
-        assert_eq!(cursors.position(9_999), None);
+        assert_eq!(cursors.position(0, &other), Some(position(0)));
+        assert_eq!(cursors.position(1, &other), None);
+        assert_eq!(cursors.position(2, &other), Some(position(1)));
+        assert_eq!(cursors.position(9_999, &other), None);
+    }
+
+    #[test]
+    fn a_connection_keeps_its_own() {
+        let (cursors, one, other) = (
+            Cursors::default(),
+            OwnCursors::default(),
+            OwnCursors::default(),
+        );
+        for shard in 0..=MOST_OWN as u16 {
+            cursors.keep(position(shard), &one);
+        }
+        for _ in 0..MOST {
+            cursors.keep(position(9), &other);
+        }
+        assert_eq!(cursors.position(1, &one), None);
+        assert_eq!(cursors.position(2, &one), Some(position(1)));
+        assert_eq!(cursors.position(2, &other), None);
     }
 }

@@ -259,8 +259,11 @@ fn set(body: &mut dyn ShardBody, command: Command<'_>, replies: &mut Replies) ->
     Ok(())
 }
 
-/// Whether each value of MSET is short enough, so that all are set or none is.
+/// Whether each key of MSET has a value, which is short enough, so that all are set or none is.
 fn check_values(command: Command<'_>) -> Result<(), Fault> {
+    if command.len() % 2 == 0 {
+        return Err(Fault::WrongArity("mset".into()));
+    }
     let mut values = command.iter().skip(2).step_by(2);
     match values.any(|it| it.len() > MAX_TEXT) {
         true => Err(Fault::TooLong),

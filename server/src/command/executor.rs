@@ -131,7 +131,8 @@ impl Executor {
             Ok(Step::Queue(shard)) => session.queue(command, shard, replies).map_err(Into::into),
             Err(fault) => Err(fault.into()),
         };
-        if done.is_err() {
+        // What ends the connection was answered.
+        if !matches!(done, Ok(()) | Err(Unanswered::End)) {
             replies.take_back(mark);
         }
         self.settle(done, session, reader, replies)
@@ -279,7 +280,7 @@ impl Executor {
                 return self.at_server(command, replies)
             }
             (Word::Control, None) => return Err(Unanswered::Control),
-            (Word::Scan, None) => return self.scanner().scan(command, replies),
+            (Word::Scan, None) => return self.scanner().scan(command, session.cursors(), replies),
             (Word::ScanRange, None) => return self.scanner().scan_range(command, replies),
             (Word::Data(_), None) => return Err(Fault::BadKey.into()),
         }
@@ -415,6 +416,57 @@ mod tests {
     }
 
     #[test]
+    fn a_transaction_is_refused_as_by_redis() {
+        let (_, mut executor) = begun();
+        for (lines, told) in [
+            (
+                "MULTI\nINCR a\nMULTI\nINCR a\nEXEC\n",
+                "+OK +QUEUED -ERR MULTI calls can not be nested +QUEUED *2 :1 :2",
+            ),
+            (
+                "MULTI\nMSET a 7 b\nINCR a\nEXEC\nMSET a 7 b\n",
+                "+OK +QUEUED +QUEUED *2 -ERR wrong number of arguments for 'mset' command :3 \
+                 -ERR wrong number of arguments for 'mset' command",
+            ),
+            (
+                "MULTI\nMSET a\nEXEC\n",
+                "+OK -ERR wrong number of arguments for 'mset' command \
+                 -EXECABORT Transaction discarded because of previous errors.",
+            ),
+        ] {
+            assert_eq!(answers(&mut executor, lines), told);
+        }
+    }
+
+    #[test]
+    fn what_a_scan_says_first_is_refused_first() {
+        let (_, mut executor) = begun();
+        for (line, told) in [
+            ("SCAN x COUNT 0\n", "-ERR invalid cursor"),
+            ("SCAN 99 COUNT 0\n", "-ERR syntax error"),
+            ("SCAN 0 COUNT 0 COUNT 5\n", "-ERR syntax error"),
+            ("SCAN 0 COUNT 0 COUNT x\n", "-ERR syntax error"),
+            ("SCAN 0 COUNT 5 COUNT 1\n", "*2 $1 0 *0"),
+        ] {
+            assert_eq!(answers(&mut executor, line), told, "{line}");
+        }
+    }
+
+    #[test]
+    fn many_scans_leave_the_cursors_of_others_known() {
+        let (_, mut executor) = begun();
+        let (mut one, mut other) = (Session::new(1, true), Session::new(2, true));
+        let lines = "MSET a 1 b 2\nSCAN 0 COUNT 1\n";
+        let (text, _) = told(&mut executor, &mut one, lines);
+        assert_eq!(text, "+OK *2 $1 1 *1 $1 a");
+        told(&mut executor, &mut other, &"SCAN 0 COUNT 1\n".repeat(5_000));
+        let (text, _) = told(&mut executor, &mut one, "SCAN 1 COUNT 1\n");
+        assert_eq!(text, "*2 $4 5002 *1 $1 b");
+        let (text, _) = told(&mut executor, &mut other, "SCAN 1\n");
+        assert_eq!(text, "-ERR invalid cursor");
+    }
+
+    #[test]
     fn keys_of_several_shards_are_done_one_by_one() {
         let (cluster, mut executor) = begun();
         let lines =
@@ -487,6 +539,16 @@ mod tests {
     }
 
     #[test]
+    fn who_quits_is_answered_and_no_more_is_done() {
+        let (_, mut executor) = begun();
+        for lines in ["PING\nQUIT\nPING\n", "PING\nQUIT now\nPING\n"] {
+            let (text, stop) = told(&mut executor, &mut Session::new(1, false), lines);
+            assert_eq!(text, "-NOAUTH Authentication required. +OK");
+            assert!(matches!(stop, Stop::End), "{stop:?}");
+        }
+    }
+
+    #[test]
     fn who_may_not_control_looks_alone() {
         let (_, mut executor) = begun();
         let mut session = Session::new(1, true);
@@ -536,6 +598,20 @@ mod tests {
             refused,
             "-REFUSED Spent: the shard's generations are spent; try: start anew with a greater ceiling :1"
         );
+    }
+
+    #[test]
+    fn long_patterns_are_refused() {
+        let (_, mut executor) = begun();
+        for (front, found) in [
+            ("SCAN 0 MATCH", "*2 $1 0 *0"),
+            ("CONFIG GET save", "*2 $4 save $0"),
+        ] {
+            let mut told =
+                |length: usize| answers(&mut executor, &format!("{front} {:x<length$}\n", "*["));
+            assert_eq!(told(1_024), found);
+            assert_eq!(told(1_025), "-TOOLONG a pattern has at most 1024 bytes");
+        }
     }
 
     /// Commands of all kinds, good and bad ones.

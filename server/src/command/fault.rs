@@ -1,3 +1,4 @@
+use super::glob::{LongPattern, MAX_PATTERN};
 use crate::body::{Refusal, MAX_KEY, MAX_TEXT};
 use crate::resp::{Command, MAX_REPLY};
 use crate::wait::Wait;
@@ -30,6 +31,8 @@ pub enum Fault {
     NoOpposite,
     /// A text would be too long.
     TooLong,
+    /// A pattern is too long.
+    LongPattern,
     /// Memory was refused, and nothing has changed.
     NoMemory,
     /// A key is too long, or empty.
@@ -108,6 +111,12 @@ impl Fault {
     }
 }
 
+impl From<LongPattern> for Fault {
+    fn from(_: LongPattern) -> Fault {
+        Fault::LongPattern
+    }
+}
+
 impl From<Refusal> for Fault {
     fn from(refusal: Refusal) -> Fault {
         match refusal {
@@ -164,6 +173,7 @@ impl fmt::Display for Fault {
             ),
             Fault::NotDone(shard, why) => not_done(f, *shard, why),
             Fault::TooLong => write!(f, "TOOLONG a value has at most {MAX_TEXT} bytes"),
+            Fault::LongPattern => write!(f, "TOOLONG a pattern has at most {MAX_PATTERN} bytes"),
             Fault::BadKey => write!(f, "BADKEY a key has 1 to {MAX_KEY} bytes"),
             Fault::ReplyTooLarge => write!(f, "TOOLARGE a reply has at most {MAX_REPLY} bytes"),
             Fault::Syntax => f.write_str("ERR syntax error"),

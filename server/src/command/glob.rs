@@ -1,74 +1,113 @@
-/// Whether the text is of the pattern, in which `*` stands for any bytes, `?` for one, `[a-c]` for one of these, `[^a]`
-/// for one of the others, and `\` before a byte for that byte. The time is at most the product of the lengths.
-pub fn is_match(pattern: &[u8], text: &[u8]) -> bool {
-    let (mut at, mut rest) = (0, text);
-    // Where to go on when the present try fails: behind the last `*`, and one byte further in the text.
-    let mut last: Option<(usize, &[u8])> = None;
-    loop {
-        if pattern.get(at) == Some(&b'*') {
-            at += 1;
-            last = Some((at, rest));
-            continue;
+use super::byte_set::ByteSet;
+
+/// The most bytes of a pattern: a part of it may be looked at for each byte of a text.
+pub const MAX_PATTERN: usize = 1_024;
+
+/// A pattern has more than [`MAX_PATTERN`] bytes.
+#[derive(Clone, Copy, Debug, PartialEq, Eq)]
+pub struct LongPattern;
+
+/// A pattern, in which `*` stands for any bytes, `?` for one, `[a-c]` for one of these, `[^a]` for one of the others,
+/// and `\` before a byte for that byte.
+#[derive(Debug)]
+pub struct Pattern(Vec<Part>);
+
+#[derive(Debug)]
+enum Part {
+    /// Any bytes.
+    Any,
+    /// One of these.
+    One(ByteSet),
+}
+
+impl Pattern {
+    /// The pattern that is written so.
+    ///
+    /// # Errors
+    ///
+    /// [`LongPattern`], where it has more than [`MAX_PATTERN`] bytes.
+    pub fn new(mut written: &[u8]) -> Result<Pattern, LongPattern> {
+        if written.len() > MAX_PATTERN {
+            return Err(LongPattern);
         }
-        match (one(&pattern[at..], rest.first()), rest) {
-            (Some(length), [_, after @ ..]) => {
-                at += length;
-                rest = after;
-            }
-            _ if rest.is_empty() && at == pattern.len() => return true,
-            _ => match last {
-                Some((star, [_, after @ ..])) => {
-                    at = star;
-                    rest = after;
-                    last = Some((star, after));
+        let mut parts = Vec::new();
+        while !written.is_empty() {
+            let (part, length) = first(written);
+            parts.push(part);
+            written = &written[length..];
+        }
+        Ok(Pattern(parts))
+    }
+
+    /// Whether the text is of the pattern. The time is at most the product of the lengths.
+    pub fn is_match(&self, text: &[u8]) -> bool {
+        let (mut at, mut rest) = (0, text);
+        // Where to go on when the present try fails: behind the last `*`, and one byte further in the text.
+        let mut last: Option<(usize, &[u8])> = None;
+        loop {
+            match (self.0.get(at), rest) {
+                (Some(Part::Any), _) => {
+                    at += 1;
+                    last = Some((at, rest));
                 }
-                _ => return false,
-            },
+                (Some(Part::One(bytes)), [byte, after @ ..]) if bytes.has(*byte) => {
+                    at += 1;
+                    rest = after;
+                }
+                (None, []) => return true,
+                _ => match last {
+                    Some((star, [_, after @ ..])) => {
+                        at = star;
+                        rest = after;
+                        last = Some((star, after));
+                    }
+                    _ => return false,
+                },
+            }
         }
     }
 }
 
-/// How long the pattern's first part is, if the byte is of it.
-fn one(pattern: &[u8], byte: Option<&u8>) -> Option<usize> {
-    let byte = *byte?;
-    match pattern {
-        [] => None,
-        [b'?', ..] => Some(1),
+/// The first part of a pattern that isn't empty, and how many bytes it has there.
+fn first(written: &[u8]) -> (Part, usize) {
+    match written {
+        [b'*', ..] => (Part::Any, 1),
+        [b'?', ..] => (Part::One(ByteSet::default().others()), 1),
         [b'[', class @ ..] => {
-            let (is_in, length) = class_of(class, byte);
-            is_in.then_some(length + 1)
+            let (bytes, length) = class_of(class);
+            (Part::One(bytes), length + 1)
         }
-        [b'\\', wanted, ..] => (*wanted == byte).then_some(2),
-        [wanted, ..] => (*wanted == byte).then_some(1),
+        [b'\\', wanted, ..] => (Part::One(ByteSet::from_to(*wanted, *wanted)), 2),
+        [wanted, ..] => (Part::One(ByteSet::from_to(*wanted, *wanted)), 1),
+        [] => (Part::Any, 0),
     }
 }
 
-/// Whether the byte is of the class behind a `[`, and how long that is with its `]`.
-fn class_of(class: &[u8], byte: u8) -> (bool, usize) {
+/// The class behind a `[`, and how long that is with its `]`.
+fn class_of(class: &[u8]) -> (ByteSet, usize) {
     let is_not = class.first() == Some(&b'^');
-    let (mut at, mut is_in) = (usize::from(is_not), false);
+    let (mut at, mut bytes) = (usize::from(is_not), ByteSet::default());
     while at < class.len() && class[at] != b']' {
-        at += match class[at..] {
-            [b'\\', wanted, ..] => {
-                is_in |= wanted == byte;
-                2
-            }
-            [low, b'-', high, ..] => {
-                is_in |= (low.min(high)..=low.max(high)).contains(&byte);
-                3
-            }
-            _ => {
-                is_in |= class[at] == byte;
-                1
-            }
+        let (low, high, length) = match class[at..] {
+            [b'\\', wanted, ..] => (wanted, wanted, 2),
+            [low, b'-', high, ..] => (low.min(high), low.max(high), 3),
+            _ => (class[at], class[at], 1),
         };
+        bytes = bytes.with(ByteSet::from_to(low, high));
+        at += length;
     }
-    (is_in != is_not, (at + 1).min(class.len()))
+    let length = (at + 1).min(class.len());
+    (if is_not { bytes.others() } else { bytes }, length)
 }
 
 #[cfg(test)]
 mod tests {
-    use super::is_match;
+    use super::*;
+    use std::time::{Duration, Instant};
+
+    fn is_match(pattern: &[u8], text: &[u8]) -> bool {
+        Pattern::new(pattern).unwrap().is_match(text)
+    }
 
     #[test]
     fn patterns_are_those_of_redis() {
@@ -90,6 +129,14 @@ mod tests {
             ("[", "[", false),
             ("[a", "a", true),
             ("a\\", "a\\", true),
+            ("[^", "a", true),
+            ("[\\]]", "]", true),
+            ("[a-]x", "ax", false),
+            ("[a-]x", "_", true),
+            ("[\u{e9}-\u{ff}]*", "\u{ea}a", true),
+            ("*[^a-z]", "abc", false),
+            ("*[^a-z]", "abC", true),
+            ("**", "", true),
         ] {
             assert_eq!(
                 is_match(pattern.as_bytes(), text.as_bytes()),
@@ -103,5 +150,18 @@ mod tests {
     fn many_stars_take_no_long_time() {
         let pattern = "a*".repeat(100) + "b";
         assert!(!is_match(pattern.as_bytes(), "a".repeat(255).as_bytes()));
+    }
+
+    #[test]
+    fn a_long_class_takes_no_long_time() {
+        let began = Instant::now();
+        let pattern = Pattern::new(format!("*[{}]", "a".repeat(1_000)).as_bytes()).unwrap();
+        let text = [b'b'; 255];
+        assert!((0..10_000).all(|_| !pattern.is_match(&text)));
+        assert!(
+            began.elapsed() < Duration::from_secs(1),
+            "{:?}",
+            began.elapsed()
+        );
     }
 }

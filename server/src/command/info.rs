@@ -29,7 +29,11 @@ pub fn told(command: Command<'_>, cluster: &Cluster) -> String {
             || (0..names.len())
                 .any(|it| names.is(it, section) || is_all.iter().any(|all| names.is(it, all)))
     };
-    let sections = SECTIONS.iter().filter(|it| is_asked(it.0));
+    // A section without keys would say that there are none.
+    let is_known = |section: &str| section != "Keyspace" || cluster.has_counts();
+    let sections = SECTIONS
+        .iter()
+        .filter(|it| is_asked(it.0) && is_known(it.0));
     let told: Vec<_> = sections
         .map(|(name, lines)| format!("# {name}\r\n{}", lines(cluster)))
         .collect();
@@ -155,10 +159,9 @@ fn cluster(cluster: &Cluster) -> String {
 }
 
 fn keyspace(cluster: &Cluster) -> String {
-    let keys: u64 = (0..cluster.shards()).map(|it| cluster.keys(it)).sum();
-    match keys {
-        0 => String::new(),
-        keys => lines([("db0", format!("keys={keys},expires=0,avg_ttl=0"))]),
+    match cluster.all_keys() {
+        None | Some(0) => String::new(),
+        Some(keys) => lines([("db0", format!("keys={keys},expires=0,avg_ttl=0"))]),
     }
 }
 

@@ -1,4 +1,5 @@
 //! The commands that clients send, and what each does.
+mod byte_set;
 mod cursors;
 mod data;
 mod durable;
@@ -6,6 +7,7 @@ mod executor;
 mod fault;
 mod glob;
 mod info;
+mod latest;
 mod merged;
 mod reader;
 mod role;

@@ -1,4 +1,5 @@
-use super::cursors::{Cursors, Position};
+use super::cursors::{Cursors, OwnCursors};
+use super::latest::Position;
 use super::merged::{Merged, OwnedPair};
 use super::unanswered::Unanswered;
 use super::wanted::{self, cursor_of, Wanted, WantedRange};
@@ -36,11 +37,17 @@ impl<'a> Scanner<'a> {
         }
     }
 
-    /// SCAN: goes on from its cursor over all keys, shard after shard. A key that holds something from the first call
-    /// to the last is given once.
-    pub fn scan(&mut self, command: Command<'_>, replies: &mut Replies) -> Result<(), Unanswered> {
+    /// SCAN: goes on from its cursor over all keys, shard after shard, for the connection with these cursors. A key that
+    /// holds something from the first call to the last is given once.
+    pub fn scan(
+        &mut self,
+        command: Command<'_>,
+        own: &OwnCursors,
+        replies: &mut Replies,
+    ) -> Result<(), Unanswered> {
+        let cursor = cursor_of(command)?;
         let wanted = Wanted::of(command)?;
-        let mut next = self.cursors.position(cursor_of(command)?);
+        let mut next = self.cursors.position(cursor, own);
         if next.is_none() {
             return Err(Fault::BadCursor.into());
         }
@@ -53,7 +60,7 @@ impl<'a> Scanner<'a> {
             next = following(position, &keys, most, shards);
             found.extend(keys.into_iter().filter(|it| wanted.takes(it)));
         }
-        let cursor = next.map_or(0, |it| self.cursors.keep(it));
+        let cursor = next.map_or(0, |it| self.cursors.keep(it, own));
         wanted::answer(cursor, &found, replies);
         Ok(())
     }

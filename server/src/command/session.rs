@@ -1,3 +1,4 @@
+use super::cursors::OwnCursors;
 use super::data::Part;
 use super::role::Role;
 use super::transaction::Transaction;
@@ -22,6 +23,8 @@ pub struct Session {
     pub(super) transaction: Option<Box<Transaction>>,
     /// How far the next command has come, where it waits between its keys.
     pub(super) part: Part,
+    /// The cursors that it was given last, if it was given any; most connections aren't, and have no room for them.
+    cursors: Option<OwnCursors>,
 }
 
 impl Session {
@@ -43,12 +46,19 @@ impl Session {
             may_control: true,
             transaction: None,
             part: Part::default(),
+            cursors: None,
         }
     }
 
-    /// Answers a command that is refused; in a transaction nothing is executed then.
+    /// The cursors that it was given last.
+    pub(super) fn cursors(&mut self) -> &OwnCursors {
+        self.cursors.get_or_insert_default()
+    }
+
+    /// Answers a command that is refused; in a transaction nothing is executed then, but for where it is begun twice.
     pub(super) fn refuse(&mut self, fault: Fault, replies: &mut Replies) {
-        if let Some(transaction) = &mut self.transaction {
+        let transaction = self.transaction.as_mut();
+        if let Some(transaction) = transaction.filter(|_| fault != Fault::NestedMulti) {
             transaction.abort();
         }
         replies.error(fault);

@@ -202,15 +202,23 @@ const fn number_of(name: &[u8]) -> u128 {
 impl Spec {
     /// That of the command; refused where there is none, or it takes another number of arguments.
     pub fn of(command: Command<'_>) -> Result<&'static Spec, Fault> {
+        let spec = Spec::queued(command)?;
+        // MSET takes keys with their values.
+        match spec.keys == Keys::Odd && command.len() % 2 == 0 {
+            true => Err(Fault::WrongArity(spec.name.into())),
+            false => Ok(spec),
+        }
+    }
+
+    /// The same where it may be queued: that a key has no value is told when it is executed.
+    pub fn queued(command: Command<'_>) -> Result<&'static Spec, Fault> {
         let spec = Spec::named(command.get(0)).ok_or_else(|| Fault::unknown_command(command))?;
         let count = command.len() as i64;
         let is_well = match spec.arity {
             least if least < 0 => count >= -least,
             exact => count == exact,
         };
-        // MSET takes keys with their values.
-        let is_odd = spec.keys == Keys::Odd && count % 2 == 0;
-        match is_well && !is_odd {
+        match is_well {
             true => Ok(spec),
             false => Err(Fault::WrongArity(spec.name.into())),
         }

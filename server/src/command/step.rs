@@ -21,7 +21,11 @@ pub enum Step {
 impl Step {
     /// That of the command; or why it is refused.
     pub fn of(session: &Session, command: Command<'_>, keyspace: &Keyspace) -> Result<Step, Fault> {
-        let spec = Spec::of(command)?;
+        let is_within = session.transaction.is_some();
+        let spec = match is_within {
+            true => Spec::queued(command)?,
+            false => Spec::of(command)?,
+        };
         if !session.is_known && !spec.is_open() {
             return Err(Fault::NoAuth);
         }
@@ -29,7 +33,7 @@ impl Step {
             return Err(Fault::no_permission(spec.name, command.get(1)));
         }
         let place = spec.place(command, keyspace)?;
-        if session.transaction.is_some() && spec.is_queued() {
+        if is_within && spec.is_queued() {
             return place.one().map(Step::Queue);
         }
         Ok(match (spec.word, place) {

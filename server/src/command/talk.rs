@@ -1,5 +1,5 @@
 //! Commands that need no shard.
-use super::glob;
+use super::glob::Pattern;
 use super::info;
 use super::role::Role;
 use super::session::Session;
@@ -26,8 +26,8 @@ pub fn answer(
         TalkWord::Echo => replies.bulk(command.get(1)),
         TalkWord::Select => select(command, replies)?,
         TalkWord::DbSize => {
-            let keys: u64 = (0..cluster.shards()).map(|it| cluster.keys(it)).sum();
-            replies.count(keys as usize);
+            // Where they aren't counted, shards were asked before it came here.
+            replies.count(cluster.all_keys().unwrap_or(0) as usize);
         }
         TalkWord::Acl => who_am_i(command, session, replies)?,
         TalkWord::Auth => auth(command, session, cluster, replies)?,
@@ -275,11 +275,14 @@ fn config(command: Command<'_>, cluster: &Cluster, replies: &mut Replies) -> Res
         ("save", String::new()),
         ("timeout", "0".to_owned()),
     ];
-    let is_asked = |name: &str| {
-        let mut patterns = command.iter().skip(2);
-        patterns.any(|it| glob::is_match(&it.to_ascii_lowercase(), name.as_bytes()))
-    };
-    let found: Vec<_> = known.iter().filter(|it| is_asked(it.0)).collect();
+    let mut are_asked = [false; 7];
+    for written in command.iter().skip(2) {
+        let pattern = Pattern::new(&written.to_ascii_lowercase())?;
+        let each = are_asked.iter_mut().zip(&known);
+        each.for_each(|(is_asked, it)| *is_asked |= pattern.is_match(it.0.as_bytes()));
+    }
+    let found = known.iter().zip(are_asked).filter(|it| it.1);
+    let found: Vec<_> = found.map(|it| it.0).collect();
     replies.map(found.len());
     for (name, value) in found {
         replies.bulk(name.as_bytes());

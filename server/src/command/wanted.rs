@@ -1,4 +1,4 @@
-use super::glob;
+use super::glob::Pattern;
 use super::Fault;
 use crate::body::{MAX_KEY, MAX_PAIRS};
 use crate::resp::{number, Command, Replies};
@@ -9,8 +9,9 @@ const USUAL_COUNT: i64 = 10;
 const MOST_COUNT: i64 = 1_000;
 
 /// What SCAN is asked for.
-pub(super) struct Wanted<'a> {
-    pattern: Option<&'a [u8]>,
+#[derive(Debug)]
+pub(super) struct Wanted {
+    pattern: Option<Pattern>,
     /// How many keys it looks at.
     pub(super) count: usize,
     /// Whether keys of another type than Redis' strings are asked for, of which there are none.
@@ -26,9 +27,9 @@ pub(super) struct WantedRange<'a> {
     pub(super) most: usize,
 }
 
-impl<'a> Wanted<'a> {
+impl Wanted {
     /// What the command says; or why it isn't one.
-    pub(super) fn of(command: Command<'a>) -> Result<Wanted<'a>, Fault> {
+    pub(super) fn of(command: Command<'_>) -> Result<Wanted, Fault> {
         let (mut pattern, mut count, mut is_none) = (None, USUAL_COUNT, false);
         for index in (2..command.len()).step_by(2) {
             if index + 1 == command.len() {
@@ -36,17 +37,17 @@ impl<'a> Wanted<'a> {
             }
             let value = command.get(index + 1);
             if command.is(index, "MATCH") {
-                pattern = Some(value);
+                pattern = Some(Pattern::new(value)?);
             } else if command.is(index, "COUNT") {
                 count = number::parse(value).ok_or(Fault::NotInteger)?;
+                if count < 1 {
+                    return Err(Fault::Syntax);
+                }
             } else if command.is(index, "TYPE") {
                 is_none = !value.eq_ignore_ascii_case(b"string");
             } else {
                 return Err(Fault::Syntax);
             }
-        }
-        if count < 1 {
-            return Err(Fault::Syntax);
         }
         let count = count.min(MOST_COUNT) as usize;
         Ok(Wanted {
@@ -58,7 +59,7 @@ impl<'a> Wanted<'a> {
 
     /// Whether a key that was found is given.
     pub(super) fn takes(&self, key: &[u8]) -> bool {
-        !self.is_none && self.pattern.is_none_or(|it| glob::is_match(it, key))
+        !self.is_none && self.pattern.as_ref().is_none_or(|it| it.is_match(key))
     }
 }
 

@@ -20,9 +20,10 @@ const PAUSE: Duration = Duration::from_millis(200);
 const PATIENCE: Duration = Duration::from_secs(5);
 
 /// How answers begin by which nobody has decided on a command, or may not have.
-const UNDECIDED: [&[u8]; 4] = [
+const UNDECIDED: [&[u8]; 5] = [
     b"-UNKNOWN",
     b"-PEERDOWN",
+    b"-REFUSED NotDone",
     b"-REFUSED NotLeader",
     b"-REFUSED St",
 ];
@@ -80,7 +81,9 @@ impl Campaigner {
 
     /// The control, where this process leads from now on.
     fn campaign(&mut self) -> Option<StoredController> {
-        let is_led = self.peers.leader().is_some();
+        // Where its own key lies, it may have been elected without having seen so.
+        let own = self.peers.member().server();
+        let is_led = self.peers.leader().is_some_and(|it| it != own);
         if is_led || self.cluster.is_stopping() || Instant::now() < self.again {
             return None;
         }
@@ -131,8 +134,9 @@ impl Campaigner {
     /// Asks the process that leads that this server be up, where it was stopped when its process began: until one
     /// decides on it.
     fn ask_to_be_back(&mut self, leader: Option<u16>) {
+        let own = self.peers.member().server();
         let is_due = self.is_back.load(Ordering::Acquire) && Instant::now() >= self.again;
-        let Some(leader) = leader.filter(|_| is_due) else {
+        let Some(leader) = leader.filter(|it| is_due && *it != own) else {
             return;
         };
         self.again = Instant::now() + PAUSE;
@@ -144,8 +148,7 @@ impl Campaigner {
             let told = String::from_utf8_lossy(&told);
             tracing::info!(told = told.trim_end(), "asked for this server to be up");
         });
-        let server = self.peers.member().server().to_string();
-        let command = OwnedCommand::of(&["SM", "BACK", &server]);
+        let command = OwnedCommand::of(&["SM", "BACK", &own.to_string()]);
         self.peers.ask_control(leader, command, reply_to);
     }
 

@@ -13,6 +13,7 @@ use crate::dump::DumpFault;
 use crate::io::ReplyTo;
 use crate::observer::Observer;
 use crate::resp::{number, Command, OwnedCommand, Replies};
+use crate::snapshot::ShardRow;
 use durkenzo::{ChangeFault, Move, PassFault};
 use std::collections::{BTreeMap, VecDeque};
 use std::fmt;
@@ -299,11 +300,7 @@ impl Controller {
 
     fn shards(&mut self) -> Answer {
         let shards = self.observer.snapshot().shards;
-        let line = |it: &_| {
-            let row: &crate::snapshot::ShardRow = it;
-            format!("{} {row} {}", row.shard, row.keys)
-        };
-        Answer::Lines(shards.iter().map(line).collect())
+        Answer::Lines(shards.iter().map(ShardRow::line).collect())
     }
 
     fn servers(&mut self) -> Answer {

@@ -83,6 +83,11 @@ impl Store for Way {
         self.store.read_all(prefix)
     }
 
+    fn read_range(&self, from: &[u8], end: &[u8], most: usize) -> Result<Reading, ReadError> {
+        self.unavailable()?;
+        self.store.read_range(from, end, most)
+    }
+
     fn watch(&self, prefix: &[u8], mut watcher: Watcher) -> Result<Watch, ReadError> {
         let is_dead = self.is_dead.clone();
         let hears = move |seen| {

@@ -10,6 +10,7 @@ use crate::observer::Observer;
 use crate::peers::Peers;
 use crate::presence::Standing;
 use crate::resp::Command as Words;
+use crate::snapshot::ShardRow;
 use durkenzo::PassFault;
 use durkenzo_driver::{Command, Control, Next};
 use std::collections::{BTreeMap, VecDeque};
@@ -308,11 +309,7 @@ impl StoredController {
         let (one, two) = (numeral(command, 2), numeral(command, 3));
         Ok(match (&word[..], command.len(), one, two) {
             ("HELP", 2, ..) => help_lines().into(),
-            ("SHARDS", 2, ..) => {
-                let shards = self.observer.snapshot().shards;
-                // How many keys there are isn't counted.
-                lines(shards.iter().map(|it| format!("{} {it} -", it.shard)))
-            }
+            ("SHARDS", 2, ..) => lines(self.observer.snapshot().shards.iter().map(ShardRow::line)),
             ("SERVERS", 2, ..) => lines(self.observer.snapshot().servers.iter()),
             ("SETTINGS", 2, ..) => settings_lines(&self.cluster).into(),
             ("LOOK", 3, Some(shard), _) => match self.observer.shard(shard) {

@@ -14,7 +14,7 @@ pub enum DumpFault {
     Foreign,
     /// The file has another version.
     Version,
-    /// The file ends too early, or has other bytes than were written.
+    /// The file ends too early, has other bytes than were written, or a generation that no server comes to.
     Torn,
     /// The file is of other servers or shards than this server has: how that one was begun.
     Other(String),

@@ -3,6 +3,9 @@ use crate::keyspace::Rule;
 use durkenzo::{Record, Stand};
 use serde::{Deserialize, Serialize};
 
+/// The greatest generation that a dump may tell: so many steps follow it as no server ever makes, and none overflows.
+pub(super) const MAX_GENERATION: u64 = 1 << 62;
+
 /// Of what a dump is.
 #[derive(Clone, Debug, PartialEq, Eq, Serialize, Deserialize)]
 #[serde(deny_unknown_fields)]
@@ -86,7 +89,7 @@ impl ShardHead {
         format!("shard {shard} {name} {owner} {other} {generation} {pairs}\n")
     }
 
-    /// That of the line's words behind the first.
+    /// That of the line's words behind the first, where these are such words and the generation isn't too great.
     pub(super) fn of(words: &[&str]) -> Option<ShardHead> {
         let [shard, name, owner, other, generation, pairs] = words else {
             return None;
@@ -104,10 +107,11 @@ impl ShardHead {
             "Paused" => Stand::Paused(owner),
             _ => return None,
         };
+        let generation = generation.parse().ok();
         Some(ShardHead {
             shard: shard.parse().ok()?,
             stand,
-            generation: generation.parse().ok()?,
+            generation: generation.filter(|it| *it <= MAX_GENERATION)?,
             pairs: pairs.parse().ok()?,
         })
     }

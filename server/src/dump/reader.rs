@@ -143,6 +143,7 @@ fn bounded(word: &str, most: usize) -> Option<usize> {
 
 #[cfg(test)]
 mod tests {
+    use super::super::head::MAX_GENERATION;
     use super::super::{shard_text, DumpFile};
     use super::*;
     use crate::body::Memory;
@@ -156,6 +157,11 @@ mod tests {
 
     /// A folder of its own, with a dump of two shards, and the bytes of that.
     fn dumped(name: &str) -> (std::path::PathBuf, Vec<u8>) {
+        dumped_at(name, 9)
+    }
+
+    /// The same, where both shards have this generation.
+    fn dumped_at(name: &str, generation: u64) -> (std::path::PathBuf, Vec<u8>) {
         let folder = std::env::temp_dir().join(format!("durkenzo-{name}-{}", std::process::id()));
         fs::create_dir_all(&folder).unwrap();
         let mut file = DumpFile::create(&folder, "dump", &head()).unwrap();
@@ -176,7 +182,7 @@ mod tests {
                 admitted: true,
                 generation: 8,
             };
-            let head = ShardHead::new(shard, record, 9, pairs);
+            let head = ShardHead::new(shard, record, generation, pairs);
             file.add(&head, &text).unwrap();
         }
         assert_eq!(file.finish().unwrap(), 500);
@@ -224,6 +230,21 @@ mod tests {
         assert_eq!(name(b"durkenzo-dump 2\n"), "BadVersion");
         assert_eq!(name(&[&bytes[..], b"\n"].concat()), "TornFile");
         fs::remove_dir_all(folder).unwrap();
+    }
+
+    #[test]
+    fn a_generation_leaves_room_for_those_behind_it() {
+        for (generation, wanted) in [
+            (MAX_GENERATION, "Read"),
+            (MAX_GENERATION + 1, "TornFile"),
+            (u64::MAX, "TornFile"),
+        ] {
+            let (folder, _) = dumped_at("high", generation);
+            let read = read(&folder, "dump", &head(), &Memory);
+            let found = read.map_or_else(|fault| fault.name(), |_| "Read");
+            assert_eq!(found, wanted, "{generation}");
+            fs::remove_dir_all(folder).unwrap();
+        }
     }
 
     #[test]

@@ -149,10 +149,14 @@ fn servers(registry: &Registry, cluster: &Cluster, snapshot: &Snapshot) -> prome
     let up = family("up", "Whether requests reach the server")?;
     for row in &snapshot.servers {
         let server = row.server.to_string();
-        admissions.set(&[&server], row.admissions);
         owned.set(&[&server], row.shards as u64);
         let is_away = matches!(row.standing, "stopped" | "failed");
         up.set(&[&server], u64::from(!is_away));
+        // A family without a number isn't told.
+        let Some(count) = row.admissions else {
+            continue;
+        };
+        admissions.set(&[&server], count);
         for inlet in cluster.inlets() {
             let done = &inlet.stats().servers[usize::from(row.server) - 1];
             let errors = done.errors.get();
@@ -183,7 +187,9 @@ fn shards(registry: &Registry, snapshot: &Snapshot) -> prometheus::Result<()> {
     let stand = Family::new(registry, "stand", "1 for the shard's stand", &labels)?;
     for row in &snapshot.shards {
         let shard = row.shard.to_string();
-        keys.set(&[&shard], row.keys);
+        if let Some(count) = row.keys {
+            keys.set(&[&shard], count);
+        }
         generation.set(&[&shard], row.generation);
         owner.set(&[&shard], row.owner.into());
         stand.set(&[&shard, row.stand], 1);

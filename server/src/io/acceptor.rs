@@ -110,3 +110,32 @@ fn is_of_the_client(error: &io::Error) -> bool {
         ErrorKind::ConnectionAborted | ErrorKind::ConnectionReset | ErrorKind::Interrupted
     )
 }
+
+#[cfg(test)]
+mod tests {
+    use super::*;
+    use crate::body::Memory;
+    use crate::cluster::Configuration;
+    use crate::io::Inlet;
+    use crate::keyspace::Rule;
+
+    #[test]
+    fn a_burst_is_bounded_before_any_of_it_is_looked_at() {
+        let configuration = Configuration {
+            most_clients: 3,
+            ..Configuration::new(Rule::Hash(1))
+        };
+        let cluster = Arc::new(Cluster::new(configuration, Box::new(Memory)).unwrap());
+        let polls = [Poll::new().unwrap(), Poll::new().unwrap()];
+        let inlets = polls.each_ref().map(|it| Inlet::new(it, 1).map(Arc::new));
+        let inlets = inlets.map(Result::unwrap);
+        cluster.set_inlets(inlets.clone().into());
+        let listener = Acceptor::bind("127.0.0.1:0".parse().unwrap()).unwrap();
+        let mut acceptor = Acceptor::new(cluster, listener).unwrap();
+        let address = acceptor.address().unwrap();
+        let clients = [0; 10].map(|_| std::net::TcpStream::connect(address).unwrap());
+        acceptor.accept_all().unwrap();
+        let brought = inlets.map(|it| it.take().streams.len());
+        assert_eq!(brought.iter().sum::<usize>(), 3, "of {}", clients.len());
+    }
+}

@@ -119,7 +119,8 @@ impl Connection {
 
     /// Whether there is nothing that it would still be answered.
     pub(super) fn is_quiet(&self) -> bool {
-        !self.is_readable && self.owed_since.is_none() && self.is_sent()
+        let is_held = self.owed_since.is_some() || self.waits_since.is_some();
+        !self.is_readable && !is_held && self.is_sent()
     }
 
     /// Whether the socket has taken all answers.
@@ -159,6 +160,8 @@ impl Connection {
             return Ok(Turn::Over);
         }
         if self.is_last || self.owed_since.is_some() || unsent > MOST_UNSENT {
+            // A command that waited is tried again once the client has read more, of which the socket tells.
+            self.waits_since = None;
             return Ok(Turn::Rest);
         }
         let stop = if self.input.len() >= self.needs {
@@ -247,17 +250,22 @@ impl Connection {
     fn refuse(&mut self, reason: Wait, executor: &mut Executor) {
         let (session, replies) = (&mut self.session, &mut self.replies);
         let done = executor.refuse(session, &self.input, reason, replies);
+        self.forget(done);
+    }
+
+    /// Forgets so many bytes of what was read, and has no room where nothing is left.
+    fn forget(&mut self, done: usize) {
         self.input.drain(..done);
+        if self.input.is_empty() {
+            self.input = Vec::new();
+        }
     }
 
     /// Does commands of what was read before.
     fn execute_input(&mut self, executor: &mut Executor) -> Stop {
         let (session, replies) = (&mut self.session, &mut self.replies);
         let (done, stop) = executor.run(session, &self.input, replies);
-        self.input.drain(..done);
-        if self.input.is_empty() {
-            self.input = Vec::new();
-        }
+        self.forget(done);
         stop
     }
 
@@ -307,5 +315,39 @@ impl Connection {
             }
         }
         self.stream.flush()
+    }
+}
+
+#[cfg(test)]
+mod tests {
+    use super::*;
+    use crate::admission::Admission;
+    use crate::body::Memory;
+    use crate::cluster::{Cluster, Configuration};
+    use crate::keyspace::{Keyspace, Rule};
+    use crate::stats::Stats;
+    use mio::net::TcpStream;
+    use std::net::TcpListener;
+    use std::sync::Arc;
+
+    fn executor() -> Executor {
+        let rule = Rule::Hash(1);
+        let keyspace = Keyspace::new(&rule).unwrap();
+        let cluster = Cluster::new(Configuration::new(rule), Box::new(Memory)).unwrap();
+        let cluster = Arc::new(cluster);
+        let admission = Admission::new(cluster.clone(), Arc::new(Stats::new(1))).unwrap();
+        Executor::new(cluster, admission, keyspace)
+    }
+
+    #[test]
+    fn a_refused_command_leaves_no_room() {
+        let listener = TcpListener::bind("127.0.0.1:0").unwrap();
+        let socket = TcpStream::connect(listener.local_addr().unwrap()).unwrap();
+        let stream = Stream::new(socket, None).unwrap();
+        let mut connection = Connection::new(stream, Session::new(1, true));
+        connection.input = format!("SET a {}\r\n", "b".repeat(60_000)).into();
+        connection.refuse(Wait::Paused(0), &mut executor());
+        assert!(connection.replies.unsent().starts_with(b"-SHARDPAUSED"));
+        assert_eq!(connection.input.capacity(), 0);
     }
 }

@@ -55,6 +55,7 @@ impl Inlet {
 
     /// Has the thread own a connection, of a stranger as yet.
     pub fn bring(&self, stream: TcpStream) {
+        self.stats.open.note_more();
         self.strangers.fetch_add(1, Ordering::Relaxed);
         self.change(|it| it.streams.push(stream));
     }
@@ -95,6 +96,12 @@ impl Inlet {
     pub(super) fn take(&self) -> Brought {
         let mut brought = self.brought.lock().unwrap_or_else(PoisonError::into_inner);
         std::mem::take(&mut brought)
+    }
+
+    /// Whether others brought nothing that the thread hasn't taken.
+    pub(super) fn is_empty(&self) -> bool {
+        let brought = self.brought.lock().unwrap_or_else(PoisonError::into_inner);
+        brought.is_empty()
     }
 
     fn change(&self, change: impl FnOnce(&mut Brought)) {

@@ -78,25 +78,23 @@ impl Worker {
         }
     }
 
-    /// Serves until the cluster stops, and then for its grace.
+    /// Serves until the cluster stops, and then until what came is answered, but no longer than for its grace.
     pub fn run(mut self) -> io::Result<()> {
         let mut events = Events::with_capacity(EVENTS);
-        let mut deadline = None;
+        let mut end = None;
         loop {
             self.wait(&mut events)?;
-            for event in &events {
-                self.note(event);
+            events.iter().for_each(|it| self.note(it));
+            // Where there is an end, the poll began behind the stop: what came before that it told.
+            if end.is_some_and(|it| events.is_empty() && self.is_quiet() || Instant::now() >= it) {
+                return Ok(());
             }
             self.refresh()?;
             self.close_strangers();
             self.look_at_waiting();
             self.run_queue();
-            if self.cluster.is_stopping() {
-                let grace = self.cluster.configuration.grace;
-                let end = *deadline.get_or_insert_with(|| Instant::now() + grace);
-                if self.is_quiet() || Instant::now() >= end {
-                    return Ok(());
-                }
+            if end.is_none() && self.cluster.is_stopping() {
+                end = Some(Instant::now() + self.cluster.configuration.grace);
             }
         }
     }
@@ -135,11 +133,13 @@ impl Worker {
         Ok(())
     }
 
-    /// Takes the events that are there, or that come in this time.
+    /// Takes the events that are there, or that come in this time, whatever signals come meanwhile.
     fn look(&mut self, events: &mut Events, timeout: Option<Duration>) -> io::Result<()> {
-        match self.poll.poll(events, timeout) {
-            Err(error) if error.kind() != ErrorKind::Interrupted => Err(error),
-            _ => Ok(()),
+        loop {
+            match self.poll.poll(events, timeout) {
+                Err(error) if error.kind() == ErrorKind::Interrupted => {}
+                looked => return looked,
+            }
         }
     }
 
@@ -159,6 +159,7 @@ impl Worker {
         for stream in streams {
             if let Err(error) = self.open(stream) {
                 self.inlet.note_stranger_less();
+                self.inlet.stats().open.note_less();
                 tracing::warn!(%error, "a connection isn't served");
             }
         }
@@ -193,7 +194,6 @@ impl Worker {
         }
         entry.insert(connection);
         self.inlet.stats().accepted.add(1);
-        self.count_open();
         Ok(())
     }
 
@@ -209,10 +209,6 @@ impl Worker {
         for place in late.map(|it| it.0).collect::<Vec<_>>() {
             self.close(place);
         }
-    }
-
-    fn count_open(&self) {
-        self.inlet.stats().open.set(self.connections.len() as u64);
     }
 
     fn enqueue(&mut self, place: usize) {
@@ -231,6 +227,14 @@ impl Worker {
         Ok(())
     }
 
+    /// For how long a command waits: at a stop it is refused, as it won't be done.
+    fn most_wait(&self) -> Duration {
+        match self.cluster.is_stopping() {
+            true => Duration::ZERO,
+            false => self.cluster.configuration.wait,
+        }
+    }
+
     /// Gives a turn to what waits: to all after a change, and else to those that have waited in vain.
     fn look_at_waiting(&mut self) {
         if self.waiting.is_empty() {
@@ -238,7 +242,7 @@ impl Worker {
         }
         let changes = self.cluster.changes();
         let is_changed = std::mem::replace(&mut self.changes, changes) != changes;
-        let (wait, connections) = (self.cluster.configuration.wait, &self.connections);
+        let (wait, connections) = (self.most_wait(), &self.connections);
         let is_due = |place: &usize| {
             is_changed || connections.get(*place).is_none_or(|it| it.has_waited(wait))
         };
@@ -285,13 +289,13 @@ impl Worker {
 
     /// Gives the connection there a turn, in a round that began then, and counts what it came to.
     fn turn(&mut self, place: usize, began: Instant) -> Turn {
+        let wait = self.most_wait();
         let Some(connection) = self.connections.get_mut(place) else {
             return Turn::Rest;
         };
         connection.is_queued = false;
         let stats = self.inlet.stats();
         let (done, since) = (stats.commands.get(), connection.waits_since());
-        let wait = self.cluster.configuration.wait;
         let turn = connection.turn(&mut self.executor, &mut self.buffer, wait);
         let done = stats.commands.get() - done;
         if done > 0 {
@@ -336,12 +340,154 @@ impl Worker {
         // The drop closes it, by which it is deregistered too.
         let socket = connection.stream().socket();
         let _ = self.poll.registry().deregister(socket);
-        self.count_open();
+        self.inlet.stats().open.note_less();
     }
 
-    /// Whether nothing is under way but commands that wait for a shard that nobody executes.
+    /// Whether nothing is under way, and others brought nothing.
     fn is_quiet(&self) -> bool {
-        let mut connections = self.connections.iter().map(|(_, it)| it);
-        self.queue.is_empty() && connections.all(|it| it.is_quiet() || it.waits_since().is_some())
+        let is_idle = self.queue.is_empty() && self.inlet.is_empty();
+        is_idle && self.connections.iter().all(|it| it.1.is_quiet())
+    }
+}
+
+#[cfg(test)]
+mod tests {
+    use super::*;
+    use crate::admission::Admission;
+    use crate::body::Memory;
+    use crate::cluster::Configuration;
+    use crate::keyspace::{Keyspace, Rule};
+    use std::io::{Read, Write};
+    use std::net::{TcpListener, TcpStream as Client};
+    use std::sync::mpsc::channel;
+    use std::thread;
+    use tokio::net::TcpSocket;
+
+    /// So many texts of so many bytes are a reply of which a socket with this room takes a part.
+    const TEXTS: usize = 15;
+    const TEXT: usize = 60_000;
+    const SOCKET_ROOM: u32 = 64 << 10;
+    /// What a slow client is answered behind these.
+    const BEHIND: &str =
+        "-SHARDPAUSED shard 1 is paused: SM RESUME 1 has its owner execute again\r\n+PONG\r\n";
+
+    /// A thread whose commands wait so long, in a cluster of one server, which owns both shards.
+    fn begun(wait: Duration) -> (Arc<Cluster>, Worker) {
+        let rule = Rule::Bounds(vec![Vec::new(), b"m".to_vec()]);
+        let keyspace = Keyspace::new(&rule).unwrap();
+        let configuration = Configuration {
+            wait,
+            ..Configuration::new(rule)
+        };
+        let cluster = Arc::new(Cluster::new(configuration, Box::new(Memory)).unwrap());
+        for shard in 0..2 {
+            cluster.board().control().assign(shard, 1).unwrap();
+        }
+        let poll = Poll::new().unwrap();
+        let inlet = Arc::new(Inlet::new(&poll, 1).unwrap());
+        cluster.set_inlets([inlet.clone()].into());
+        let admission = Admission::new(cluster.clone(), inlet.stats().clone()).unwrap();
+        let executor = Executor::new(cluster.clone(), admission, keyspace);
+        // Nobody asks the control.
+        let worker = Worker::new(cluster.clone(), inlet, poll, executor, channel().0);
+        (cluster, worker)
+    }
+
+    /// Clients whose connections are brought to this inlet.
+    fn clients(inlet: &Inlet, count: usize) -> Vec<Client> {
+        let listener = TcpListener::bind("127.0.0.1:0").unwrap();
+        let address = listener.local_addr().unwrap();
+        let client = |_| {
+            let client = Client::connect(address).unwrap();
+            let timeout = Some(Duration::from_secs(20));
+            client.set_read_timeout(timeout).unwrap();
+            let (stream, _) = listener.accept().unwrap();
+            stream.set_nonblocking(true).unwrap();
+            let same = TcpSocket::from_std_stream(stream.try_clone().unwrap());
+            same.set_send_buffer_size(SOCKET_ROOM).unwrap();
+            inlet.bring(TcpStream::from_std(stream));
+            client
+        };
+        (0..count).map(client).collect()
+    }
+
+    /// A client that hasn't read yet what it is answered, and of which a command waits for a paused shard.
+    fn slow(cluster: &Cluster, inlet: &Inlet) -> Client {
+        cluster.board().control().pause(1).unwrap();
+        let mut client = clients(inlet, 1).remove(0);
+        let (text, keys) = ("v".repeat(TEXT), " a".repeat(TEXTS));
+        let set = format!("*3\r\n$3\r\nSET\r\n$1\r\na\r\n${TEXT}\r\n{text}\r\n");
+        client.write_all(set.as_bytes()).unwrap();
+        client.read_exact(&mut [0; "+OK\r\n".len()]).unwrap();
+        let lines = format!("MGET{keys}\r\nGET z\r\nPING\r\n");
+        client.write_all(lines.as_bytes()).unwrap();
+        let end = Instant::now() + Duration::from_secs(20);
+        while inlet.stats().waited.get() == 0 && Instant::now() < end {
+            thread::sleep(Duration::from_millis(1));
+        }
+        client
+    }
+
+    /// How many bytes such a client is answered.
+    fn slow_bytes() -> usize {
+        let reply = format!("${TEXT}\r\n").len() + TEXT + 2;
+        format!("*{TEXTS}\r\n").len() + TEXTS * reply + BEHIND.len()
+    }
+
+    #[test]
+    fn connections_are_counted_from_when_they_are_brought_until_they_end() {
+        let (cluster, worker) = begun(Duration::ZERO);
+        let inlet = worker.inlet.clone();
+        let mut clients = clients(&inlet, 3);
+        assert_eq!(inlet.stats().open.get(), 3);
+        clients[1].write_all(b"QUIT\r\n").unwrap();
+        cluster.stop();
+        worker.run().unwrap();
+        assert_eq!(inlet.stats().open.get(), 2);
+    }
+
+    #[test]
+    fn a_stop_answers_what_came_by_more_connections_than_a_poll_tells() {
+        let (cluster, worker) = begun(Duration::ZERO);
+        let mut clients = clients(&worker.inlet, EVENTS + 44);
+        for client in &mut clients {
+            client.write_all(b"PING\r\n").unwrap();
+        }
+        cluster.stop();
+        worker.run().unwrap();
+        for mut client in clients {
+            let mut told = String::new();
+            client.read_to_string(&mut told).unwrap();
+            assert_eq!(told, "+PONG\r\n");
+        }
+    }
+
+    #[test]
+    fn a_stop_answers_commands_that_wait_and_those_around_them() {
+        let (cluster, worker) = begun(Duration::from_secs(60));
+        let inlet = worker.inlet.clone();
+        let thread = thread::spawn(move || worker.run());
+        let mut client = slow(&cluster, &inlet);
+        cluster.stop();
+        thread::sleep(Duration::from_millis(100));
+        let mut told = Vec::new();
+        client.read_to_end(&mut told).unwrap();
+        thread.join().unwrap().unwrap();
+        assert_eq!(told.len(), slow_bytes());
+        assert!(told.ends_with(BEHIND.as_bytes()));
+    }
+
+    #[test]
+    fn a_client_that_reads_late_is_told_that_its_command_waited_in_vain() {
+        let (cluster, worker) = begun(Duration::from_millis(20));
+        let inlet = worker.inlet.clone();
+        let thread = thread::spawn(move || worker.run());
+        let mut client = slow(&cluster, &inlet);
+        thread::sleep(Duration::from_millis(200));
+        let mut told = vec![0; slow_bytes()];
+        client.read_exact(&mut told).unwrap();
+        cluster.stop();
+        thread.join().unwrap().unwrap();
+        assert!(told.ends_with(BEHIND.as_bytes()));
     }
 }

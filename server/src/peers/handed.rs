@@ -1,4 +1,5 @@
 use super::frame::{Frame, Told, Works};
+use super::unsure::Unsure;
 use crate::resp::Replies;
 use durkenzo_driver::{Begin, Elsewhere, NotDone, Step};
 use durkenzo_store::Revision;
@@ -94,7 +95,9 @@ impl Handed {
         self.left = 0;
         for place in &mut self.places {
             match std::mem::replace(place, Place::Over) {
-                Place::Asked(step) if is_harmless(&step.begin) => *place = Place::Again(step),
+                Place::Asked(step) if is_harmless(&step.begin) => {
+                    *place = Place::Again(Unsure::step(step, why));
+                }
                 Place::Asked(step) => step.work.end(Err(NotDone::Unknown(why.to_owned()))),
                 other => *place = other,
             }
@@ -117,7 +120,14 @@ impl Handed {
 }
 
 impl Returned {
-    /// Refuses it: nobody did anything.
+    /// Nobody did anything, and this process does no more: another one that sent it goes on.
+    pub(super) fn stop(self) {
+        for step in self.steps {
+            step.work.end(Err(NotDone::Stopped));
+        }
+    }
+
+    /// Refuses it: nobody did anything, or nobody knows.
     pub(super) fn refuse(self, why: impl fmt::Display) {
         let mut refused = Replies::default();
         let server = self.elsewhere.server;
@@ -125,7 +135,11 @@ impl Returned {
             "PEERDOWN nothing has changed, as the process of server {server} can't be asked: {why}: try again"
         ));
         for step in self.steps {
-            step.work.answered(refused.unsent());
+            match step.begin {
+                // It may have been made when it was asked for before.
+                Begin::Numbered(..) => step.work.end(Err(NotDone::Unknown(why.to_string()))),
+                _ => step.work.answered(refused.unsent()),
+            }
         }
     }
 }
@@ -233,6 +247,17 @@ mod tests {
             told,
             [format!("write: {unknown}"), format!("change: {unknown}")]
         );
+    }
+
+    #[test]
+    fn what_a_process_that_ends_leaves_undone_is_told_as_such() {
+        let (mut handed, told) = handed();
+        handed.lost("it is gone");
+        handed.returned().unwrap().stop();
+        let unknown = NotDone::Unknown("it is gone".to_owned());
+        let told: Vec<_> = told.try_iter().skip(2).collect();
+        let stopped = format!("read: {}", NotDone::Stopped);
+        assert_eq!(told, [stopped, format!("numbered: {unknown}")]);
     }
 
     #[test]

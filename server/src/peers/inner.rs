@@ -92,7 +92,11 @@ impl Inner {
         }
     }
 
+    /// Refuses it by its reason; but where this process ends, whoever sent it looks again who executes.
     fn refuse(&self, returned: Returned, why: &str) {
+        if self.is_stopping() {
+            return returned.stop();
+        }
         self.counts.refused.fetch_add(1, Ordering::Relaxed);
         returned.refuse(why);
     }
@@ -135,7 +139,7 @@ impl Inner {
         }
     }
 
-    /// Has go on what is due, and ends connections that don't answer, or to servers that have gone.
+    /// Has go on what is due, gives up what isn't answered in time, and ends connections to servers that have gone.
     pub(super) fn tick(&self) {
         let now = Instant::now();
         let mut waiting = locked(&self.returned);
@@ -146,16 +150,17 @@ impl Inner {
         due.into_iter().for_each(|it| self.submit_again(it.1));
         let (links, members) = (locked(&self.links).clone(), self.member.members());
         for (server, link) in links {
-            link.tick(now, members.contains_key(&server));
+            let why = format!("the process of server {server} doesn't answer");
+            let late = link.tick(now, members.contains_key(&server)).into_iter();
+            late.filter_map(|it| it.lost(&why))
+                .for_each(|it| self.go_on(it, Some(&why)));
         }
     }
 
-    /// Refuses all that was to be tried again.
-    pub(super) fn refuse_returned(&self) {
+    /// Gives back all that was to be tried again, as this process ends.
+    pub(super) fn stop_returned(&self) {
         let returned = std::mem::take(&mut *locked(&self.returned));
-        for (_, it) in returned {
-            self.refuse(it, "this process ends");
-        }
+        returned.into_iter().for_each(|it| it.1.stop());
     }
 
     /// Notes a connection of another process, and forgets those that ended.

@@ -97,17 +97,22 @@ impl Link {
         Ok(())
     }
 
-    /// Ends the connection where an answer is late, or the server hasn't been there for a while.
-    pub(super) fn tick(&self, now: Instant, is_there: bool) {
+    /// Ends the connection where the server hasn't been there for a while. Returns what was asked and isn't answered in
+    /// time, which is asked no more.
+    pub(super) fn tick(&self, now: Instant, is_there: bool) -> Vec<Ask> {
         let mut state = self.state();
         let gone = *state.gone.get_or_insert(now);
         if is_there {
             state.gone = None;
         }
-        let has_gone = !is_there && gone + LAST <= now;
-        if has_gone || state.asked.values().any(|it| it.is_late(now)) {
+        if !is_there && gone + LAST <= now {
             state.end.iter().for_each(|it| it.end());
         }
+        let asked = state.asked.iter();
+        let late = asked.filter(|it| it.1.is_late(now)).map(|it| *it.0);
+        let late: Vec<u64> = late.collect();
+        let late = late.iter().filter_map(|it| state.asked.remove(it));
+        late.collect()
     }
 
     /// Ends the connection: what was sent isn't told.

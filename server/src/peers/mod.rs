@@ -18,6 +18,7 @@ mod link;
 mod outbox;
 mod received;
 mod serving;
+mod unsure;
 
 pub use channel::{may_listen, Terms};
 pub use counts::Counts;
@@ -150,14 +151,22 @@ impl Peers {
     pub fn leave(&self) {
         self.close();
         self.inner.member.leave();
+        // What was handed on is answered yet.
+        self.linger(LINGER, STOP);
         let links = std::mem::take(&mut *locked(&self.inner.links));
         links.values().for_each(|it| it.stop());
-        self.inner.refuse_returned();
-        let (least, most) = (Instant::now() + LINGER, Instant::now() + STOP);
-        while Instant::now() < least || self.inner.is_answering() && Instant::now() < most {
-            thread::sleep(TICK);
-        }
+        self.linger(Duration::ZERO, LINGER);
         self.inner.end_serving();
+    }
+
+    /// Waits until nothing is under way that others asked for, between so long and so long.
+    fn linger(&self, least: Duration, most: Duration) {
+        let began = Instant::now();
+        self.inner.stop_returned();
+        while began.elapsed() < least || self.inner.is_answering() && began.elapsed() < most {
+            thread::sleep(TICK);
+            self.inner.stop_returned();
+        }
     }
 }
 

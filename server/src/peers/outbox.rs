@@ -20,6 +20,8 @@ pub(super) struct Outbox {
 #[derive(Default)]
 struct State {
     bytes: Vec<u8>,
+    /// Whether some were taken that may not be sent yet.
+    is_sending: bool,
     under_way: usize,
     is_over: bool,
 }
@@ -41,21 +43,25 @@ impl Outbox {
         !state.is_over
     }
 
-    /// The bytes that are sent next, once there are some; none where nobody is there any more.
+    /// The bytes that are sent next, once there are some; none where nobody is there any more. Those that were taken
+    /// before are sent.
     pub(super) fn take(&self) -> Option<Vec<u8>> {
+        locked(&self.state).is_sending = false;
         let idle = |it: &mut State| !it.is_over && it.bytes.is_empty();
         let state = self.told.wait_while(locked(&self.state), idle);
         let mut state = state.unwrap_or_else(PoisonError::into_inner);
         let bytes = std::mem::take(&mut state.bytes);
+        state.is_sending = !bytes.is_empty();
         drop(state);
         self.taken.notify_all();
         (!bytes.is_empty()).then_some(bytes)
     }
 
-    /// Whether works are under way, or answers wait.
+    /// Whether works are under way, or answers wait or are being sent.
     pub(super) fn is_answering(&self) -> bool {
         let state = locked(&self.state);
-        !state.is_over && (state.under_way > 0 || !state.bytes.is_empty())
+        let has_answers = !state.bytes.is_empty() || state.is_sending;
+        !state.is_over && (state.under_way > 0 || has_answers)
     }
 
     /// Nobody is there any more.

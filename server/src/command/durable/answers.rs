@@ -1,22 +1,37 @@
+use super::join::Join;
 use crate::io::ReplyTo;
 use crate::resp::{Protocol, Replies};
 use std::sync::{Arc, Mutex, PoisonError};
-
-/// Makes one answer of the parts, in their order.
-pub(super) type Join = Box<dyn FnOnce(Vec<Replies>) -> Replies + Send>;
 
 /// Where parts of a connection's next answer are gathered, which is sent once all are there.
 pub(super) struct Answers {
     protocol: Protocol,
     commands: u64,
+    join: Join,
     state: Mutex<State>,
 }
 
 struct State {
     parts: Vec<Option<Replies>>,
     left: usize,
-    /// How they are joined, and where the answer goes: until it is sent.
-    end: Option<(Join, ReplyTo)>,
+    /// How many bytes were brought.
+    size: usize,
+    /// Where the answer goes: until it is sent.
+    reply_to: Option<ReplyTo>,
+}
+
+impl State {
+    /// Takes the part at this place. Where there are more bytes than this, it keeps what is refused alone.
+    fn take(&mut self, place: usize, part: Replies, most: usize) {
+        self.left -= 1;
+        self.size += part.unsent().len();
+        self.parts[place] = Some(part);
+        if self.size > most {
+            for it in &mut self.parts {
+                it.take_if(|it| it.error_count() == 0);
+            }
+        }
+    }
 }
 
 impl Answers {
@@ -31,11 +46,13 @@ impl Answers {
         let state = State {
             parts: (0..parts).map(|_| None).collect(),
             left: parts,
-            end: Some((join, reply_to)),
+            size: 0,
+            reply_to: Some(reply_to),
         };
         Arc::new(Answers {
             protocol,
             commands,
+            join,
             state: Mutex::new(state),
         })
     }
@@ -55,16 +72,15 @@ impl Answers {
     /// Brings the part at this place, once.
     pub(super) fn bring(&self, place: usize, part: Replies) {
         let mut state = self.state.lock().unwrap_or_else(PoisonError::into_inner);
-        state.parts[place] = Some(part);
-        state.left -= 1;
+        state.take(place, part, self.join.most());
         if state.left > 0 {
             return;
         }
         let parts = std::mem::take(&mut state.parts);
-        let end = state.end.take();
+        let reply_to = state.reply_to.take();
         drop(state);
-        if let Some((join, reply_to)) = end {
-            let mut answer = join(parts.into_iter().flatten().collect());
+        if let Some(reply_to) = reply_to {
+            let mut answer = self.join.answer(parts, self.part());
             if let Some(errors) = answer.take_errors() {
                 reply_to.note_errors(errors);
             }
@@ -73,14 +89,56 @@ impl Answers {
     }
 }
 
-/// Joins answers to commands one after another.
-pub(super) fn in_order() -> Join {
-    Box::new(|parts| {
-        let mut parts = parts.into_iter();
-        let first = parts.next().unwrap_or_default();
-        parts.fold(first, |mut all, part| {
-            all.take_over(part);
-            all
-        })
-    })
+#[cfg(test)]
+mod tests {
+    use super::*;
+    use crate::body::MAX_TEXT;
+    use crate::command::data::DataWord;
+    use crate::resp::MAX_REPLY;
+    use std::sync::mpsc::channel;
+
+    /// What is answered where texts of these lengths are brought, the last one first, and the most bytes that are held.
+    fn told(join: Join, lengths: &[usize]) -> (Vec<u8>, usize) {
+        let (tell, told) = channel();
+        let reply_to = ReplyTo::process(move |bytes| tell.send(bytes).unwrap());
+        let (count, mut most) = (lengths.len(), 0);
+        let answers = Answers::new(count, 1, Protocol::Two, join, reply_to);
+        for (place, length) in lengths.iter().enumerate().rev() {
+            let mut part = answers.part();
+            part.array(1);
+            part.bulk(&vec![b'x'; *length]);
+            answers.bring(place, part);
+            let state = answers.state.lock().unwrap();
+            let held: usize = state
+                .parts
+                .iter()
+                .flatten()
+                .map(|it| it.unsent().len())
+                .sum();
+            most = held.max(most);
+        }
+        (told.recv().unwrap(), most)
+    }
+
+    #[test]
+    fn parts_of_one_reply_have_its_bound() {
+        let join = Join::Each(DataWord::MGet);
+        // Each text has 10 bytes more as a part of the reply.
+        let mut lengths = vec![MAX_TEXT; 128];
+        lengths[127] = MAX_REPLY - b"*128\r\n".len() - 127 * (MAX_TEXT + 10) - 10;
+        let (answer, _) = told(join, &lengths);
+        assert!(answer.len() == MAX_REPLY && answer.starts_with(b"*128\r\n$65535\r\nxx"));
+        let refused = b"-TOOLARGE a reply has at most 8388608 bytes\r\n";
+        lengths[127] += 1;
+        assert_eq!(told(join, &lengths).0, refused);
+        let (answer, held) = told(join, &[MAX_TEXT; 1_023]);
+        assert_eq!(answer, refused);
+        assert!(held < MAX_REPLY + MAX_TEXT, "{held}");
+    }
+
+    #[test]
+    fn answers_to_several_commands_are_all_told() {
+        let (answer, _) = told(Join::InOrder, &[MAX_TEXT; 200]);
+        assert_eq!(answer.len(), 200 * (MAX_TEXT + 14));
+    }
 }

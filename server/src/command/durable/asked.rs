@@ -1,5 +1,6 @@
-use super::answers::{in_order, Answers, Join};
+use super::answers::Answers;
 use super::found::Told;
+use super::join::Join;
 use super::keyed::{keys_of_all, Keyed};
 use super::listing::Listing;
 use super::query::Query;
@@ -9,7 +10,7 @@ use crate::cluster::Cluster;
 use crate::command::data::DataWord;
 use crate::command::transaction::Transaction;
 use crate::io::ReplyTo;
-use crate::resp::{OwnedCommand, Protocol, Replies};
+use crate::resp::{OwnedCommand, Protocol};
 use durkenzo_driver::{Durable, Numbered};
 use std::sync::Arc;
 
@@ -96,13 +97,13 @@ impl Asked {
         match self.what {
             What::Keyed(shard, commands) => {
                 let count = commands.len();
-                let answers = Answers::new(count, count as u64, protocol, in_order(), reply_to);
+                let answers = Answers::new(count, count as u64, protocol, Join::InOrder, reply_to);
                 let steps = commands.into_iter().enumerate();
                 let steps = steps.map(|(place, it)| Keyed::step(it, shard, answers.clone(), place));
                 durable.submit(shard, steps.collect());
             }
             What::Numbered(shard, numbered, command) => {
-                let answers = Answers::new(1, 1, protocol, in_order(), reply_to);
+                let answers = Answers::new(1, 1, protocol, Join::InOrder, reply_to);
                 match Keyed::numbered(numbered, command, shard, answers.clone()) {
                     Ok(step) => durable.submit(shard, vec![step]),
                     Err(fault) => {
@@ -113,14 +114,14 @@ impl Asked {
                 }
             }
             What::Each(word, parts) => {
-                let answers = Answers::new(parts.len(), 1, protocol, joined(word), reply_to);
+                let answers = Answers::new(parts.len(), 1, protocol, Join::Each(word), reply_to);
                 for (place, (shard, command)) in parts.into_iter().enumerate() {
                     let step = Keyed::step((word, command), shard, answers.clone(), place);
                     durable.submit(shard, vec![step]);
                 }
             }
             What::Together(shard, transaction) => {
-                let answers = Answers::new(1, transaction.len(), protocol, in_order(), reply_to);
+                let answers = Answers::new(1, transaction.len(), protocol, Join::InOrder, reply_to);
                 let keys = keys_of_all(transaction.data());
                 let step = Together::step(transaction, cluster.clone(), shard, keys, answers);
                 durable.submit(shard, vec![step]);
@@ -143,7 +144,7 @@ impl Asked {
 /// Has all shards count their keys, each by itself.
 fn count(durable: &Durable, protocol: Protocol, reply_to: ReplyTo) {
     let shards = durable.shards();
-    let join = joined(DataWord::Exists);
+    let join = Join::Each(DataWord::Exists);
     let answers = Answers::new(shards.into(), 1, protocol, join, reply_to);
     for shard in 0..shards {
         let answers = answers.clone();
@@ -161,37 +162,4 @@ fn count(durable: &Durable, protocol: Protocol, reply_to: ReplyTo) {
         let step = Listing::step(Query::Count, shard, protocol, Box::new(then));
         durable.submit(shard, vec![step]);
     }
-}
-
-/// How the answers to a command for each of its keys become its own: a refusal of one is that of all.
-fn joined(word: DataWord) -> Join {
-    Box::new(move |parts| {
-        let mut parts = parts;
-        if let Some(place) = parts.iter().position(|it| it.error_count() > 0) {
-            return parts.swap_remove(place);
-        }
-        let protocol = parts.first().map(|it| it.protocol);
-        let mut answer = Replies::new(protocol.unwrap_or_default());
-        match word {
-            DataWord::MSet => answer.simple("OK"),
-            DataWord::MGet => {
-                answer.array(parts.len());
-                for part in parts {
-                    // The only value of an array of one.
-                    answer.append(&part.unsent()[ARRAY_OF_ONE.len()..]);
-                }
-            }
-            _ => answer.count(parts.iter().map(|it| count_of(it.unsent())).sum()),
-        }
-        answer
-    })
-}
-
-const ARRAY_OF_ONE: &[u8] = b"*1\r\n";
-
-/// The number that is answered.
-fn count_of(answer: &[u8]) -> usize {
-    let digits = answer.strip_prefix(b":").unwrap_or_default();
-    let digits = digits.iter().take_while(|it| it.is_ascii_digit());
-    digits.fold(0, |sum, it| 10 * sum + usize::from(it - b'0'))
 }

@@ -19,7 +19,7 @@ pub(super) fn begin(word: DataWord, command: Command<'_>) -> Begin {
             opposite.map(|it| vec![add(command, it)])
         }
         DataWord::Get | DataWord::MGet | DataWord::Exists | DataWord::StrLen | DataWord::Type => {
-            return Begin::Read(keys_of(word, command).collect())
+            return Begin::Read(different(keys_of(word, command).collect()))
         }
         DataWord::Append => None,
     };

@@ -3,7 +3,7 @@ use super::ranging::Ranging;
 use super::scanning::Scanning;
 use super::Asked;
 use crate::body::MAX_TEXT;
-use crate::command::cursors::Cursors;
+use crate::command::cursors::{Cursors, OwnCursors};
 use crate::command::data::DataWord;
 use crate::command::reader::Reader;
 use crate::command::session::Session;
@@ -16,7 +16,8 @@ use crate::keyspace::Keyspace;
 use crate::resp::{number, Command, OwnedCommand, Protocol};
 use durkenzo_driver::Numbered;
 
-/// How many commands are asked at once, so that others come to the shard.
+/// How many texts are read at once at most, so that others come to the shard, and the answers have a bound: that of
+/// one command may have more.
 const MOST_AT_ONCE: usize = 128;
 /// How many arguments a transaction's commands have.
 const MOST_ARGUMENTS: usize = 4_096;
@@ -56,7 +57,7 @@ pub fn gather(
     Ok(Some(asked))
 }
 
-/// The next command, and those behind it while they are of the same shard.
+/// The next command, and those behind it while they are of the same shard, and read few texts in all.
 fn run_of(
     mut word: DataWord,
     shard: u16,
@@ -64,13 +65,14 @@ fn run_of(
     session: &Session,
     keyspace: &Keyspace,
 ) -> Vec<(DataWord, OwnedCommand)> {
-    let mut commands = Vec::new();
+    let (mut commands, mut texts) = (Vec::new(), 0);
     while let Ok(command) = reader.peek() {
-        commands.push((word, OwnedCommand::new(command)));
-        reader.advance();
-        if commands.len() == MOST_AT_ONCE {
+        texts += texts_of(word, command);
+        if texts > MOST_AT_ONCE && !commands.is_empty() {
             break;
         }
+        commands.push((word, OwnedCommand::new(command)));
+        reader.advance();
         let next = reader.peek().ok().filter(|it| !it.is_empty());
         match next.map(|it| Step::of(session, it, keyspace)) {
             Some(Ok(Step::Data(next, other))) if other == shard => word = next,
@@ -78,6 +80,14 @@ fn run_of(
         }
     }
     commands
+}
+
+/// How many texts the command reads, or 1.
+fn texts_of(word: DataWord, command: Command<'_>) -> usize {
+    match word {
+        DataWord::MGet | DataWord::Exists => command.len() - 1,
+        _ => 1,
+    }
 }
 
 /// The command by its keys.
@@ -111,7 +121,7 @@ fn asked_by(
     match spec.word {
         // Over shards nothing goes within a transaction, which is told where that is.
         Word::Scan | Word::ScanRange if session.transaction.is_some() => Ok(None),
-        Word::Scan => scan(command, cursors, keyspace, protocol).map(Some),
+        Word::Scan => scan(command, (cursors, session.cursors()), keyspace, protocol).map(Some),
         Word::ScanRange => {
             let walk = Ranging::new(&WantedRange::of(command)?, keyspace);
             Ok(Some(Asked::walk(protocol, Box::new(walk))))
@@ -140,15 +150,14 @@ fn asked_by(
 /// What SCAN asks from its cursor on.
 fn scan(
     command: Command<'_>,
-    cursors: &Cursors,
+    (cursors, own): (&Cursors, &OwnCursors),
     keyspace: &Keyspace,
     protocol: Protocol,
 ) -> Result<Asked, Fault> {
-    let count = Wanted::of(command)?.count;
-    let next = cursors.position(cursor_of(command)?);
-    let next = next.ok_or(Fault::BadCursor)?;
-    let (command, shards) = (OwnedCommand::new(command), keyspace.shards());
-    let walk = Scanning::new(command, count, next, shards);
+    let cursor = cursor_of(command)?;
+    let wanted = Wanted::of(command)?;
+    let next = cursors.position(cursor, own).ok_or(Fault::BadCursor)?;
+    let walk = Scanning::new(wanted, next, keyspace.shards(), own.clone());
     Ok(Asked::walk(protocol, Box::new(walk)))
 }
 
@@ -181,8 +190,41 @@ fn called(
 
 /// Whether a transaction may have the command: one with keys, or that is answered from itself.
 fn may_queue(command: Command<'_>) -> Result<(), Fault> {
-    match Spec::of(command)?.word {
+    match Spec::queued(command)?.word {
         Word::Data(_) | Word::Talk(TalkWord::Ping | TalkWord::Echo | TalkWord::Select) => Ok(()),
         _ => Err(Fault::NotDurable("a transaction of this command")),
+    }
+}
+
+#[cfg(test)]
+mod tests {
+    use super::*;
+    use crate::keyspace::Rule;
+    use crate::resp::Arguments;
+
+    /// How many of many such lines are asked at once.
+    fn taken(line: &str) -> usize {
+        let keyspace = Keyspace::new(&Rule::Hash(1)).unwrap();
+        let (cursors, mut session) = (Cursors::default(), Session::new(1, true));
+        let (lines, mut arguments) = (line.repeat(200), Arguments::default());
+        let mut reader = Reader::new(lines.as_bytes(), &mut arguments);
+        let over = (&keyspace, &cursors);
+        let asked = gather(&mut reader, &mut session, over, Protocol::Two).unwrap();
+        assert!(asked.is_some());
+        reader.at() / line.len()
+    }
+
+    #[test]
+    fn what_is_asked_at_once_reads_few_texts() {
+        let many = format!("MGET{}\n", " a".repeat(127));
+        for (line, count) in [
+            ("GET a\n", 128),
+            ("DEL a b\n", 128),
+            ("MGET a a a a\n", 32),
+            ("EXISTS a b c\n", 42),
+            (many.as_str(), 1),
+        ] {
+            assert_eq!(taken(line), count, "{line}");
+        }
     }
 }

@@ -5,6 +5,7 @@ mod asked;
 mod begin;
 mod found;
 mod gather;
+mod join;
 mod keyed;
 mod listing;
 mod overlay;

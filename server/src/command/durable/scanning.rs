@@ -2,10 +2,11 @@ use super::found::Found;
 use super::query::Query;
 use super::walk::Walk;
 use crate::cluster::Cluster;
-use crate::command::cursors::Position;
+use crate::command::cursors::OwnCursors;
+use crate::command::latest::Position;
 use crate::command::scan::following;
 use crate::command::wanted::{self, Wanted};
-use crate::resp::{OwnedCommand, Replies};
+use crate::resp::Replies;
 use durkenzo_driver::Range;
 
 /// How many shards a SCAN asks at most, before it gives what there is.
@@ -14,10 +15,10 @@ const MOST_ASKED: usize = 64;
 /// SCAN over shards whose data outlives the process.
 #[derive(Debug)]
 pub(super) struct Scanning {
-    command: OwnedCommand,
-    /// How many keys it looks at.
-    count: usize,
+    wanted: Wanted,
     shards: u16,
+    /// Those that its connection was given last.
+    cursors: OwnCursors,
     /// Where it goes on; none where all keys were given.
     next: Option<Position>,
     /// What is asked for now: how many keys from where on.
@@ -28,17 +29,17 @@ pub(super) struct Scanning {
 }
 
 impl Scanning {
-    /// That of the command, which says what is wanted, from this position on.
+    /// That of what is wanted from this position on, for a connection with these cursors.
     pub(super) fn new(
-        command: OwnedCommand,
-        count: usize,
+        wanted: Wanted,
         next: Position,
         shards: u16,
+        cursors: OwnCursors,
     ) -> Scanning {
         Scanning {
-            command,
-            count,
+            wanted,
             shards,
+            cursors,
             next: Some(next),
             asked: None,
             found: Vec::new(),
@@ -50,10 +51,10 @@ impl Scanning {
 
 impl Walk for Scanning {
     fn next(&mut self) -> Option<(u16, Query)> {
-        let is_over = self.seen >= self.count || self.steps == MOST_ASKED;
+        let is_over = self.seen >= self.wanted.count || self.steps == MOST_ASKED;
         let position = self.next.take_if(|_| !is_over)?;
         self.steps += 1;
-        let most = (self.count - self.seen).min(Range::MOST);
+        let most = (self.wanted.count - self.seen).min(Range::MOST);
         // The least key above another one is that with a byte of 0 behind it.
         let after = position.after.as_deref();
         let low = after.map_or_else(Vec::new, |it| [it, &[0]].concat());
@@ -74,14 +75,14 @@ impl Walk for Scanning {
         let keys: Vec<_> = found.pairs.into_iter().map(|it| it.0).collect();
         self.seen += keys.len();
         self.next = following(position, &keys, most, self.shards);
-        if let Ok(wanted) = Wanted::of(self.command.command()) {
-            self.found
-                .extend(keys.into_iter().filter(|it| wanted.takes(it)));
-        }
+        let wanted = &self.wanted;
+        self.found
+            .extend(keys.into_iter().filter(|it| wanted.takes(it)));
     }
 
     fn answer(self: Box<Self>, cluster: &Cluster, answer: &mut Replies) {
-        let cursor = self.next.map_or(0, |it| cluster.cursors.keep(it));
+        let keep = |it| cluster.cursors.keep(it, &self.cursors);
+        let cursor = self.next.map_or(0, keep);
         wanted::answer(cursor, &self.found, answer);
     }
 }

@@ -1,6 +1,7 @@
 //! How works are spelled for another process: the version in which the client is answered, what kind of work it is, and
 //! its commands as a client sends them.
-use super::answers::{in_order, Answers};
+use super::answers::Answers;
+use super::join::Join;
 use super::keyed::{keys_of_all, Keyed};
 use super::listing::Listing;
 use super::query::Query;
@@ -82,7 +83,7 @@ pub fn step_of_spelled(
         let query = Query::spelled(rest)?;
         return Some(Listing::told_to(query, shard, protocol, reply_to));
     }
-    let answers = |commands| Answers::new(1, commands, protocol, in_order(), reply_to);
+    let answers = |commands| Answers::new(1, commands, protocol, Join::InOrder, reply_to);
     match kind {
         KEYED => {
             let command = command_of(rest, shard, keyspace)?;
@@ -125,7 +126,7 @@ fn transaction_of(bytes: &[u8], shard: u16, keyspace: &Keyspace) -> Option<Box<T
     let (mut transaction, mut rest) = (Box::<Transaction>::default(), bytes);
     while !rest.is_empty() {
         let (command, end) = OwnedCommand::first_spelled(rest)?;
-        let spec = Spec::of(command.command()).ok()?;
+        let spec = Spec::queued(command.command()).ok()?;
         let place = spec.place(command.command(), keyspace).ok()?;
         let of = place.one().ok()?;
         if !spec.is_queued() || of.is_some_and(|it| it != shard) {
@@ -182,7 +183,12 @@ mod tests {
             number: 9,
         };
         let mut transaction = Transaction::default();
-        for words in [&["INCR", "b"][..], &["PING"], &["SET", "a", "x\r\ny"]] {
+        for words in [
+            &["INCR", "b"][..],
+            &["PING"],
+            &["SET", "a", "x\r\ny"],
+            &["MSET", "a", "1", "b"],
+        ] {
             let command = command(words);
             let shard = (command.command().len() > 1).then_some(0);
             transaction.push(command.command(), shard).unwrap();

@@ -1,0 +1,74 @@
+use crate::command::data::DataWord;
+use crate::command::Fault;
+use crate::resp::{Replies, MAX_ARGUMENTS, MAX_REPLY};
+
+/// What a part begins with whose command asks for the value of one key.
+const ARRAY_OF_ONE: &[u8] = b"*1\r\n";
+
+/// How parts become an answer.
+#[derive(Clone, Copy, Debug)]
+pub(super) enum Join {
+    /// One after another: each answers a command, or all.
+    InOrder,
+    /// To one command with several keys, of which each part answers that for one.
+    Each(DataWord),
+}
+
+impl Join {
+    /// How many bytes the parts may have: with more the answer is surely more than a reply may be.
+    pub(super) fn most(self) -> usize {
+        match self {
+            Join::InOrder => usize::MAX,
+            Join::Each(_) => MAX_REPLY + MAX_ARGUMENTS * ARRAY_OF_ONE.len(),
+        }
+    }
+
+    /// The answer of these parts, in their order, beside an empty one. Those that aren't there were too large.
+    pub(super) fn answer(self, parts: Vec<Option<Replies>>, empty: Replies) -> Replies {
+        match self {
+            Join::InOrder => in_order(parts, empty),
+            Join::Each(word) => of_each(word, parts, empty),
+        }
+    }
+}
+
+fn in_order(parts: Vec<Option<Replies>>, empty: Replies) -> Replies {
+    let mut parts = parts.into_iter().flatten();
+    let first = parts.next().unwrap_or(empty);
+    parts.fold(first, |mut all, part| {
+        all.take_over(part);
+        all
+    })
+}
+
+/// The answer to the command of which these are for each of its keys: a refusal of one is that of all.
+fn of_each(word: DataWord, parts: Vec<Option<Replies>>, mut answer: Replies) -> Replies {
+    let count = parts.len();
+    let mut parts: Vec<Replies> = parts.into_iter().flatten().collect();
+    if let Some(place) = parts.iter().position(|it| it.error_count() > 0) {
+        return parts.swap_remove(place);
+    }
+    let (is_whole, mark) = (parts.len() == count, answer.mark());
+    match word {
+        DataWord::MSet => answer.simple("OK"),
+        DataWord::MGet => {
+            answer.array(count);
+            for part in parts {
+                answer.append(&part.unsent()[ARRAY_OF_ONE.len()..]);
+            }
+        }
+        _ => answer.count(parts.iter().map(|it| count_of(it.unsent())).sum()),
+    }
+    if !is_whole || answer.is_too_large(mark) {
+        answer.take_back(mark);
+        answer.error(Fault::ReplyTooLarge);
+    }
+    answer
+}
+
+/// The number that is answered.
+fn count_of(answer: &[u8]) -> usize {
+    let digits = answer.strip_prefix(b":").unwrap_or_default();
+    let digits = digits.iter().take_while(|it| it.is_ascii_digit());
+    digits.fold(0, |sum, it| 10 * sum + usize::from(it - b'0'))
+}
