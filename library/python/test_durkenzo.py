@@ -79,6 +79,25 @@ class Boards(unittest.TestCase):
             with one.admit(0) as permit:
                 self.assertGreater(permit.generation, token)
 
+    def test_a_permit_ends_with_its_pass(self):
+        board = Board([Counter()], servers=1)
+        board.control.assign(0, 1)
+        one = board.new_pass(1)
+        closed = one.admit(0)
+        one.close()
+        with board.new_pass(1) as left:
+            out = left.admit(0)
+            self.assertIsInstance(out.body, Counter)
+        with board.new_pass(1) as two, two.admit(0) as permit:
+            for ended in (closed, out):
+                self.assertRaises(durkenzo.NotAdmitted, lambda: ended.body)
+                self.assertRaises(durkenzo.NotAdmitted, lambda: ended.generation)
+                self.assertRaises(durkenzo.NotAdmitted, ended.finish)
+            self.assertIsInstance(permit.body, Counter)
+            two.close()
+            self.assertRaises(durkenzo.NotAdmitted, lambda: permit.body)
+        self.assertRaises(durkenzo.WrongHandle, one.admit, 0)
+
     def test_the_generation_fences_late_writes(self):
         board = Board([None], servers=2)
         board.control.assign(0, 1)
@@ -146,6 +165,59 @@ class Boards(unittest.TestCase):
                 counts += look.run(shard, lambda body: body.count)
         self.assertEqual(counts, sum(done))
         self.assertGreater(counts, 0)
+
+
+class Numbers(unittest.TestCase):
+    """Those that their type of C doesn't have are refused: none stands for another one."""
+
+    def setUp(self):
+        self.board = Board(["zero", "one"], servers=2)
+        self.board.control.assign(0, 1)
+
+    def test_of_shards(self):
+        control, layout = self.board.control, Layout([b"", b"n"])
+        service = durkenzo.Service(layout, servers=1)
+        service.control.assign(0, 1)
+        with self.board.new_pass(1) as one, service.new_pass(1) as serving:
+            for zero in (1 << 16, -(1 << 16)):
+                for call in (one.look, one.admit, serving.look, serving.checkpoint, layout.range, control.pause):
+                    self.assertRaises(durkenzo.UnknownShard, call, zero)
+            self.assertRaises(durkenzo.UnknownShard, control.assign, (1 << 16) + 1, 1)
+            self.assertEqual([one.look(it).phase for it in (0, 1)], [Phase.SERVING, Phase.VACANT])
+
+    def test_of_servers(self):
+        control = self.board.control
+        with self.board.new_pass(2) as two:
+            for one in ((1 << 16) + 1, 1 - (1 << 16)):
+                for call in (control.ask, control.fail, control.plan_drain, self.board.new_pass):
+                    self.assertRaises(durkenzo.BadArgument, call, one)
+                self.assertRaises(durkenzo.BadArgument, control.assign, 1, one)
+                self.assertRaises(durkenzo.BadArgument, two.admit, 0, one)
+            self.assertRaises(durkenzo.BadArgument, control.plan_drain, 1 << 16)
+            self.assertEqual(two.look(1).phase, Phase.VACANT)
+
+    def test_of_sizes(self):
+        layout = Layout([b""])
+        for one in ((1 << 16) + 1, 1 - (1 << 16)):
+            for sizes in ({"servers": one}, {"servers": 1, "restarts": one}):
+                self.assertRaises(durkenzo.BadArgument, Board, [0], **sizes)
+                self.assertRaises(durkenzo.BadArgument, durkenzo.Service, layout, **sizes)
+        for thousand in ((1 << 64) + 1000, 1000 - (1 << 64)):
+            self.assertRaises(durkenzo.BadCeiling, Board, [0], servers=1, ceiling=thousand)
+            self.assertRaises(durkenzo.BadCeiling, durkenzo.Service, layout, servers=1, ceiling=thousand)
+            self.assertRaises(durkenzo.BadArgument, durkenzo.Service, layout, servers=1, kept=thousand)
+
+    def test_of_envelopes(self):
+        service, get = durkenzo.Service(Layout([b""]), servers=2), Request.get(b"a")
+        with service.new_pass(2) as two:
+            wide = [(1 << 64, 0), (-1, 0), (1, 1 << 16), (1, 0, 1 << 16), (1, 0, (1 << 16) + 1, 1), (1, 0, 1, 257)]
+            for parts in wide:
+                self.assertRaises(durkenzo.BadArgument, two.received, durkenzo.Sent(*parts), get)
+            self.assertRaises(durkenzo.BadArgument, two.envelope, 1 << 64, get)
+            for request in (Request((1 << 8) + 1, b"a"), Request.add(b"a", (1 << 64) + 1), Request.add(b"a", -1 << 64)):
+                self.assertRaises(durkenzo.BadArgument, two.envelope, 1, request)
+        self.assertRaises(durkenzo.BadArgument, Map().scan, b"a", b"z", (1 << 64) + 1)
+        self.assertRaises(durkenzo.CountOverflow, Map().add, b"a", (1 << 64) + 1)
 
 
 class Maps(unittest.TestCase):

@@ -43,18 +43,17 @@ MAX_GENERATION = (1 << 36) - 1
 
 class Permit(Generic[T]):
     """The right to a shard's body, which nobody else has. Leave its `with` block, or call finish, to end the
-    admission."""
+    admission; it ends with its pass too."""
 
     def __init__(self, of: Pass[T], shard: int, body: T) -> None:
-        self._pass = of
-        self._is_open = True
+        self._pass, self._turn = of, of._turn
         self.shard = shard
         self._body = body
 
     @property
     def body(self) -> T:
         """The shard's body. Raises NotAdmitted once the admission has ended."""
-        if not self._is_open:
+        if self._turn != self._pass._turn:
             raise NotAdmitted()
         return self._body
 
@@ -62,15 +61,15 @@ class Permit(Generic[T]):
     def generation(self) -> int:
         """The shard's generation at this admission, a fencing token: each later admission to the shard has a
         greater one."""
-        if not self._is_open:
+        if self._turn != self._pass._turn:
             raise NotAdmitted()
         return self._pass.look(self.shard).generation
 
     def finish(self) -> int:
         """Ends the admission, and returns the shard's generation since then. Raises NotAdmitted where it has ended."""
-        if not self._is_open:
+        if self._turn != self._pass._turn:
             raise NotAdmitted()
-        self._is_open = False
+        self._pass._turn += 1
         generation = ctypes.c_uint64()
         _check(LIBRARY.durkenzo_finish(ctypes.byref(self._pass._handle), ctypes.byref(generation)))
         return generation.value
@@ -79,7 +78,7 @@ class Permit(Generic[T]):
         return self
 
     def __exit__(self, kind: type[BaseException] | None, error: BaseException | None, at: TracebackType | None) -> None:
-        if self._is_open:
+        if self._turn == self._pass._turn:
             self.finish()
 
 
@@ -94,6 +93,9 @@ class Note(_Kept, Generic[T]):
 
 class Pass(_Kept, Generic[T]):
     """What one thread at a time acts on a board with, as one server for good."""
+
+    # The end of a permit, and of the pass, ends a turn: a permit is open in the turn in which it was made.
+    _turn = 0
 
     def __init__(self, board: Board[T], server: int) -> None:
         super().__init__()
@@ -111,7 +113,7 @@ class Pass(_Kept, Generic[T]):
         """Admits the pass's server to the shard, for a client's request or one that this server forwarded.
 
         Raises NobodyOwns, IsPaused, NotExecutor, NotYet, IsAdmitted, Spent or Raced, with the record that was read;
-        UnknownShard; or WrongHandle where the pass has a permit.
+        UnknownShard; BadArgument where no server has that number; or WrongHandle where the pass has a permit.
         """
         number, parts = ctypes.c_uint64(), RecordParts()
         code = LIBRARY.durkenzo_admit(
@@ -141,6 +143,11 @@ class Pass(_Kept, Generic[T]):
         if note._board is not self._board:
             raise BadArgument()
         _check(LIBRARY.durkenzo_meet(ctypes.byref(self._handle), ctypes.byref(note._handle)))
+
+    def close(self) -> None:
+        """Lets go what the library keeps for the pass, and ends its permit. Further calls raise WrongHandle."""
+        self._turn += 1
+        super().close()
 
     def __enter__(self) -> Pass[T]:
         return self

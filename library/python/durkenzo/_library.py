@@ -1,12 +1,31 @@
 """The calls of the proved library, as durkenzo.h declares them."""
+from __future__ import annotations
+
 import ctypes
 import ctypes.util
 import os
 import pathlib
+from typing import Any, Callable
+
+from .errors import BadArgument, BadCeiling, DurkenzoError, UnknownShard
 
 u8, u16, u32, u64 = ctypes.c_uint8, ctypes.c_uint16, ctypes.c_uint32, ctypes.c_uint64
 i64 = ctypes.c_int64
 NAME = "libdurkenzo.so"
+
+
+class Number:
+    """A number as C takes it. One that its type doesn't have is refused, where ctypes would make another one of it."""
+
+    def __init__(self, c_type: Any, fault: type[DurkenzoError] = BadArgument) -> None:
+        self.c_type, self._fault = c_type, fault
+        half = 1 << 8 * ctypes.sizeof(c_type) - 1
+        self._low, self._end = (-half, half) if c_type(-1).value < 0 else (0, 2 * half)
+
+    def check(self, number: int) -> None:
+        """Raises the fault where the type doesn't have this number."""
+        if not self._low <= number < self._end:
+            raise self._fault()
 
 
 class Handle(ctypes.Structure):
@@ -43,6 +62,14 @@ class SentParts(ctypes.Structure):
     """An envelope but for its request and its note."""
 
     _fields_ = [("number", u64), ("shard", u16), ("from", u16), ("hops", u8)]
+    _numbers = [Number(it) for _, it in _fields_]
+
+    @classmethod
+    def of(cls, *parts: int) -> SentParts:
+        """Returns these parts. Raises BadArgument where the type of one doesn't have it."""
+        for it, part in zip(cls._numbers, parts):
+            it.check(part)
+        return cls(*parts)
 
 
 def found() -> str:
@@ -57,51 +84,66 @@ def found() -> str:
     raise ImportError(f"{NAME} isn't found: run `make` in library/, or set DURKENZO_SO to a folder that has it")
 
 
-def calls() -> dict[str, list[type]]:
+def calls() -> dict[str, list[Any]]:
     """Returns the types of each call's arguments, by its name."""
     handle, record, number = map(ctypes.POINTER, (Handle, RecordParts, u64))
-    size, shard, text = ctypes.c_size_t, ctypes.POINTER(u16), ctypes.c_char_p
-    length, parts = ctypes.POINTER(size), ctypes.POINTER(ReplyParts)
+    size, kind, server, amount = map(Number, (ctypes.c_size_t, u8, u16, i64))
+    shard, ceiling = Number(u16, UnknownShard), Number(u64, BadCeiling)
+    text, into, length = ctypes.c_char_p, ctypes.POINTER(u16), ctypes.POINTER(ctypes.c_size_t)
+    sent, parts = map(ctypes.POINTER, (SentParts, ReplyParts))
     return {
-        "open": [handle, number, ctypes.c_size_t, u16, u16, u64],
-        "pass": [handle, handle, u16],
-        "look": [handle, u16, record],
-        "admit": [handle, u16, u16, number, record],
+        "open": [handle, number, size, server, server, ceiling],
+        "pass": [handle, handle, server],
+        "look": [handle, shard, record],
+        "admit": [handle, shard, server, number, record],
         "finish": [handle, number],
-        "change": [handle, u16, u8, u16, record],
-        "restart": [handle, u8, u16],
+        "change": [handle, shard, kind, server, record],
+        "restart": [handle, kind, server],
         "split": [handle, handle],
         "meet": [handle, handle],
-        "plan": [handle, handle, u16],
-        "move": [handle, size, shard, shard],
-        "left": [handle, size, shard],
+        "plan": [handle, handle, server],
+        "move": [handle, size, into, into],
+        "left": [handle, size, into],
         "layout": [handle, text, size, ctypes.POINTER(Part), size],
-        "shard_of": [handle, text, size, shard],
-        "bound": [handle, u16, text, size, length],
+        "shard_of": [handle, text, size, into],
+        "bound": [handle, shard, text, size, length],
         "map": [handle],
         "map_length": [handle, number],
-        "ask": [handle, handle, u8, text, size, text, size, i64, parts],
+        "ask": [handle, handle, kind, text, size, text, size, amount, parts],
         "reply_text": [handle, text, size, length],
         "pair": [handle, size, parts],
         "pair_key": [handle, size, text, size, length],
         "pair_text": [handle, size, text, size, length],
-        "open_service": [handle, size, size, u16, u16, u64],
+        "open_service": [handle, size, size, server, server, ceiling],
         "open_settings": [handle, handle, text, size, length],
         "open_bodies": [handle, handle, text, size, number, size],
-        "envelope": [handle, handle, ctypes.POINTER(SentParts), u8, text, size, text, size, i64],
-        "sent": [handle, ctypes.POINTER(SentParts)],
-        "serve": [handle, handle, handle, shard, record],
+        "envelope": [handle, handle, sent, kind, text, size, text, size, amount],
+        "sent": [handle, sent],
+        "serve": [handle, handle, handle, into, record],
         "answer": [handle, ctypes.POINTER(AnswerParts), parts],
-        "checkpoint": [handle, u16, number, record],
+        "checkpoint": [handle, shard, number, record],
     }
+
+
+def typed(call: Any, types: list[Any]) -> Callable[..., int]:
+    """Returns the call with the types of its arguments. It isn't made with a number that its type doesn't have."""
+    call.argtypes, call.restype = [it.c_type if isinstance(it, Number) else it for it in types], u32
+    checks = [(at, it.check) for at, it in enumerate(types) if isinstance(it, Number)]
+
+    def checked(*given: Any) -> int:
+        for at, check in checks:
+            check(given[at])
+        return call(*given)
+
+    return checked if checks else call
 
 
 def loaded() -> ctypes.CDLL:
     """Returns the library with the types of its calls."""
     library = ctypes.CDLL(found())
     for name, types in calls().items():
-        call = getattr(library, f"durkenzo_{name}")
-        call.argtypes, call.restype = types, u32
+        name = f"durkenzo_{name}"
+        setattr(library, name, typed(getattr(library, name), types))
     library.durkenzo_close.argtypes, library.durkenzo_close.restype = [ctypes.POINTER(Handle)], None
     return library
 

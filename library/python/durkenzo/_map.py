@@ -4,10 +4,11 @@ from __future__ import annotations
 import ctypes
 
 from ._kept import Kept, check
-from ._library import LIBRARY, Handle, ReplyParts
+from ._library import LIBRARY, Handle, Number, ReplyParts, i64
 from ._reply import ReplyKind, RequestKind, Value, pairs_in, value_in
 from .errors import CountOverflow, TextTooLong, WrongKind
 
+_AMOUNT = Number(i64, CountOverflow)
 _REFUSALS = {ReplyKind.WRONG_KIND: WrongKind, ReplyKind.OVERFLOW: CountOverflow, ReplyKind.TOO_LONG: TextTooLong}
 
 
@@ -44,6 +45,7 @@ class Map(Kept):
     def add(self, key: bytes, amount: int) -> int:
         """Adds to the key's count, and returns the sum; a key that holds nothing counts as 0. Raises WrongKind where
         the key holds a text, and CountOverflow."""
+        _AMOUNT.check(amount)
         return self._ask(RequestKind.ADD, key, amount=amount).count
 
     def remove(self, key: bytes) -> bool:
@@ -60,8 +62,6 @@ class Map(Kept):
         LIBRARY.durkenzo_close(ctypes.byref(self._reply))
 
     def _ask(self, kind: RequestKind, key: bytes, other: bytes = b"", amount: int = 0) -> ReplyParts:
-        if not -(1 << 63) <= amount < 1 << 63:
-            raise CountOverflow()
         parts, handles = ReplyParts(), map(ctypes.byref, (self._handle, self._reply))
         check(LIBRARY.durkenzo_ask(*handles, kind, key, len(key), other, len(other), amount, ctypes.byref(parts)))
         if refusal := _REFUSALS.get(parts.kind):

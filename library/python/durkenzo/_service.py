@@ -205,7 +205,7 @@ class ServicePass(Kept):
         """Returns the envelope that came so with this request, as Envelope.sent told another process, with a note of
         all that the pass has seen. Raises KeyEmpty, KeyTooLong, BadArgument or NoMemory."""
         envelope, it = Envelope(self._service), request
-        parts = SentParts(sent.number, sent.shard, sent.forwarded_by, sent.hops)
+        parts = SentParts.of(sent.number, sent.shard, sent.forwarded_by, sent.hops)
         handles = map(ctypes.byref, (self._handle, envelope._handle, parts))
         texts = (it.key, len(it.key), it.other, len(it.other))
         check(LIBRARY.durkenzo_envelope(*handles, it.kind, *texts, it.amount))

@@ -22,7 +22,7 @@ class WrongHandle(DurkenzoError):
 
 
 class BadArgument(DurkenzoError):
-    """A server has a number from 1 to 4,095."""
+    """A server's number isn't 1 to 4,095, or another argument is out of bounds."""
 
     code = 2
 

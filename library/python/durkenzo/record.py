@@ -3,8 +3,10 @@ from __future__ import annotations
 
 import enum
 from dataclasses import dataclass
+from typing import TYPE_CHECKING
 
-from ._library import RecordParts
+if TYPE_CHECKING:
+    from ._library import RecordParts
 
 
 class Phase(enum.IntEnum):
