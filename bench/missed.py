@@ -75,6 +75,8 @@ def cluster():
     yield calls("A call of one client", "a call, 1 client", 1, 1, 1, 4000)
     row = "a call, 16 clients, 16 shards of 4 servers"
     yield calls("A call of 16 clients, each at a shard of its own", row, 4, 16, 16, 500)
+    row = "a call, 4 clients, 4 shards of 4 servers"
+    yield calls("A call of 4 clients, each at a shard of its own", row, 4, 4, 4, 1000)
     yield calls("A call of 4 clients at one shard", "a call, 4 clients, one shard", 1, 1, 4, 1000)
     yield calls("A call of 16 clients at one shard", "a call, 16 clients, one shard", 1, 1, 16, 500)
     words = lambda count: ("graceful", 2, 1, 4, 4, 0, count)
