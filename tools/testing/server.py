@@ -16,6 +16,9 @@ FOLDER = sources.TOP / "server"
 SCRIPTS = ("commands", "moves", "durable", "dumps", "upgrade", "hostile", "secure", "scripts", "site")
 REDIS = ("redis-server", "redis-cli", "redis-benchmark")
 CLUSTER = "cluster"
+# What stands on the library by cargo.
+OVER_LIBRARY = ("driver", "fuzzing", "server")
+CLIPPY = ("clippy", "--all-targets", "--", "-D", "warnings")
 HEADINGS = (
     "Network:",
     "Safety:",
@@ -99,10 +102,25 @@ def installed(room):
 
 def driver():
     """What drives proved servers of a store, over stores that don't tell all."""
-    folder, clippy = sources.TOP / "driver", ("clippy", "--all-targets", "--", "-D", "warnings")
-    for words in [("test",), *([clippy] if shutil.which("cargo-clippy") else [])]:
+    folder = sources.TOP / "driver"
+    for words in [("test",), *([CLIPPY] if shutil.which("cargo-clippy") else [])]:
         ran = other_crates.cargo(folder, *words)
         yield verdict(f"cargo {words[0]} of the driver", not ran.returncode, f"{ran.stdout[-2000:]}{ran.stderr[-2000:]}")
+
+
+def compiled(_room):
+    """That what stands on the library compiles, its tests too, over the libraries that are there or are built without
+    proof; nothing where cargo or other people's crates aren't there."""
+    if not shutil.which("cargo"):
+        return
+    if not library.is_there():
+        yield from library.without_proof()
+    words = CLIPPY if shutil.which("cargo-clippy") else ("check", "--all-targets")
+    for folder in (sources.TOP / it for it in OVER_LIBRARY):
+        if library.is_there() and other_crates.has_crates(folder):
+            ran = other_crates.cargo(folder, *words)
+            said = f"{ran.stdout[-2000:]}{ran.stderr[-2000:]}"
+            yield verdict(f"cargo {words[0]} of {folder.name}", not ran.returncode, said)
 
 
 def passed(room):

@@ -117,6 +117,7 @@ def quick_program(room, say):
         Part("pictures, unproved", program.pictures),
         Part("the shell, unproved", program.shell),
         Part("packages, unproved", packed.passed("unproved")),
+        Part("Rust over the library", server.compiled),
     ]
 
 
