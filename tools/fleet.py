@@ -258,7 +258,10 @@ class Fleet:
 
     def server(self, number, peer_at):
         """The server of this number, which others reach there."""
-        members = [self.between(f"to {it.name} from server-{number}", it.port) for it in self.members]
+        first = (number - 1) % len(self.members)
+        # Each begins with another member, so that one reads at a member that others don't write at.
+        ones = [*self.members[first:], *self.members[:first]]
+        members = [self.between(f"to {it.name} from server-{number}", it.port) for it in ones]
         port, peer = self.client_ports[number - 1], self.peer_ports[number - 1]
         words = {
             "etcd": ",".join(f"http://{HOST}:{it}" for it in members), "name": number, "servers": self.count,

@@ -137,9 +137,10 @@ pub(crate) fn number_of_batch(key: &[u8]) -> Option<u64> {
     words.next()?.parse().ok()
 }
 
-/// What the parts of the shard's bases begin with.
-pub(crate) fn bases(shard: u16) -> Vec<u8> {
-    format!("base/{shard:05}/").into_bytes()
+/// Where the parts of the shard's bases begin, and where they end.
+pub(crate) fn bases(shard: u16) -> [Vec<u8>; 2] {
+    // A `0` comes after a `/`.
+    ["/", "0"].map(|behind| format!("base/{shard:05}{behind}").into_bytes())
 }
 
 /// A part of a base.

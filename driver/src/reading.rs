@@ -134,15 +134,12 @@ pub(crate) fn passing(store: &dyn Store, shard: u16) -> Result<Vec<Passing>, Not
     let key = keys::head(shard);
     let reading = store.read(&[&key])?;
     let named = Head::of(&found(&reading, &key, &keys::EMPTY).0).map_err(CoreFault)?;
-    let parts = store.read_all(&keys::bases(shard))?.pairs.into_iter();
-    let parts = parts.filter_map(|it| keys::base_and_place(&it.key));
-    let mut passing: Vec<_> = parts
-        .map(|(base, place)| Passing::Part(base, place))
-        .collect();
+    let [from, end] = keys::bases(shard);
+    let parts = store.read_keys(&from, &end)?;
+    let parts = parts.iter().filter_map(|it| keys::base_and_place(it));
+    let parts = parts.map(|(base, place)| Passing::Part(base, place));
     let (from, end) = (keys::batch(shard, 1), keys::batch(shard, named.base + 1));
-    each(store, from, &end, BATCHES, |it| {
-        passing.extend(keys::number_of_batch(&it.key).map(Passing::Batch));
-        Ok(())
-    })?;
-    Ok(passing)
+    let batches = store.read_keys(&from, &end)?;
+    let batches = batches.iter().filter_map(|it| keys::number_of_batch(it));
+    Ok(parts.chain(batches.map(Passing::Batch)).collect())
 }

@@ -8,6 +8,9 @@ use std::time::Duration;
 /// Who is told what became of a transaction. It must not wait for the store.
 pub type Done = Box<dyn FnOnce(Result<Outcome, WriteError>) + Send>;
 
+/// How many pairs are read at once where keys alone are asked for, of a store that gives no keys alone.
+const PAGE: usize = 64;
+
 /// Keys with revisions, as etcd has them.
 ///
 /// All transactions are made one after another, each at once or not at all, and each that writes has a revision of its
@@ -52,6 +55,25 @@ pub trait Store: Send + std::marker::Sync {
     ///
     /// Where the store can't be asked, as [`ReadError`] says.
     fn read_range(&self, from: &[u8], end: &[u8], most: usize) -> Result<Reading, ReadError>;
+
+    /// Reads which keys there are from this one on and before that end, in their order, and not what lies there. Keys that
+    /// come or go meanwhile may be among them or not.
+    ///
+    /// # Errors
+    ///
+    /// Where the store can't be asked, as [`ReadError`] says.
+    fn read_keys(&self, from: &[u8], end: &[u8]) -> Result<Vec<Vec<u8>>, ReadError> {
+        let (mut keys, mut from) = (Vec::new(), from.to_vec());
+        loop {
+            let pairs = self.read_range(&from, end, PAGE)?.pairs;
+            let is_last = pairs.len() < PAGE;
+            keys.extend(pairs.into_iter().map(|it| it.key));
+            match keys.last().filter(|_| !is_last) {
+                Some(last) => from = [last, &b"\0"[..]].concat(),
+                None => return Ok(keys),
+            }
+        }
+    }
 
     /// Tells what lies at all keys that begin so, and from then on each change of them.
     ///

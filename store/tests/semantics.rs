@@ -150,6 +150,11 @@ fn reads_more_than_a_page() {
         assert_eq!(range(end, end, 1), []);
         assert_eq!(range(b"kez", b"key", 7), []);
         assert_eq!(range(b"kez", b"l", 7), []);
+        let keys = |from, end| store.read_keys(from, end).expect("a reading");
+        let within = |from, end| -> Vec<_> { all[from..end].iter().map(|it| &it.key).collect() };
+        assert_eq!(keys(from, end).iter().collect::<Vec<_>>(), within(3, 1_700));
+        assert_eq!(keys(b"key/", b"key0").len(), 1_800);
+        assert_eq!(keys(end, end), [b""; 0]);
     });
 }
 

@@ -319,6 +319,9 @@ impl<T: Tables> Engine<T> {
             Job::ReadRange(from, end, most, tell) => {
                 let _ = tell.send(self.reading_of_range(&from, &end, most));
             }
+            Job::ReadKeys(from, end, tell) => {
+                let _ = tell.send(self.tables.keys(&from, &end).map_err(unavailable));
+            }
             Job::Watch(number, prefix, watcher, tell) => {
                 let reading = self.reading_of_all(&prefix);
                 let _ = tell.send(reading.map(|it| self.watchers.add(number, prefix, watcher, it)));

@@ -12,6 +12,8 @@ pub(super) enum Job {
     ReadAll(Vec<u8>, Sender<Result<Reading, ReadError>>),
     /// The first keys from this one on and before that end, at most so many.
     ReadRange(Vec<u8>, Vec<u8>, usize, Sender<Result<Reading, ReadError>>),
+    /// The keys from this one on and before that end.
+    ReadKeys(Vec<u8>, Vec<u8>, Sender<Result<Vec<Vec<u8>>, ReadError>>),
     Watch(u64, Vec<u8>, Watcher, Sender<Result<(), ReadError>>),
     Unwatch(u64),
     Grant(Duration, Sender<LeaseId>),

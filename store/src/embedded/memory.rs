@@ -47,6 +47,12 @@ impl Tables for Memory {
         Ok(before.take(most).map(pair).collect())
     }
 
+    fn keys(&self, from: &[u8], end: &[u8]) -> Result<Vec<Vec<u8>>, Failure> {
+        let from = self.entries.range(from.to_vec()..);
+        let before = from.take_while(|(key, _)| key.as_slice() < end);
+        Ok(before.map(|(key, _)| key.clone()).collect())
+    }
+
     fn begin(&mut self) -> Result<(), Failure> {
         Ok(())
     }

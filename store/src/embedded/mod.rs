@@ -102,6 +102,11 @@ impl Store for Embedded {
             .unwrap_or(Err(ReadError::Stopped))
     }
 
+    fn read_keys(&self, from: &[u8], end: &[u8]) -> Result<Vec<Vec<u8>>, ReadError> {
+        self.ask(|tell| Job::ReadKeys(from.to_vec(), end.to_vec(), tell))
+            .unwrap_or(Err(ReadError::Stopped))
+    }
+
     fn watch(&self, prefix: &[u8], watcher: Watcher) -> Result<Watch, ReadError> {
         let number = self.watches.fetch_add(1, Ordering::Relaxed);
         self.ask(|tell| Job::Watch(number, prefix.to_vec(), watcher, tell))

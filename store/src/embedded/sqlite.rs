@@ -204,6 +204,13 @@ impl Tables for Sqlite {
         Ok(pairs.collect::<Result<_, _>>()?)
     }
 
+    fn keys(&self, from: &[u8], end: &[u8]) -> Result<Vec<Vec<u8>>, Failure> {
+        let words = "SELECT key FROM pairs WHERE key >= ?1 AND key < ?2 ORDER BY key";
+        let mut found = self.connection.prepare_cached(words)?;
+        let keys = found.query_map((from, end), |row| row.get(0))?;
+        Ok(keys.collect::<Result<_, _>>()?)
+    }
+
     fn begin(&mut self) -> Result<(), Failure> {
         Ok(self.connection.execute_batch("BEGIN IMMEDIATE")?)
     }

@@ -25,6 +25,9 @@ pub(super) trait Tables {
     /// The first pairs from this key on and before that end, in their order, at most so many.
     fn range(&self, from: &[u8], end: &[u8], most: usize) -> Result<Vec<Pair>, Failure>;
 
+    /// The keys from this one on and before that end, in their order.
+    fn keys(&self, from: &[u8], end: &[u8]) -> Result<Vec<Vec<u8>>, Failure>;
+
     /// Begins writing.
     fn begin(&mut self) -> Result<(), Failure>;
 

@@ -33,6 +33,8 @@ const MOST_OPERATIONS: usize = 128;
 
 /// How many pairs are asked for at a time.
 const PAGE: usize = 512;
+/// How many keys are, where what lies there isn't.
+const KEYS: usize = 8_192;
 
 /// A store on etcd, of version 3.4 or later.
 ///
@@ -110,6 +112,13 @@ impl Store for Etcd {
     fn read_range(&self, from: &[u8], end: &[u8], most: usize) -> Result<Reading, ReadError> {
         let (gateway, asked) = (Arc::clone(&self.gateway), Range::part(from, end, most));
         self.wait_for(async move { read_range(&gateway, &asked).await })
+            .unwrap_or(Err(ReadError::Stopped))
+    }
+
+    fn read_keys(&self, from: &[u8], end: &[u8]) -> Result<Vec<Vec<u8>>, ReadError> {
+        let gateway = Arc::clone(&self.gateway);
+        let (from, end) = (from.to_vec(), end.to_vec());
+        self.wait_for(async move { read_keys(&gateway, from, &end).await })
             .unwrap_or(Err(ReadError::Stopped))
     }
 
@@ -236,6 +245,28 @@ async fn read_range(gateway: &Gateway, asked: &Range) -> Result<Reading, ReadErr
         revision: found.revision(),
         pairs: found.pairs.into_iter().map(Pair::from).collect(),
     })
+}
+
+/// Reads which keys there are in this range, page by page.
+async fn read_keys(
+    gateway: &Gateway,
+    mut from: Vec<u8>,
+    end: &[u8],
+) -> Result<Vec<Vec<u8>>, ReadError> {
+    let mut keys = Vec::new();
+    loop {
+        let asked = Range::keys(&from, end, KEYS);
+        let page = gateway
+            .again::<RangeResult>("/v3/kv/range", &asked)
+            .await
+            .map_err(CallError::of_read)?;
+        let has_more = page.more;
+        keys.extend(page.pairs.into_iter().map(|it| Pair::from(it).key));
+        match keys.last().filter(|_| has_more) {
+            Some(last) => from = [last, &b"\0"[..]].concat(),
+            None => return Ok(keys),
+        }
+    }
 }
 
 /// Lets go what isn't there any more, has each member give its room back, and ends the alarms of a quota that was

@@ -75,17 +75,18 @@ enum Operation {
 impl Operation {
     /// Reads a key at this moment; at the present where it is `NEVER`.
     fn read(key: &[u8], moment: Revision) -> Operation {
-        Operation::Read(Range {
-            key: key.to_vec(),
-            range_end: Vec::new(),
-            limit: 0,
-            revision: moment.0,
-        })
+        Operation::Read(Range::one(key, moment, false))
+    }
+
+    /// Has a member ask who leads before it answers: it answers a transaction that only compares by what it has itself,
+    /// which may be behind what others were told.
+    fn ask(key: &[u8]) -> Operation {
+        Operation::Read(Range::one(key, Revision::NEVER, true))
     }
 }
 
 /// A range of keys: one, or all up to an end.
-#[derive(Serialize)]
+#[derive(Default, Serialize)]
 pub(super) struct Range {
     #[serde(with = "bytes")]
     key: Vec<u8>,
@@ -95,9 +96,31 @@ pub(super) struct Range {
     limit: usize,
     #[serde(with = "number", skip_serializing_if = "is_usual")]
     revision: u64,
+    #[serde(skip_serializing_if = "is_usual")]
+    keys_only: bool,
+    #[serde(skip_serializing_if = "is_usual")]
+    count_only: bool,
 }
 
 impl Range {
+    /// What lies at one key, or whether anything does.
+    fn one(key: &[u8], moment: Revision, count_only: bool) -> Range {
+        Range {
+            key: key.to_vec(),
+            revision: moment.0,
+            count_only,
+            ..Range::default()
+        }
+    }
+
+    /// The first keys from this one on and before that end, at the present, and not what lies there.
+    pub(super) fn keys(from: &[u8], end: &[u8], limit: usize) -> Range {
+        Range {
+            keys_only: true,
+            ..Range::part(from, end, limit)
+        }
+    }
+
     /// The first keys from this one on and before that end, at the present.
     pub(super) fn part(from: &[u8], end: &[u8], limit: usize) -> Range {
         Range {
@@ -105,6 +128,7 @@ impl Range {
             range_end: end.to_vec(),
             limit,
             revision: Revision::NEVER.0,
+            ..Range::default()
         }
     }
 
@@ -115,6 +139,7 @@ impl Range {
             range_end: end_of(prefix),
             limit,
             revision: moment.0,
+            ..Range::default()
         }
     }
 }
@@ -171,9 +196,12 @@ impl TransactionRequest {
             .reads
             .iter()
             .map(|key| Operation::read(key, Revision::NEVER));
+        let is_asked = !transaction.writes() && transaction.reads.is_empty();
+        let asked = transaction.compares.first().filter(|_| is_asked);
+        let asks = asked.map(|it| Operation::ask(&it.key));
         TransactionRequest {
             compare: compare.collect(),
-            success: deletes.chain(puts).collect(),
+            success: deletes.chain(puts).chain(asks).collect(),
             failure: reads.collect(),
         }
     }
