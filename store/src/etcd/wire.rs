@@ -80,6 +80,7 @@ impl Operation {
             range_end: Vec::new(),
             limit: 0,
             revision: moment.0,
+            count_only: false,
         })
     }
 }
@@ -95,9 +96,19 @@ pub(super) struct Range {
     limit: usize,
     #[serde(with = "number", skip_serializing_if = "is_usual")]
     revision: u64,
+    #[serde(skip_serializing_if = "is_usual")]
+    count_only: bool,
 }
 
 impl Range {
+    /// Whether this key is there, at the present.
+    pub(super) fn counting(key: &[u8]) -> Range {
+        Range {
+            count_only: true,
+            ..Range::part(key, &[], 0)
+        }
+    }
+
     /// The first keys from this one on and before that end, at the present.
     pub(super) fn part(from: &[u8], end: &[u8], limit: usize) -> Range {
         Range {
@@ -105,6 +116,7 @@ impl Range {
             range_end: end.to_vec(),
             limit,
             revision: Revision::NEVER.0,
+            count_only: false,
         }
     }
 
@@ -115,6 +127,7 @@ impl Range {
             range_end: end_of(prefix),
             limit,
             revision: moment.0,
+            count_only: false,
         }
     }
 }
