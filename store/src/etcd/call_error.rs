@@ -44,7 +44,8 @@ impl Refusal {
             || self.message.contains("larger than max")
     }
 
-    fn is_of_user(&self) -> bool {
+    /// Whether it is refused for who asks, or who doesn't say it.
+    pub(super) fn is_of_user(&self) -> bool {
         matches!(self.code, Refusal::DENIED | Refusal::UNAUTHENTICATED)
             || self.message.contains("authentication")
             || self.message.contains("user name is empty")
@@ -55,6 +56,11 @@ impl CallError {
     /// That a member answers more than is held.
     pub(super) fn too_long() -> CallError {
         CallError::Unknown("etcd's answer is too long".to_owned())
+    }
+
+    /// That no member answers in the time that it has.
+    pub(super) fn late() -> CallError {
+        CallError::Unknown("no member answered in time".to_owned())
     }
 
     /// What it means for a transaction. Only what a member refuses before it proposes it isn't made.

@@ -1,22 +1,31 @@
 use super::call_error::{CallError, Refusal};
+use super::pulse::Pulse;
 use super::stream::{Stream, LONGEST};
+use super::wire::Range;
 use super::{Access, StartError};
 use hyper::body::HttpBody;
 use hyper::client::HttpConnector;
 use hyper::{header, Body, Client, Request, Response};
 use hyper_rustls::{HttpsConnector, HttpsConnectorBuilder};
-use serde::de::DeserializeOwned;
+use serde::de::{DeserializeOwned, IgnoredAny};
 use serde::{Deserialize, Serialize};
 use std::future::Future;
 use std::sync::atomic::{AtomicUsize, Ordering};
 use std::sync::Mutex;
 use std::time::Duration;
-use tokio::time::timeout;
+use tokio::time::{timeout, timeout_at, Instant};
 
+/// Where keys are read.
+pub(super) const RANGE: &str = "/v3/kv/range";
 /// Where changes are told, bit by bit.
-pub(super) const WATCH: &str = "/v3/watch";
+const WATCH: &str = "/v3/watch";
 /// How long a member may take for what it does to all that it has.
 const LONG: Duration = Duration::from_secs(30);
+/// How long a member may take to begin a watch, and to say that it is well: members without a leader elect one in less,
+/// mostly.
+const SHORT: Duration = Duration::from_secs(2);
+/// How long a member may take to keep a lease, so that another one keeps it in time.
+const BRIEF: Duration = Duration::from_secs(1);
 /// What has a member end a stream once it reaches none that leads.
 const HAS_LEADER: (&str, &str) = ("Grpc-Metadata-hasleader", "true");
 
@@ -28,6 +37,8 @@ pub(super) struct Gateway {
     current: AtomicUsize,
     access: Access,
     token: Mutex<Option<String>>,
+    /// One of each member.
+    pulses: Vec<Pulse>,
 }
 
 #[derive(Serialize)]
@@ -58,6 +69,7 @@ impl Gateway {
         );
         Ok(Gateway {
             client,
+            pulses: members.iter().map(|_| Pulse::default()).collect(),
             members,
             current: AtomicUsize::new(0),
             access,
@@ -71,10 +83,8 @@ impl Gateway {
         path: &str,
         asked: &impl Serialize,
     ) -> Result<T, CallError> {
-        let bytes = self
-            .patiently(async { whole(self.send(path, asked).await?).await })
-            .await?;
-        read(&bytes)
+        let call = |member| self.ask(member, path, asked);
+        self.reach(self.access.patience, &call).await
     }
 
     /// Calls a member, and where it doesn't answer the others in turn: for what may be done twice.
@@ -83,79 +93,146 @@ impl Gateway {
         path: &str,
         asked: &impl Serialize,
     ) -> Result<T, CallError> {
-        let mut left = self.members.len();
-        loop {
-            left -= 1;
-            match self.once(path, asked).await {
-                Err(CallError::Unknown(_)) if left > 0 => self.pass_over(self.current()),
-                found => return found,
-            }
-        }
+        let call = |member| self.ask(member, path, asked);
+        self.in_turn(self.access.patience, &call).await
     }
 
-    /// Calls each member, one after another, for what may take minutes; where one fails, none after it.
+    /// Calls each member that can be reached, one after another, for what may take minutes; where one fails, none after
+    /// it.
     pub(super) async fn each<T: DeserializeOwned>(
         &self,
         path: &str,
         asked: &impl Serialize,
     ) -> Result<(), CallError> {
         for member in 0..self.members.len() {
-            self.current.store(member, Ordering::Relaxed);
-            let call = async { whole(self.send(path, asked).await?).await };
-            read::<T>(&within(LONG, call).await?)?;
+            match within(LONG, self.ask::<T>(member, path, asked)).await {
+                Ok(_) | Err(CallError::Unreachable(_)) => {}
+                Err(error) => return Err(error),
+            }
         }
         Ok(())
     }
 
-    /// Calls a member that answers by a stream, and takes the first that it gives.
+    /// Calls a member that answers by a stream, and takes the first that it gives; where it gives none soon the others
+    /// in turn, and once more with all patience where none does, as all may be slow: for what may be done twice.
     pub(super) async fn first<T: DeserializeOwned>(
         &self,
         path: &str,
         asked: &impl Serialize,
     ) -> Result<T, CallError> {
-        self.patiently(async { self.stream(path, asked).await?.next().await })
-            .await
+        let call = |member| async move {
+            let found = self.send(member, path, asked).await?;
+            Stream::new(found.into_body()).next().await
+        };
+        let patience = self.access.patience;
+        match self.in_turn(patience.min(BRIEF), &call).await {
+            Err(CallError::Unknown(_)) => self.reach(patience, &call).await,
+            found => found,
+        }
     }
 
-    /// Calls a member that answers by a stream.
-    pub(super) async fn stream(
+    /// Has this member, and no other, tell changes by a stream, which it begins soon or not at all.
+    pub(super) async fn watch(
         &self,
-        path: &str,
+        member: usize,
         asked: &impl Serialize,
     ) -> Result<Stream, CallError> {
-        self.send(path, asked)
-            .await
-            .map(|it| Stream::new(it.into_body()))
+        let found = within(SHORT, self.send(member, WATCH, asked)).await?;
+        Ok(Stream::new(found.into_body()))
     }
 
-    async fn patiently<T>(
+    /// Whether this member, and no other for it, answers the next question after a key: it has to ask most members, so
+    /// one that reaches no leader, or whose disk hangs, is found too.
+    pub(super) async fn is_well(&self, member: usize, key: &[u8]) -> bool {
+        let question = async {
+            let asked = Range::counting(key);
+            match within(SHORT, self.ask::<IgnoredAny>(member, RANGE, &asked)).await {
+                Ok(_) => true,
+                // To whom it isn't shown it is refused after the others were asked.
+                Err(CallError::Refused(it)) => it.is_of_user(),
+                Err(_) => false,
+            }
+        };
+        self.pulses[member].is_felt(question).await
+    }
+
+    /// Has a member do this, and where it doesn't answer the others in turn, with this patience for each.
+    async fn in_turn<T, F: Future<Output = Result<T, CallError>>>(
         &self,
-        call: impl Future<Output = Result<T, CallError>>,
+        patience: Duration,
+        call: &impl Fn(usize) -> F,
     ) -> Result<T, CallError> {
-        within(self.access.patience, call).await
+        let mut left = self.members.len();
+        loop {
+            left -= 1;
+            match self.reach(patience, call).await {
+                Err(CallError::Unknown(_)) if left > 0 => {}
+                found => return found,
+            }
+        }
     }
 
-    /// Sends a call with the user's token, with a new one where that has ended.
-    async fn send(&self, path: &str, asked: &impl Serialize) -> Result<Response<Body>, CallError> {
+    /// Has the first member that can be reached do this, with this patience for the search too. The next call goes to
+    /// another one where it doesn't answer.
+    async fn reach<T, F: Future<Output = Result<T, CallError>>>(
+        &self,
+        patience: Duration,
+        call: &impl Fn(usize) -> F,
+    ) -> Result<T, CallError> {
+        let end = Instant::now() + patience;
+        let mut last = String::new();
+        for _ in &self.members {
+            let member = self.current();
+            let found = timeout_at(end, call(member)).await;
+            match found.unwrap_or_else(|_| Err(CallError::late())) {
+                Err(CallError::Unreachable(why)) => last = why,
+                Err(CallError::Unknown(why)) => {
+                    self.pass_over(member);
+                    return Err(CallError::Unknown(why));
+                }
+                found => return found,
+            }
+            self.pass_over(member);
+        }
+        Err(CallError::Unreachable(last))
+    }
+
+    /// Asks this member, and no other.
+    async fn ask<T: DeserializeOwned>(
+        &self,
+        member: usize,
+        path: &str,
+        asked: &impl Serialize,
+    ) -> Result<T, CallError> {
+        read(&whole(self.send(member, path, asked).await?).await?)
+    }
+
+    /// Sends a member a call with the user's token, with a new one where that has ended.
+    async fn send(
+        &self,
+        member: usize,
+        path: &str,
+        asked: &impl Serialize,
+    ) -> Result<Response<Body>, CallError> {
         let bytes =
             serde_json::to_vec(asked).map_err(|error| CallError::Unreachable(error.to_string()))?;
-        match self.post(path, bytes.clone()).await {
+        match self.post(member, path, bytes.clone()).await {
             Err(CallError::Refused(it)) if it.is_of_token() && self.access.user.is_some() => {
-                self.authenticate().await?;
-                self.post(path, bytes).await
+                self.authenticate(member).await?;
+                self.post(member, path, bytes).await
             }
             found => found,
         }
     }
 
-    async fn authenticate(&self) -> Result<(), CallError> {
+    async fn authenticate(&self, member: usize) -> Result<(), CallError> {
         let Some((name, password)) = &self.access.user else {
             return Ok(());
         };
         let asked = serde_json::to_vec(&Credentials { name, password })
             .map_err(|error| CallError::Unreachable(error.to_string()))?;
-        let found: Authenticated =
-            read(&whole(self.post("/v3/auth/authenticate", asked).await?).await?)?;
+        let found = self.post(member, "/v3/auth/authenticate", asked).await?;
+        let found: Authenticated = read(&whole(found).await?)?;
         *self.token() = Some(found.token);
         Ok(())
     }
@@ -166,7 +243,8 @@ impl Gateway {
             .unwrap_or_else(std::sync::PoisonError::into_inner)
     }
 
-    fn current(&self) -> usize {
+    /// The member that the next call goes to.
+    pub(super) fn current(&self) -> usize {
         self.current.load(Ordering::Relaxed)
     }
 
@@ -179,31 +257,20 @@ impl Gateway {
             .compare_exchange(member, next, Ordering::Relaxed, Ordering::Relaxed);
     }
 
-    /// Has the next call go to another member than the last one.
-    pub(super) fn pass_over_current(&self) {
-        self.pass_over(self.current());
-    }
-
-    /// Posts to the first member that can be reached.
-    async fn post(&self, path: &str, asked: Vec<u8>) -> Result<Response<Body>, CallError> {
-        let mut last = String::new();
-        for _ in &self.members {
-            let member = self.current();
-            match self
-                .client
-                .request(self.request(member, path, asked.clone())?)
-                .await
-            {
-                Ok(found) if found.status().is_success() => return Ok(found),
-                Ok(found) => return Err(refusal(found).await),
-                Err(error) if error.is_connect() => {
-                    last = error.to_string();
-                    self.pass_over(member);
-                }
-                Err(error) => return Err(CallError::Unknown(error.to_string())),
-            }
+    /// Posts to this member.
+    async fn post(
+        &self,
+        member: usize,
+        path: &str,
+        asked: Vec<u8>,
+    ) -> Result<Response<Body>, CallError> {
+        let request = self.request(member, path, asked)?;
+        match self.client.request(request).await {
+            Ok(found) if found.status().is_success() => Ok(found),
+            Ok(found) => Err(refusal(found).await),
+            Err(error) if error.is_connect() => Err(CallError::Unreachable(error.to_string())),
+            Err(error) => Err(CallError::Unknown(error.to_string())),
         }
-        Err(CallError::Unreachable(last))
     }
 
     fn request(
@@ -212,11 +279,8 @@ impl Gateway {
         path: &str,
         asked: Vec<u8>,
     ) -> Result<Request<Body>, CallError> {
-        let mut request = Request::post(format!(
-            "{}{path}",
-            self.members[member % self.members.len()]
-        ))
-        .header(header::CONTENT_TYPE, "application/json");
+        let mut request = Request::post(format!("{}{path}", self.members[member]))
+            .header(header::CONTENT_TYPE, "application/json");
         if path == WATCH {
             request = request.header(HAS_LEADER.0, HAS_LEADER.1);
         }
@@ -234,8 +298,8 @@ async fn within<T>(
     patience: Duration,
     call: impl Future<Output = Result<T, CallError>>,
 ) -> Result<T, CallError> {
-    let late = |_| CallError::Unknown("no member answered in time".to_owned());
-    timeout(patience, call).await.map_err(late)?
+    let found = timeout(patience, call).await;
+    found.unwrap_or_else(|_| Err(CallError::late()))
 }
 
 /// All that a member answers, which is no more than it may be.

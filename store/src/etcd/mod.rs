@@ -2,6 +2,7 @@
 mod access;
 mod call_error;
 mod gateway;
+mod pulse;
 mod stream;
 mod tls;
 mod watching;
@@ -14,7 +15,7 @@ use crate::{
     Transaction, Watch, Watcher, WriteError,
 };
 use call_error::CallError;
-use gateway::Gateway;
+use gateway::{Gateway, RANGE};
 use serde::de::IgnoredAny;
 use std::fmt;
 use std::future::Future;
@@ -222,7 +223,7 @@ async fn read_all(gateway: &Gateway, prefix: &[u8]) -> Result<Reading, ReadError
     loop {
         let asked = Range::page(&from, prefix, PAGE, found.revision);
         let page = gateway
-            .again::<RangeResult>("/v3/kv/range", &asked)
+            .again::<RangeResult>(RANGE, &asked)
             .await
             .map_err(CallError::of_read)?;
         if found.revision == Revision::NEVER {
@@ -239,7 +240,7 @@ async fn read_all(gateway: &Gateway, prefix: &[u8]) -> Result<Reading, ReadError
 
 /// Reads this range at the present.
 async fn read_range(gateway: &Gateway, asked: &Range) -> Result<Reading, ReadError> {
-    let found = gateway.again::<RangeResult>("/v3/kv/range", asked).await;
+    let found = gateway.again::<RangeResult>(RANGE, asked).await;
     let found = found.map_err(CallError::of_read)?;
     Ok(Reading {
         revision: found.revision(),
@@ -257,7 +258,7 @@ async fn read_keys(
     loop {
         let asked = Range::keys(&from, end, KEYS);
         let page = gateway
-            .again::<RangeResult>("/v3/kv/range", &asked)
+            .again::<RangeResult>(RANGE, &asked)
             .await
             .map_err(CallError::of_read)?;
         let has_more = page.more;

@@ -1,9 +1,14 @@
-use super::gateway::{Gateway, WATCH};
+use super::gateway::Gateway;
+use super::pulse::QUIET;
 use super::read_all;
 use super::wire::{Streamed, WatchRequest, WatchResult};
 use crate::{Change, Reading, Revision, Seen, Watcher};
+use std::future::{poll_fn, Future};
+use std::pin::pin;
 use std::sync::Arc;
+use std::task::Poll;
 use std::time::Duration;
+use tokio::time::sleep;
 
 /// How long is waited before a watch that ended is asked for again.
 const PAUSE: Duration = Duration::from_millis(100);
@@ -26,34 +31,37 @@ pub(super) async fn watch(
     let mut moment = reading.revision;
     watcher(Seen::All(reading));
     loop {
-        if let Ended::Forgotten = follow(&gateway, &prefix, &mut moment, &mut watcher).await {
+        let member = gateway.current();
+        let ended = follow(&gateway, member, &prefix, &mut moment, &mut watcher).await;
+        if let Ended::Forgotten = ended {
             if let Ok(reading) = read_all(&gateway, &prefix).await {
                 moment = reading.revision;
                 watcher(Seen::All(reading));
             }
         }
-        gateway.pass_over_current();
-        tokio::time::sleep(PAUSE).await;
+        gateway.pass_over(member);
+        sleep(PAUSE).await;
     }
 }
 
-/// Follows a member from this moment on, until it ends.
+/// Follows this member from this moment on, until it ends.
 async fn follow(
     gateway: &Gateway,
+    member: usize,
     prefix: &[u8],
     moment: &mut Revision,
     watcher: &mut Watcher,
 ) -> Ended {
-    let Ok(mut stream) = gateway
-        .stream(WATCH, &WatchRequest::after(prefix, *moment))
-        .await
-    else {
+    let asked = WatchRequest::after(prefix, *moment);
+    let Ok(mut stream) = gateway.watch(member, &asked).await else {
         return Ended::Lost;
     };
     loop {
-        let Ok(Streamed {
+        let silence = until_lost(gateway, member, prefix);
+        let found = before(stream.next::<Streamed<WatchResult>>(), silence).await;
+        let Some(Ok(Streamed {
             result: Some(found),
-        }) = stream.next::<Streamed<WatchResult>>().await
+        })) = found
         else {
             return Ended::Lost;
         };
@@ -66,4 +74,20 @@ async fn follow(
             watcher(Seen::Changes(*moment, changes));
         }
     }
+}
+
+/// Waits until a member whose stream is silent isn't well: one that hangs with its connection open ends no stream.
+async fn until_lost(gateway: &Gateway, member: usize, key: &[u8]) {
+    sleep(QUIET).await;
+    while gateway.is_well(member, key).await {}
+}
+
+/// What this gives, unless that has come to its end before.
+async fn before<T>(gives: impl Future<Output = T>, end: impl Future<Output = ()>) -> Option<T> {
+    let (mut gives, mut end) = (pin!(gives), pin!(end));
+    poll_fn(|context| match gives.as_mut().poll(context) {
+        Poll::Ready(found) => Poll::Ready(Some(found)),
+        Poll::Pending => end.as_mut().poll(context).map(|()| None),
+    })
+    .await
 }

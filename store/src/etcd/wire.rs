@@ -75,13 +75,16 @@ enum Operation {
 impl Operation {
     /// Reads a key at this moment; at the present where it is `NEVER`.
     fn read(key: &[u8], moment: Revision) -> Operation {
-        Operation::Read(Range::one(key, moment, false))
+        Operation::Read(Range {
+            revision: moment.0,
+            ..Range::part(key, &[], 0)
+        })
     }
 
     /// Has a member ask who leads before it answers: it answers a transaction that only compares by what it has itself,
     /// which may be behind what others were told.
     fn ask(key: &[u8]) -> Operation {
-        Operation::Read(Range::one(key, Revision::NEVER, true))
+        Operation::Read(Range::counting(key))
     }
 }
 
@@ -103,13 +106,11 @@ pub(super) struct Range {
 }
 
 impl Range {
-    /// What lies at one key, or whether anything does.
-    fn one(key: &[u8], moment: Revision, count_only: bool) -> Range {
+    /// Whether this key is there, at the present.
+    pub(super) fn counting(key: &[u8]) -> Range {
         Range {
-            key: key.to_vec(),
-            revision: moment.0,
-            count_only,
-            ..Range::default()
+            count_only: true,
+            ..Range::part(key, &[], 0)
         }
     }
 

@@ -11,6 +11,8 @@ use std::sync::atomic::{AtomicU32, Ordering};
 use std::thread;
 use std::time::{Duration, Instant};
 
+pub mod relay;
+
 /// How long an answer is waited for, on a machine that may be busy.
 pub const PATIENCE: Duration = Duration::from_secs(30);
 
@@ -57,18 +59,36 @@ pub struct Member {
 impl Member {
     /// One, where etcd is installed.
     pub fn start(options: &[&str]) -> Option<Member> {
-        let member = Member::begin(format!("http://127.0.0.1:{}", free_port()), options)?;
+        let member = Member::begin(address(), address(), options)?;
         member.wait_until_up();
         Some(member)
     }
 
-    /// One that speaks TLS by these options; it may not be up yet.
-    pub fn start_with_tls(options: &[&str]) -> Option<Member> {
-        Member::begin(format!("https://localhost:{}", free_port()), options)
+    /// A cluster of as many as this, where etcd is installed.
+    pub fn start_cluster(members: usize) -> Option<Vec<Member>> {
+        let peers: Vec<_> = (0..members).map(|_| address()).collect();
+        let named = peers.iter().enumerate();
+        let all: Vec<_> = named.map(|(at, it)| format!("m{at}={it}")).collect();
+        let all = all.join(",");
+        let begin = |(at, peer): (usize, &String)| {
+            let options = ["--name", &format!("m{at}"), "--initial-cluster", &all];
+            Member::begin(address(), peer.clone(), &options)
+        };
+        let members: Option<Vec<_>> = peers.iter().enumerate().map(begin).collect();
+        members.inspect(|it| it.iter().for_each(Member::wait_until_up))
     }
 
-    fn begin(endpoint: String, options: &[&str]) -> Option<Member> {
-        let (folder, peer) = (Folder::new(), format!("http://127.0.0.1:{}", free_port()));
+    /// One that speaks TLS by these options; it may not be up yet.
+    pub fn start_with_tls(options: &[&str]) -> Option<Member> {
+        Member::begin(
+            format!("https://localhost:{}", free_port()),
+            address(),
+            options,
+        )
+    }
+
+    fn begin(endpoint: String, peer: String, options: &[&str]) -> Option<Member> {
+        let folder = Folder::new();
         let options: Vec<_> = options.iter().map(|it| it.to_string()).collect();
         let process = run(&folder, &endpoint, &peer, &options)?;
         Some(Member {
@@ -91,6 +111,22 @@ impl Member {
     pub fn kill(&mut self) {
         let _ = self.process.kill();
         let _ = self.process.wait();
+    }
+
+    /// Has it hang, with its connections open.
+    pub fn stop(&self) {
+        self.signal("-STOP");
+    }
+
+    /// Has it go on.
+    pub fn go_on(&self) {
+        self.signal("-CONT");
+    }
+
+    fn signal(&self, signal: &str) {
+        let process = self.process.id().to_string();
+        let sent = Command::new("kill").args([signal, &process]).status();
+        assert!(sent.is_ok_and(|it| it.success()), "it runs");
     }
 
     fn wait_until_up(&self) {
@@ -152,6 +188,11 @@ impl Drop for Member {
     fn drop(&mut self) {
         self.kill();
     }
+}
+
+/// One on loopback that nobody has.
+fn address() -> String {
+    format!("http://127.0.0.1:{}", free_port())
 }
 
 pub fn free_port() -> u16 {

@@ -1,0 +1,58 @@
+use std::io::{Read, Write};
+use std::net::{Shutdown, TcpListener, TcpStream};
+use std::sync::{Arc, Mutex, PoisonError};
+use std::thread;
+
+/// Passes on what is sent to a member, and holds what was.
+pub struct Relay {
+    pub endpoint: String,
+    sent: Arc<Mutex<Vec<u8>>>,
+}
+
+impl Relay {
+    /// One before the member at this address.
+    pub fn before(endpoint: &str) -> Relay {
+        let listener = TcpListener::bind(("127.0.0.1", 0)).expect("a port");
+        let own = listener.local_addr().expect("its address");
+        let member = endpoint.trim_start_matches("http://").to_owned();
+        let sent = Arc::new(Mutex::new(Vec::new()));
+        let noted = Arc::clone(&sent);
+        thread::spawn(move || {
+            for client in listener.incoming() {
+                let (client, noted) = (client.expect("a caller"), Arc::clone(&noted));
+                let member = TcpStream::connect(&member).expect("it listens");
+                let (back, to) = (member.try_clone().expect("it"), client.try_clone());
+                let to = to.expect("it");
+                thread::spawn(move || pass(client, member, |some| lock(&noted).extend(some)));
+                thread::spawn(move || pass(back, to, |_| {}));
+            }
+        });
+        let endpoint = format!("http://{own}");
+        Relay { endpoint, sent }
+    }
+
+    /// How many calls of this path were sent.
+    pub fn calls(&self, path: &str) -> usize {
+        let sent = lock(&self.sent);
+        String::from_utf8_lossy(&sent)
+            .matches(&format!("POST {path} "))
+            .count()
+    }
+}
+
+fn lock(sent: &Mutex<Vec<u8>>) -> std::sync::MutexGuard<'_, Vec<u8>> {
+    sent.lock().unwrap_or_else(PoisonError::into_inner)
+}
+
+/// Passes on all that comes, until either end hangs up.
+fn pass(mut from: TcpStream, mut to: TcpStream, mut note: impl FnMut(&[u8])) {
+    let mut some = [0; 4_096];
+    while let Ok(length @ 1..) = from.read(&mut some) {
+        note(&some[..length]);
+        if to.write_all(&some[..length]).is_err() {
+            break;
+        }
+    }
+    let _ = to.shutdown(Shutdown::Both);
+    let _ = from.shutdown(Shutdown::Both);
+}
