@@ -260,6 +260,11 @@ uint32_t durkenzo_map(durkenzo_handle *map);
 /* Writes how many keys of the map hold something. Error: WRONG_HANDLE. */
 uint32_t durkenzo_map_length(durkenzo_handle *map, uint64_t *length);
 
+/* Writes what the key of the map holds: the parts, as for a request of kind 1, and a text into `room` bytes where that
+ * is room enough; no reply is kept. Errors: WRONG_HANDLE, KEY_EMPTY, KEY_TOO_LONG. */
+uint32_t durkenzo_get(durkenzo_handle *map, const uint8_t *key, size_t key_length, uint8_t *into, size_t room,
+                      durkenzo_parts *parts);
+
 /* Makes this request of the map. The reply's handle keeps the reply, in place of what it kept, and its parts are
  * written. Errors: WRONG_HANDLE, BAD_ARGUMENT (the kind, or `amount` of a scan), KEY_EMPTY, KEY_TOO_LONG, NO_MEMORY. */
 uint32_t durkenzo_ask(durkenzo_handle *map, durkenzo_handle *reply, uint8_t kind, const uint8_t *key, size_t key_length,

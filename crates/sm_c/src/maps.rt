@@ -1,10 +1,10 @@
 //! Maps of the sample service.
 ghost use Rattle.std.specs.Prelude.{◌≡◌, ◌≢◌};
-ghost use Rattle.sm_handle.specs.Maps.{IsEmptyMap, Replied};
+ghost use Rattle.sm_handle.specs.Maps.{IsEmptyMap, Replied, WritesHeld};
 ghost use Rattle.sm_c.specs.Requests.{AsksMap, CountsKeys};
 
 use crate::codes::{NO_MEMORY, code_of_act, code_of_request};
-use crate::requests::request_of;
+use crate::requests::{lent_key_of, lent_request_of};
 use sm_handle::{Handle, ReplyParts};
 use std::alloc::Global;
 
@@ -36,6 +36,31 @@ pub extern "C" fn durkenzo_map_length(map: &mut Handle, length: &mut u64) -> u32
     }
 }
 
+/// Writes what the key of the map holds: the parts, and a text in front of the room, where it has room for all of it.
+#[unsafe(no_mangle)]
+pub extern "C" fn durkenzo_get(
+    map: &mut Handle,
+    key: &[u8],
+    into: &mut [u8],
+    parts: &mut ReplyParts,
+) -> u32
+    ensures held { result ≡ 0 → WritesHeld map.old.owned.state key.now into.new parts.new }
+    ensures unwritten { result ≢ 0 → (into.new ≡ into.old) × (parts.new ≡ parts.old) }
+    ensures unchanged { map.new.owned.state ≡ map.old.owned.state }
+{
+    let key = match lent_key_of(key) {
+        Ok(key) => key,
+        Err(fault) => return code_of_request(fault),
+    };
+    match map.get(key, into) {
+        Ok(held) => {
+            *parts = held;
+            0
+        }
+        Err(fault) => code_of_act(fault),
+    }
+}
+
 /// Makes the request of this kind of the map. The reply's handle keeps the reply, in place of what
 /// it kept, and its parts are written.
 #[unsafe(no_mangle)]
@@ -55,11 +80,11 @@ pub extern "C" fn durkenzo_ask(
     ensures kept { result ≢ 0 → map.new.owned.state ≡ map.old.owned.state }
     ensures unwritten { result ≢ 0 → (reply.new.owned.state ≡ reply.old.owned.state) × (parts.new ≡ parts.old) }
 {
-    let request = match request_of(alloc, kind, key, other, amount) {
+    let request = match lent_request_of(kind, key, other, amount) {
         Ok(request) => request,
         Err(fault) => return code_of_request(fault),
     };
-    match map.ask(alloc, reply, &request) {
+    match map.ask(alloc, reply, request) {
         Ok(made) => {
             *parts = made;
             0

@@ -1,9 +1,10 @@
 //! Requests of the sample service by their parts.
 ghost use Rattle.std.specs.Prelude.{◌≡◌, IfOk};
 ghost use Rattle.sm_c.specs.Requests.{HasParts};
+ghost use Rattle.sm_service.specs.LentRequest.{request_lent};
 
 use sm_ranges::key::{Key, KeyFault};
-use sm_service::{Bytes, Request};
+use sm_service::{Bytes, LentRequest, Request};
 use std::alloc::Global;
 
 /// Why parts are no request.
@@ -39,6 +40,42 @@ pub(crate) fn request_of(
             Ok(Request::Scan(key, key_of(alloc, other)?, most))
         }
         _ => Err(RequestFault::Argument),
+    }
+}
+
+/// The request of this kind with these parts, which are lent to it.
+pub(crate) fn lent_request_of<'a>(
+    kind: u8,
+    key: &'a [u8],
+    other: &'a [u8],
+    amount: i64,
+) -> Result<LentRequest<'a>, RequestFault>
+    ensures { IfOk result (λ made. HasParts kind key.now other.now amount (request_lent made)) }
+{
+    let key = lent_key_of(key)?;
+    match kind {
+        1 => Ok(LentRequest::Get(key)),
+        2 => Ok(LentRequest::Put(key, other)),
+        3 => Ok(LentRequest::Append(key, other)),
+        4 => Ok(LentRequest::Inc(key, amount)),
+        5 => Ok(LentRequest::Del(key)),
+        6 => {
+            let Ok(most) = u32::try_from(amount) else {
+                return Err(RequestFault::Argument);
+            };
+            Ok(LentRequest::Scan(key, lent_key_of(other)?, most))
+        }
+        _ => Err(RequestFault::Argument),
+    }
+}
+
+/// The bytes, where they are a key.
+pub(crate) fn lent_key_of(bytes: &[u8]) -> Result<&[u8], RequestFault>
+    ensures { IfOk result (λ key. key.now ≡ bytes.now) }
+{
+    match Key::fault_of(bytes) {
+        None => Ok(bytes),
+        Some(fault) => Err(RequestFault::Key(fault)),
     }
 }
 

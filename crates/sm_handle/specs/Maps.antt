@@ -1,6 +1,6 @@
 -- Maps of the sample service, and their replies, that handles keep.
-use Rattle.std.specs.Prelude.{ℕ, ◌≡◌, List, [], length, slice_get, take, Option, Some, None}
-use Rattle.sm_map.specs.KeyMap.{KeyPair, KeyValue, Text as HeldText, Count as HeldCount}
+use Rattle.std.specs.Prelude.{ℕ, ◌≡◌, ◌≤◌, List, [], length, slice_get, take, Option, Some, None}
+use Rattle.sm_map.specs.KeyMap.{KeyPair, KeyValue, Text as HeldText, Count as HeldCount, held_at}
 use Rattle.sm_service.specs.Service.{reply as reply_of, after as map_after}
 use Rattle.sm_service.specs.declared.reply.Reply.{Reply as ReplyValue}
 use Rattle.sm_service.specs.declared.reply.Reply.TheVariants.{Nothing, Done, Text, Count, Pairs}
@@ -21,6 +21,24 @@ MakesReply (Some (Map before)) (Some (Map after)) request (Some (Reply made)) =
     (made ≡ reply_of before.value request) × (after.value ≡ map_after before.value request)
 MakesReply before after request made = ⊥
 
+-- the parts are those of what a key held
+abbrev pub AreValueParts : ReplyParts → KeyValue → Type 0
+AreValueParts parts (HeldText text) = (parts.kind ≡ 2) × (parts.length ≡ length text)
+AreValueParts parts (HeldCount count) = (parts.kind ≡ 3) × (parts.count ≡ count)
+
+-- the parts are those of what a key holds, or that it holds nothing; a text stands in front of these bytes, where they
+-- are as many
+abbrev pub IsHeldIn : Option KeyValue → List ℕ → ReplyParts → Type 0
+IsHeldIn None written parts = parts.kind ≡ 0
+IsHeldIn (Some (HeldCount count)) written parts = AreValueParts parts (HeldCount count)
+IsHeldIn (Some (HeldText text)) written parts =
+    AreValueParts parts (HeldText text) × (length text ≤ length written → take (length text) written ≡ text)
+
+-- the same of this key of the map that the handle keeps
+abbrev pub WritesHeld : Option HandleState → List ℕ → List ℕ → ReplyParts → Type 0
+WritesHeld (Some (Map map)) key written parts = IsHeldIn (held_at map.value key) written parts
+WritesHeld state key written parts = ⊥
+
 -- the handle keeps a map in which so many keys hold something
 abbrev pub HoldsKeys : Option HandleState → ℕ → Type 0
 HoldsKeys (Some (Map map)) count = count ≡ length map.value
@@ -36,11 +54,6 @@ AreReplyParts parts (Pairs pairs) = (parts.kind ≡ 4) × (parts.length ≡ leng
 AreReplyParts parts WrongKind = parts.kind ≡ 5
 AreReplyParts parts Overflow = parts.kind ≡ 6
 AreReplyParts parts TooLong = parts.kind ≡ 7
-
--- the parts are those of what a key held
-abbrev pub AreValueParts : ReplyParts → KeyValue → Type 0
-AreValueParts parts (HeldText text) = (parts.kind ≡ 2) × (parts.length ≡ length text)
-AreValueParts parts (HeldCount count) = (parts.kind ≡ 3) × (parts.count ≡ count)
 
 -- the reply that the handle keeps
 abbrev pub reply_kept : Option HandleState → Option ReplyValue

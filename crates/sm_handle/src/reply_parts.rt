@@ -42,7 +42,7 @@ impl ReplyParts {
         }
     }
 
-    fn bare(kind: u8) -> ReplyParts
+    pub(crate) fn bare(kind: u8) -> ReplyParts
         ensures { result.kind ≡ kind }
     {
         ReplyParts::long(kind, 0)

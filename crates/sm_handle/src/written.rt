@@ -1,7 +1,17 @@
 //! Bytes for a caller.
-ghost use Rattle.std.specs.Prelude.{◌≡◌, IfErr, IfOk, take};
+ghost use Rattle.std.specs.Prelude.{◌≡◌, ◌≤◌, IfErr, IfOk, length, take};
 
 use crate::act_fault::ActFault;
+
+/// Writes the bytes to the front of the caller's room, where it has room for all of them.
+pub fn write_where_it_fits(bytes: &[u8], into: &mut [u8])
+    ensures { length bytes.now ≤ length into.new → take (length bytes.now) into.new ≡ bytes.now }
+{
+    if bytes.len() <= into.len() {
+        let (room, _) = into.split_at_mut(bytes.len());
+        room.copy_from_slice(bytes);
+    }
+}
 
 /// Writes the bytes to the front of the caller's room: their number; or says that the room is too short, and nothing is
 /// written.

@@ -1,2 +1,3 @@
+pub mod LentRequest
 pub mod Pairs
 pub mod Service

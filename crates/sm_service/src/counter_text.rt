@@ -1,7 +1,11 @@
-ghost use Rattle.std.specs.Prelude.{◌≡◌, IfOk, OnOk, OnErr, length};
+ghost use Rattle.std.specs.Prelude.{◌≡◌, IfOk, OnOk, OnErr, length, option_map};
+ghost use Rattle.sm_map.specs.KeyMap.{held_at};
+ghost use Rattle.sm_map.specs.Val.{held_of};
+ghost use Rattle.sm_service.specs.LentRequest.{request_lent};
 ghost use Rattle.sm_service.specs.Service.{key_of_request, reply, after, sum_of};
 
 use crate::bytes::Bytes;
+use crate::lent_request::LentRequest;
 use crate::pair_list::PairList;
 use crate::reply::Reply;
 use crate::request::Request;
@@ -9,7 +13,6 @@ use sm_body::logged::Logged;
 use sm_body::machine::Machine;
 use sm_map::arena_map::ArenaMap;
 use sm_map::val::Val;
-use sm_ranges::key::Key;
 use std::alloc::{AllocError, Global};
 use std::marker::Model;
 
@@ -74,23 +77,7 @@ impl Machine for KeyMachine {
     }
 
     fn answer(&mut self, alloc: Global, request: &Request) -> Result<Reply, AllocError> {
-        match request {
-            Request::Get(key) => get(alloc, &self.map, key),
-            Request::Put(key, text) => {
-                self.drop_the_dead(alloc);
-                put(&mut self.map, key, text)
-            }
-            Request::Append(key, tail) => {
-                self.drop_the_dead(alloc);
-                append(&mut self.map, key, tail)
-            }
-            Request::Inc(key, amount) => {
-                self.drop_the_dead(alloc);
-                inc(&mut self.map, key, *amount)
-            }
-            Request::Del(key) => Ok(del(&mut self.map, key)),
-            Request::Scan(low, high, most) => scan(alloc, &self.map, low, high, *most),
-        }
+        self.answer_lent(alloc, request.lend())
     }
 
     fn rebuild(&mut self, _: Global) -> Result<(), AllocError> {
@@ -100,6 +87,42 @@ impl Machine for KeyMachine {
 }
 
 impl KeyMachine {
+    /// Answers the request whose parts are lent, or changes nothing where memory is refused.
+    pub fn answer_lent(
+        &mut self,
+        alloc: Global,
+        request: LentRequest<'_>,
+    ) -> Result<Reply, AllocError>
+        ensures reply { IfOk result (λ made. made ≡ reply self.old (request_lent request.entry)) }
+        ensures after { OnOk result (self.new ≡ after self.old (request_lent request.entry)) }
+        ensures err { OnErr result (self.new ≡ self.old) }
+    {
+        match request {
+            LentRequest::Get(key) => get(alloc, &self.map, key),
+            LentRequest::Put(key, text) => {
+                self.drop_the_dead(alloc);
+                put(&mut self.map, key, text)
+            }
+            LentRequest::Append(key, tail) => {
+                self.drop_the_dead(alloc);
+                append(&mut self.map, key, tail)
+            }
+            LentRequest::Inc(key, amount) => {
+                self.drop_the_dead(alloc);
+                inc(&mut self.map, key, amount)
+            }
+            LentRequest::Del(key) => Ok(del(&mut self.map, key)),
+            LentRequest::Scan(low, high, most) => scan(alloc, &self.map, low, high, most),
+        }
+    }
+
+    /// What the key holds, where it lies.
+    pub fn held(&self, key: &[u8]) -> Option<Val<'_>>
+        ensures { option_map held_of result ≡ held_at self.now key.now }
+    {
+        self.map.get(key)
+    }
+
     /// How many keys hold something.
     pub fn len(&self) -> u128
         ensures { result ≡ length self.now }
@@ -122,38 +145,38 @@ impl KeyMachine {
     }
 }
 
-fn get(alloc: Global, map: &ArenaMap, key: &Key) -> Result<Reply, AllocError>
+fn get(alloc: Global, map: &ArenaMap, key: &[u8]) -> Result<Reply, AllocError>
     ensures { IfOk result (λ made. made ≡ reply map.now.pairs (Request.Get key.now)) }
 {
-    match map.get(key.as_bytes()) {
+    match map.get(key) {
         None => Ok(Reply::Nothing),
         Some(Val::Text(text)) => Ok(Reply::Text(Bytes::new(alloc, text)?)),
         Some(Val::Count(count)) => Ok(Reply::Count(count)),
     }
 }
 
-fn put(map: &mut ArenaMap, key: &Key, text: &Bytes) -> Result<Reply, AllocError>
+fn put(map: &mut ArenaMap, key: &[u8], text: &[u8]) -> Result<Reply, AllocError>
     ensures reply { IfOk result (λ made. made ≡ reply map.old.pairs (Request.Put key.now text.now)) }
     ensures after { OnOk result (map.new.pairs ≡ after map.old.pairs (Request.Put key.now text.now)) }
     ensures err { OnErr result (map.new ≡ map.old) }
 {
-    let position = map.locate(key.as_bytes());
+    let position = map.locate(key);
     if let Some(Val::Count(_)) = map.get_at(position) {
         return Ok(Reply::WrongKind);
     }
-    if text.as_bytes().len() > MAX_TEXT {
+    if text.len() > MAX_TEXT {
         return Ok(Reply::TooLong);
     }
-    map.put_at(position, Val::Text(text.as_bytes()))?;
+    map.put_at(position, Val::Text(text))?;
     Ok(Reply::Done)
 }
 
-fn inc(map: &mut ArenaMap, key: &Key, amount: i64) -> Result<Reply, AllocError>
+fn inc(map: &mut ArenaMap, key: &[u8], amount: i64) -> Result<Reply, AllocError>
     ensures reply { IfOk result (λ made. made ≡ reply map.old.pairs (Request.Inc key.now amount)) }
     ensures after { OnOk result (map.new.pairs ≡ after map.old.pairs (Request.Inc key.now amount)) }
     ensures err { OnErr result (map.new ≡ map.old) }
 {
-    let position = map.locate(key.as_bytes());
+    let position = map.locate(key);
     let sum = match map.get_at(position) {
         None => amount,
         Some(Val::Text(_)) => return Ok(Reply::WrongKind),
@@ -166,29 +189,29 @@ fn inc(map: &mut ArenaMap, key: &Key, amount: i64) -> Result<Reply, AllocError>
     Ok(Reply::Count(sum))
 }
 
-fn append(map: &mut ArenaMap, key: &Key, tail: &Bytes) -> Result<Reply, AllocError>
+fn append(map: &mut ArenaMap, key: &[u8], tail: &[u8]) -> Result<Reply, AllocError>
     ensures reply { IfOk result (λ made. made ≡ reply map.old.pairs (Request.Append key.now tail.now)) }
     ensures after { OnOk result (map.new.pairs ≡ after map.old.pairs (Request.Append key.now tail.now)) }
     ensures err { OnErr result (map.new ≡ map.old) }
 {
-    let position = map.locate(key.as_bytes());
+    let position = map.locate(key);
     let length = match map.get_at(position) {
         None => return put(map, key, tail),
         Some(Val::Count(_)) => return Ok(Reply::WrongKind),
         Some(Val::Text(text)) => text.len(),
     };
-    if length + tail.as_bytes().len() > MAX_TEXT {
+    if length + tail.len() > MAX_TEXT {
         return Ok(Reply::TooLong);
     }
-    map.append_at(position, tail.as_bytes())?;
+    map.append_at(position, tail)?;
     Ok(Reply::Done)
 }
 
-fn del(map: &mut ArenaMap, key: &Key) -> Reply
+fn del(map: &mut ArenaMap, key: &[u8]) -> Reply
     ensures reply { result ≡ reply map.old.pairs (Request.Del key.now) }
     ensures after { map.new.pairs ≡ after map.old.pairs (Request.Del key.now) }
 {
-    if map.remove(key.as_bytes()) {
+    if map.remove(key) {
         Reply::Done
     } else {
         Reply::Nothing
@@ -198,14 +221,14 @@ fn del(map: &mut ArenaMap, key: &Key) -> Reply
 fn scan(
     alloc: Global,
     map: &ArenaMap,
-    low: &Key,
-    high: &Key,
+    low: &[u8],
+    high: &[u8],
     most: u32,
 ) -> Result<Reply, AllocError>
     ensures { IfOk result (λ made. made ≡ reply map.now.pairs (Request.Scan low.now high.now most)) }
 {
     let count = (most as usize).min(MAX_SCANNED);
-    let rows = map.scan(low.as_bytes(), high.as_bytes(), count)?;
+    let rows = map.scan(low, high, count)?;
     Ok(Reply::Pairs(PairList::new(alloc, &rows)?))
 }
 

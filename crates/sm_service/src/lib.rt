@@ -12,6 +12,7 @@
 
 pub mod counter_text;
 mod held;
+pub mod lent_request;
 pub mod pair;
 pub mod pair_list;
 pub mod reply;
@@ -19,6 +20,7 @@ pub mod request;
 
 pub use bytes::Bytes;
 pub use counter_text::{CounterText, KeyMachine};
+pub use lent_request::LentRequest;
 pub use pair::Pair;
 pub use pair_list::PairList;
 pub use reply::Reply;

@@ -15,7 +15,7 @@
 //! ```
 use crate::fault::MapFault;
 use crate::raw::{self, Handle, ReplyParts};
-use crate::reply::{LentReply, Reply, Value};
+use crate::reply::{Held, LentReply, Reply, Value};
 use crate::request::Request;
 use std::fmt;
 
@@ -80,6 +80,47 @@ impl Map {
         };
         match code {
             0 => Ok(LentReply::of(&mut self.reply, &parts)),
+            code => Err(MapFault::of(code)),
+        }
+    }
+
+    /// What the key holds, if anything, where a text stands in front of your room, which grows where it has fewer bytes;
+    /// or `EmptyKey` or `KeyTooLong`.
+    pub fn get_in<'a>(
+        &mut self,
+        key: impl AsRef<[u8]>,
+        room: &'a mut Vec<u8>,
+    ) -> Result<Option<Held<'a>>, MapFault> {
+        let key = key.as_ref();
+        let mut parts = self.parts_in(key, room)?;
+        if parts.length > room.len() {
+            room.resize(parts.length, 0);
+            parts = self.parts_in(key, room)?;
+        }
+        Ok(match parts.kind {
+            0 => None,
+            2 => Some(Held::Text(&room[..parts.length])),
+            3 => Some(Held::Count(parts.count)),
+            other => unreachable!("a key holds a value of kind {other}"),
+        })
+    }
+
+    // The parts of what the key holds, of which a text is written where it fits.
+    fn parts_in(&mut self, key: &[u8], room: &mut [u8]) -> Result<ReplyParts, MapFault> {
+        let mut parts = ReplyParts::default();
+        // SAFETY: the handle is this value's alone, and the slices last as long as the call.
+        let code = unsafe {
+            raw::durkenzo_get(
+                &mut self.handle,
+                key.as_ptr(),
+                key.len(),
+                room.as_mut_ptr(),
+                room.len(),
+                &mut parts,
+            )
+        };
+        match code {
+            0 => Ok(parts),
             code => Err(MapFault::of(code)),
         }
     }

@@ -142,6 +142,14 @@ extern "C" {
     ) -> u32;
     pub(crate) fn durkenzo_map(map: *mut Handle) -> u32;
     pub(crate) fn durkenzo_map_length(map: *mut Handle, length: *mut u64) -> u32;
+    pub(crate) fn durkenzo_get(
+        map: *mut Handle,
+        key: *const u8,
+        key_length: usize,
+        into: *mut u8,
+        room: usize,
+        parts: *mut ReplyParts,
+    ) -> u32;
     pub(crate) fn durkenzo_ask(
         map: *mut Handle,
         reply: *mut Handle,

@@ -13,6 +13,15 @@ pub enum Value {
     Count(i64),
 }
 
+/// What a key holds, of which a text stands in the caller's room.
+#[derive(Clone, Copy, Debug, PartialEq, Eq)]
+pub enum Held<'a> {
+    /// The bytes of a text.
+    Text(&'a [u8]),
+    /// A count.
+    Count(i64),
+}
+
 /// What the sample service replies to a request.
 #[derive(Clone, Debug, PartialEq, Eq)]
 pub enum Reply {

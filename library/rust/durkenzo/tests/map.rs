@@ -1,5 +1,5 @@
 //! A map beside one of the standard library.
-use durkenzo::{Board, LentReply, Map, MapFault, Mode, Reply, Request, Value};
+use durkenzo::{Board, Held, LentReply, Map, MapFault, Mode, Reply, Request, Value};
 use std::collections::BTreeMap;
 
 /// A generator of numbers that are the same in each run.
@@ -80,6 +80,10 @@ fn refused_requests_change_nothing() {
     assert_eq!(map.get(""), Err(MapFault::EmptyKey));
     assert_eq!(map.get([b'k'; 255]), Ok(None));
     assert_eq!(map.get([b'k'; 256]), Err(MapFault::KeyTooLong));
+    let mut room = Vec::new();
+    assert_eq!(map.get_in("", &mut room), Err(MapFault::EmptyKey));
+    assert_eq!(map.get_in([b'k'; 255], &mut room), Ok(None));
+    assert_eq!(map.get_in([b'k'; 256], &mut room), Err(MapFault::KeyTooLong));
     assert_eq!(map.get("text"), Ok(text("a")));
     assert_eq!(map.get("count"), Ok(Some(Value::Count(i64::MAX))));
 }
@@ -142,10 +146,17 @@ fn expected(map: &mut BTreeMap<Vec<u8>, Value>, request: &Request<'_>) -> Reply 
     }
 }
 
+fn owned(held: Held<'_>) -> Value {
+    match held {
+        Held::Text(text) => Value::Text(text.to_vec()),
+        Held::Count(count) => Value::Count(count),
+    }
+}
+
 #[test]
 fn random_requests_beside_the_standard_library() {
     let (mut map, mut beside) = (Map::new().unwrap(), BTreeMap::new());
-    let mut draws = Draws(0x9e37_79b9_7f4a_7c15);
+    let (mut draws, mut room) = (Draws(0x9e37_79b9_7f4a_7c15), Vec::new());
     for round in 0..20_000 {
         let key = format!("key{}", draws.below(40)).into_bytes();
         let other = format!("key{}", draws.below(40)).into_bytes();
@@ -163,6 +174,8 @@ fn random_requests_beside_the_standard_library() {
             Ok(wanted),
             "in round {round}: {request:?}"
         );
+        let held = map.get_in(&other, &mut room).unwrap().map(owned);
+        assert_eq!(held.as_ref(), beside.get(&other), "in round {round}");
     }
 }
 
