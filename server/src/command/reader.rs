@@ -23,17 +23,26 @@ impl<'a> Reader<'a> {
     }
 
     /// The next command, or why there is none.
+    #[inline]
     pub fn peek(&mut self) -> Result<Command<'_>, Unparsed> {
-        let rest = &self.input[self.at..];
+        if !matches!(self.next, Some(Ok(_))) {
+            self.read()?;
+        }
+        Ok(self.arguments.command(&self.input[self.at..]))
+    }
+
+    /// Reads the next command, where that wasn't done yet; or why there is none.
+    fn read(&mut self) -> Result<(), Unparsed> {
         let next = match self.next {
             Some(next) => next,
-            None => parse(rest, self.arguments),
+            None => parse(&self.input[self.at..], self.arguments),
         };
         self.next = Some(next);
-        next.map(|_| self.arguments.command(rest))
+        next.map(|_| ())
     }
 
     /// Goes behind the next command.
+    #[inline]
     pub fn advance(&mut self) {
         if let Some(Ok(length)) = self.next.take() {
             self.at += length;

@@ -38,18 +38,61 @@ pub fn parse(input: &[u8], arguments: &mut Arguments) -> Result<usize, Unparsed>
 }
 
 fn parse_array(input: &[u8], arguments: &mut Arguments) -> Result<usize, Unparsed> {
-    let (count, mut at) = length(input, 1, ProtocolFault::ArrayLength)?;
+    let (count, mut at) = match short_length(input, 0, b'*') {
+        Some(short) => short,
+        None => any_count(input)?,
+    };
+    for _ in 0..count {
+        at = match short_argument(input, at) {
+            Some((start, end)) => {
+                arguments.push(start, end);
+                end + LINE_END.len()
+            }
+            None => parse_argument(input, at, arguments)?,
+        };
+    }
+    Ok(at)
+}
+
+/// The number of arguments in the first line, and where the next line begins.
+fn any_count(input: &[u8]) -> Result<(usize, usize), Unparsed> {
+    let (count, at) = length(input, 1, ProtocolFault::ArrayLength)?;
     // A number below 0 is none, as in Redis.
     let count = usize::try_from(count).unwrap_or(0);
     if count > MAX_ARGUMENTS {
         return Err(ProtocolFault::ArrayLength.into());
     }
-    for _ in 0..count {
-        at = parse_argument(input, at, arguments)?;
-    }
-    Ok(at)
+    Ok((count, at))
 }
 
+/// The number in the line with this mark from here on, and where the next line begins; where it has one digit or two.
+#[inline(always)]
+fn short_length(input: &[u8], at: usize, mark: u8) -> Option<(usize, usize)> {
+    let line = input.get(at..)?.first_chunk()?;
+    if line[0] != mark {
+        return None;
+    }
+    let digit = |byte: u8| usize::from(byte - b'0');
+    match *line {
+        [_, one @ b'0'..=b'9', b'\r', b'\n', _] => Some((digit(one), at + 4)),
+        [_, ten @ b'1'..=b'9', one @ b'0'..=b'9', b'\r', b'\n'] => {
+            Some((10 * digit(ten) + digit(one), at + 5))
+        }
+        _ => None,
+    }
+}
+
+/// Where the argument from here on begins and ends; where it has less than 100 bytes and all is well with it.
+#[inline(always)]
+fn short_argument(input: &[u8], at: usize) -> Option<(usize, usize)> {
+    let (length, start) = short_length(input, at, b'$')?;
+    let end = start + length;
+    let next = end + LINE_END.len();
+    let is_well = next <= MAX_COMMAND && input.get(end..next)? == LINE_END;
+    is_well.then_some((start, end))
+}
+
+/// Takes the argument from here on, whatever it is, and returns where the next one begins.
 fn parse_argument(input: &[u8], at: usize, arguments: &mut Arguments) -> Result<usize, Unparsed> {
     match input.get(at) {
         None => return Err(Unparsed::Incomplete(at + 1)),
@@ -76,19 +119,8 @@ fn parse_argument(input: &[u8], at: usize, arguments: &mut Arguments) -> Result<
     }
 }
 
-/// The number in the line from here on, and where the next line begins.
+/// The number in the line from here on, of however many digits, and where the next line begins.
 fn length(input: &[u8], at: usize, fault: ProtocolFault) -> Result<(i64, usize), Unparsed> {
-    match input[at..] {
-        [one @ b'0'..=b'9', b'\r', b'\n', ..] => Ok((i64::from(one - b'0'), at + 3)),
-        [ten @ b'1'..=b'9', one @ b'0'..=b'9', b'\r', b'\n', ..] => {
-            Ok((10 * i64::from(ten - b'0') + i64::from(one - b'0'), at + 4))
-        }
-        _ => any_length(input, at, fault),
-    }
-}
-
-/// The same, of however many digits.
-fn any_length(input: &[u8], at: usize, fault: ProtocolFault) -> Result<(i64, usize), Unparsed> {
     let line = &input[at..];
     let end = line
         .iter()
