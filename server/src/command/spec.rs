@@ -2,6 +2,7 @@ use super::data::DataWord;
 use super::Fault;
 use crate::body::MAX_KEY;
 use crate::keyspace::Keyspace;
+use crate::packed::packed;
 use crate::resp::Command;
 
 /// Which arguments of a command are keys.
@@ -160,8 +161,8 @@ pub static COMMANDS: [Spec; 32] = [
 const LETTERS: usize = 26;
 /// The most letters of a name.
 const MOST_LETTERS: usize = 16;
-/// The bit that a small letter has beside the capital.
-const SMALL: u8 = 0x20;
+/// The bit that a small letter has beside the capital, of eight letters.
+const SMALL: u64 = u64::from_le_bytes([0x20; 8]);
 
 /// Where the commands of each letter begin, and at last how many there are.
 static STARTS: [usize; LETTERS + 1] = starts();
@@ -189,14 +190,21 @@ const fn numbers() -> [u128; COMMANDS.len()] {
     numbers
 }
 
-/// A name as a number, in which no letter's case counts and no byte is 0, so that each name has its own.
+/// A name of at most `MOST_LETTERS` as a number, in which no letter's case counts and no byte of the name is 0, so that
+/// each name has its own.
 const fn number_of(name: &[u8]) -> u128 {
-    let (mut number, mut at) = (0, 0);
-    while at < name.len() {
-        number = number << 8 | (name[at] | SMALL) as u128;
-        at += 1;
+    match name.split_first_chunk::<8>() {
+        None => part_of(name) as u128,
+        Some((first, rest)) => part_of(first) as u128 | (part_of(rest) as u128) << 64,
     }
-    number
+}
+
+/// The same of at most eight letters.
+const fn part_of(letters: &[u8]) -> u64 {
+    match letters.len() {
+        0 => 0,
+        count => packed(letters) | SMALL >> (64 - 8 * count),
+    }
 }
 
 impl Spec {
@@ -226,15 +234,17 @@ impl Spec {
 
     /// That of this name, in whatever case.
     pub fn named(name: &[u8]) -> Option<&'static Spec> {
-        let letter = name.first()?.to_ascii_lowercase();
-        let place = usize::from(letter.checked_sub(b'a')?);
-        let last = *STARTS.get(place + 1)?;
         if name.len() > MOST_LETTERS {
             return None;
         }
         let number = number_of(name);
-        let found = (STARTS[place]..last).find(|it| NUMBERS[*it] == number)?;
-        Some(&COMMANDS[found])
+        let place = usize::from((number as u8).checked_sub(b'a')?);
+        let (start, end) = (*STARTS.get(place)?, *STARTS.get(place + 1)?);
+        let found = NUMBERS
+            .get(start..end)?
+            .iter()
+            .position(|it| *it == number)?;
+        COMMANDS.get(start + found)
     }
 
     /// The shards of the command's keys.
