@@ -43,6 +43,8 @@ pub struct Admission {
     /// The server that executed each shard last, as far as this thread knows: an old one is refused, with the record.
     routes: Box<[u16]>,
     version: u64,
+    /// How often it looks for a shard's server.
+    turns: u32,
     /// The place of the server as which the thread was admitted last.
     executed_by: usize,
 }
@@ -54,6 +56,7 @@ impl Admission {
             passes: (0..cluster.presence.servers()).map(|_| None).collect(),
             routes: vec![1; cluster.shards().into()].into(),
             version: 0,
+            turns: cluster.configuration.spins.saturating_add(MOST_TURNS),
             executed_by: 0,
             stats,
             cluster,
@@ -101,6 +104,7 @@ impl Admission {
     }
 
     /// Has the closure work on the body of the shard, as the server that executes it.
+    #[inline]
     pub fn admit<R>(
         &mut self,
         shard: u16,
@@ -110,6 +114,7 @@ impl Admission {
     }
 
     /// The same, with the permit.
+    #[inline]
     pub fn admit_permit<R>(
         &mut self,
         shard: u16,
@@ -129,16 +134,18 @@ impl Admission {
         self.admit_at(Target::direct(server, true), shard, |permit| work(permit))
     }
 
+    // Where it is inlined, what the work needs stays in registers.
+    #[inline(always)]
     fn admit_at<R>(
         &mut self,
         mut target: Target,
         shard: u16,
         work: impl FnOnce(&mut Permit<'_, Shard>) -> R,
     ) -> Result<R, NotAdmitted> {
-        for _ in 0..self.cluster.configuration.spins.saturating_add(MOST_TURNS) {
+        for _ in 0..self.turns {
             let index = usize::from(target.server) - 1;
             let Some(pass) = self.passes[index].as_mut() else {
-                target = self.around(shard, target)?;
+                self.around(shard, &mut target)?;
                 continue;
             };
             let fault = match pass.admit(shard, target.mode) {
@@ -148,28 +155,33 @@ impl Admission {
                     drop(permit);
                     self.stats.servers[index].admissions.add(1);
                     self.executed_by = index;
-                    self.stats.forwarded.add(u64::from(target.hops));
+                    if target.hops > 0 {
+                        self.stats.forwarded.add(u64::from(target.hops));
+                    }
                     return Ok(done);
                 }
                 Err(fault) => fault,
             };
-            target = self.after(shard, target, fault)?;
+            self.after(shard, &mut target, fault)?;
         }
         self.stats.raced.add(1);
         Err(NotAdmitted::Wait(Wait::Busy(shard)))
     }
 
-    /// Where to try again after a refusal.
+    /// Goes where to try again after a refusal.
+    // Outside of `admit_at`, so that who is admitted at once keeps nothing for it.
+    #[cold]
+    #[inline(never)]
     fn after(
         &mut self,
         shard: u16,
-        target: Target,
+        target: &mut Target,
         fault: AdmitFault,
-    ) -> Result<Target, NotAdmitted> {
+    ) -> Result<(), NotAdmitted> {
         match fault {
             AdmitFault::Admitted(_) | AdmitFault::Raced(_) => {
                 std::hint::spin_loop();
-                Ok(target)
+                Ok(())
             }
             AdmitFault::NotExecutor(read) | AdmitFault::NotYet(read) => {
                 self.along(shard, target, read, fault)
@@ -180,38 +192,40 @@ impl Admission {
         }
     }
 
-    /// Where another server executes the shard: the one that this one forwards to, or the owner.
+    /// Goes where another server executes the shard: the one that this one forwards to, or the owner.
     fn along(
         &mut self,
         shard: u16,
-        target: Target,
+        target: &mut Target,
         read: Record,
         fault: AdmitFault,
-    ) -> Result<Target, NotAdmitted> {
+    ) -> Result<(), NotAdmitted> {
         if let Some(server) = read
             .forward(target.server)
             .filter(|_| target.hops < MOST_HOPS)
         {
             let (mode, hops) = (Mode::Forwarded(target.server), target.hops + 1);
-            return Ok(Target {
+            *target = Target {
                 server,
                 mode,
                 hops,
-                ..target
-            });
+                ..*target
+            };
+            return Ok(());
         }
         match read.owner() {
             _ if target.is_fixed => Err(NotAdmitted::Refused(fault)),
             Some(owner) => {
                 self.routes[usize::from(shard)] = owner;
-                Ok(Target::direct(owner, false))
+                *target = Target::direct(owner, false);
+                Ok(())
             }
             None => Err(NotAdmitted::Wait(Wait::Vacant(shard))),
         }
     }
 
     /// What a request waits for where nobody executes: whoever asks for the shard is told of an owner that is away.
-    fn paused(&self, shard: u16, target: Target, read: Record) -> NotAdmitted {
+    fn paused(&self, shard: u16, target: &Target, read: Record) -> NotAdmitted {
         let owner = read.owner().filter(|_| !target.is_fixed);
         let away = owner.filter(|it| !self.cluster.presence.is_reached(*it));
         NotAdmitted::Wait(match away {
@@ -220,9 +234,11 @@ impl Admission {
         })
     }
 
-    /// Where to go in place of a server that isn't reached: to the owner, if that is another one. The owner can only
+    /// Goes elsewhere than to a server that isn't reached: to the owner, if that is another one. The owner can only
     /// forward to the one that executes.
-    fn around(&mut self, shard: u16, target: Target) -> Result<Target, NotAdmitted> {
+    #[cold]
+    #[inline(never)]
+    fn around(&mut self, shard: u16, target: &mut Target) -> Result<(), NotAdmitted> {
         let away = NotAdmitted::Wait(Wait::Unreachable(shard, target.server));
         if target.hops > 0 {
             return Err(away);
@@ -234,7 +250,8 @@ impl Admission {
         match record.owner() {
             Some(owner) if owner != target.server && !target.is_fixed => {
                 self.routes[usize::from(shard)] = owner;
-                Ok(Target::direct(owner, false))
+                *target = Target::direct(owner, false);
+                Ok(())
             }
             None if !target.is_fixed => Err(NotAdmitted::Wait(Wait::Vacant(shard))),
             _ => Err(away),

@@ -226,6 +226,7 @@ impl Cluster {
     }
 
     /// Notes how many keys of the shard hold something; for who has its permit.
+    #[inline]
     pub fn note_keys(&self, shard: u16, keys: usize) {
         let place = &self.keys[usize::from(shard)];
         if place.load(Ordering::Relaxed) != keys as u64 {

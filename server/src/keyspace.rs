@@ -1,4 +1,5 @@
 //! Which shard a key is of.
+use crate::packed::packed;
 use durkenzo::{Layout, LayoutFault};
 
 /// How keys are given to shards; each thread has one of its own.
@@ -60,9 +61,10 @@ impl Keyspace {
     }
 
     /// The shard of the key.
+    #[inline]
     pub fn shard_of(&self, key: &[u8]) -> u16 {
         match self {
-            Keyspace::Hash { shards } => (hash(tag_of(key)) % u64::from(*shards)) as u16,
+            Keyspace::Hash { shards } => remainder(hash_of_tag(key), *shards),
             Keyspace::Ranges(layout) => layout.shard_of(key),
         }
     }
@@ -93,26 +95,38 @@ fn last_below(layout: &Layout, high: &[u8]) -> u16 {
     }
 }
 
-/// Whether the key may have a brace that opens, found out eight bytes at a time.
-fn may_have_brace(key: &[u8]) -> bool {
+/// The remainder of the hash by so many shards.
+fn remainder(hash: u64, shards: u16) -> u16 {
+    // Of a power of two, as most counts are, it takes no division.
+    match shards.is_power_of_two() {
+        true => hash as u16 & (shards - 1),
+        false => (hash % u64::from(shards)) as u16,
+    }
+}
+
+/// The hash of the part of the key that says where it is. The key's own is made while braces are looked for, as most
+/// keys have none.
+fn hash_of_tag(key: &[u8]) -> u64 {
+    let mut found = 0;
+    let hash_of_key = hash(key, |word| found |= braces_in(word));
+    match found {
+        0 => hash_of_key,
+        _ => hash(tag_of(key), |_| ()),
+    }
+}
+
+/// A number that isn't 0 where one of the eight bytes is a brace that opens.
+fn braces_in(word: u64) -> u64 {
     const ONES: u64 = u64::from_ne_bytes([1; 8]);
     const BRACES: u64 = u64::from_ne_bytes([b'{'; 8]);
-    let (mut found, mut rest) = (0, key);
-    while let Some((word, more)) = rest.split_first_chunk() {
-        // A byte that is a brace is 0 here, and by the subtraction gets its highest bit.
-        let other = u64::from_ne_bytes(*word) ^ BRACES;
-        found |= other.wrapping_sub(ONES) & !other & ONES << 7;
-        rest = more;
-    }
-    found != 0 || rest.contains(&b'{')
+    // A byte that is a brace is 0 here, and by the subtraction gets its highest bit.
+    let other = word ^ BRACES;
+    other.wrapping_sub(ONES) & !other & ONES << 7
 }
 
 /// The part of the key in its first braces, where that isn't empty, and else the whole key, as in Redis Cluster: keys
 /// with one tag are of one shard.
 fn tag_of(key: &[u8]) -> &[u8] {
-    if !may_have_brace(key) {
-        return key;
-    }
     let Some(open) = key.iter().position(|it| *it == b'{') else {
         return key;
     };
@@ -123,18 +137,21 @@ fn tag_of(key: &[u8]) -> &[u8] {
     }
 }
 
-/// A sum of the bytes, eight at a time, in which each bit of the key changes about half of the bits.
-fn hash(bytes: &[u8]) -> u64 {
+/// A sum of the bytes, eight at a time, in which each bit of the key changes about half of the bits. The closure has a
+/// look at each eight bytes too, the last of which may be filled up with zeros.
+#[inline(always)]
+fn hash(bytes: &[u8], mut look: impl FnMut(u64)) -> u64 {
     const ODD: u64 = 0x9e37_79b9_7f4a_7c15;
-    let add = |sum: u64, word| (sum.rotate_left(29) ^ u64::from_le_bytes(word)).wrapping_mul(ODD);
+    let mut add = |sum: u64, word| {
+        look(word);
+        (sum.rotate_left(29) ^ word).wrapping_mul(ODD)
+    };
     let (mut sum, mut rest) = (bytes.len() as u64, bytes);
     while let Some((word, more)) = rest.split_first_chunk() {
-        (sum, rest) = (add(sum, *word), more);
+        (sum, rest) = (add(sum, u64::from_le_bytes(*word)), more);
     }
     if !rest.is_empty() {
-        let mut word = [0; 8];
-        word[..rest.len()].copy_from_slice(rest);
-        sum = add(sum, word);
+        sum = add(sum, packed(rest));
     }
     let sum = (sum ^ sum >> 32).wrapping_mul(ODD);
     sum ^ sum >> 29
@@ -167,6 +184,24 @@ mod tests {
                 "{counts:?}"
             );
         }
+    }
+
+    #[test]
+    fn data_is_found_where_it_was_placed() {
+        for (key, hash) in [
+            ("", 0),
+            ("a", 0xaec4_3b00_5ba0_263f),
+            ("key:000000012345", 0x55b1_5957_7e67_1dc0),
+            ("counter:000000012345", 0xee45_2b11_bd82_5816),
+            ("{user}:a", 0xbfd5_bbc4_4ace_9e0c),
+            ("x{}y", 0x6f5d_82c9_4105_12be),
+            ("0123456789{tag}z{w}", 0xe501_85c6_d7a2_c033),
+            ("a{b", 0x3f6c_9cab_ad77_207a),
+            ("a long prefix of many keys 00017", 0xd05b_2101_1473_8b83),
+        ] {
+            assert_eq!(hash_of_tag(key.as_bytes()), hash, "{key}");
+        }
+        assert_eq!((remainder(127, 64), remainder(127, 100)), (63, 27));
     }
 
     #[test]

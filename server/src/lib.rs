@@ -25,6 +25,7 @@ pub mod keyspace;
 pub mod observer;
 pub mod open_fault;
 pub mod options;
+mod packed;
 pub mod peers;
 pub mod presence;
 pub mod progress;

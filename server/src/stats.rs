@@ -10,17 +10,20 @@ pub struct Counter(AtomicU64);
 
 impl Counter {
     /// Adds to it; for the thread alone that it belongs to.
+    #[inline]
     pub fn add(&self, more: u64) {
         self.0
             .store(self.get().wrapping_add(more), Ordering::Relaxed);
     }
 
     /// Sets it; for that thread alone.
+    #[inline]
     pub fn set(&self, value: u64) {
         self.0.store(value, Ordering::Relaxed);
     }
 
     /// The number, which may be behind.
+    #[inline]
     pub fn get(&self) -> u64 {
         self.0.load(Ordering::Relaxed)
     }

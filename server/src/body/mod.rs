@@ -88,7 +88,17 @@ pub enum Reply<'a> {
 
 /// What a shard's body does. One thread at a time has a body, whose permit the board gave it.
 pub trait ShardBody: Send {
-    /// Does what is asked, and answers. Keys have 1 to `MAX_KEY` bytes.
+    /// What the key holds, if anything; or `NoMemory`. Keys have 1 to `MAX_KEY` bytes, here and below.
+    fn get(&mut self, key: &[u8]) -> Result<Option<Value<'_>>, Refusal>;
+
+    /// Has the key hold this, whatever it held; or `TooLong` or `NoMemory`.
+    fn put(&mut self, key: &[u8], value: Value<'_>) -> Result<(), Refusal>;
+
+    /// Adds to the count that the key holds, from 0 where it holds nothing, and returns the sum; or `WrongKind`,
+    /// `Overflow` or `NoMemory`.
+    fn add(&mut self, key: &[u8], number: i64) -> Result<i64, Refusal>;
+
+    /// Does what is asked, and answers.
     fn apply<'a>(&'a mut self, request: Request<'_>) -> Reply<'a>;
 
     /// How many keys hold something.

@@ -1,5 +1,5 @@
-use super::{Range, Refusal, Reply, Request, ShardBody, Value, MAX_KEY, MAX_PAIRS, MAX_TEXT};
-use durkenzo::{LentReply, Map, MapFault, Request as Asked, Value as Held};
+use super::{Pair, Range, Refusal, Reply, Request, ShardBody, Value, MAX_KEY, MAX_PAIRS, MAX_TEXT};
+use durkenzo::{LentReply, LentText, Map, MapFault, Request as Asked, Value as Held};
 use std::ops::Bound;
 
 /// How much room for a text is kept from one request to the next.
@@ -46,9 +46,7 @@ impl ProvedBody {
             LentReply::Nothing => Told::Nothing,
             LentReply::Done => Told::Done,
             LentReply::Text(text) => {
-                self.text.clear();
-                self.text.shrink_to(KEPT_ROOM);
-                text.append_to(&mut self.text);
+                keep(text, &mut self.text);
                 Told::Text
             }
             LentReply::Count(count) => Told::Count(count),
@@ -69,17 +67,10 @@ impl ProvedBody {
         }
     }
 
-    /// Has the key hold the value, whatever it held.
-    fn put(&mut self, key: &[u8], value: Value<'_>) -> Result<(), Refusal> {
-        if matches!(value, Value::Text(text) if text.len() > MAX_TEXT) {
-            return Err(Refusal::TooLong);
-        }
-        if let Value::Text(text) = value {
-            match self.ask(&Asked::Put(key, text)) {
-                Err(Refusal::WrongKind) => {}
-                other => return other,
-            }
-        }
+    /// Has the key hold a value of another kind than it may hold now.
+    // Outside of `put`, so that most puts save no registers for it.
+    #[inline(never)]
+    fn put_over(&mut self, key: &[u8], value: Value<'_>) -> Result<(), Refusal> {
         self.ask(&Asked::Get(key))?;
         lent(&mut self.map, &Asked::Remove(key))?;
         if let Err(refusal) = lent(&mut self.map, &asked_for(key, value)) {
@@ -89,7 +80,6 @@ impl ProvedBody {
             }
             return Err(refusal);
         }
-        self.told = Told::Done;
         Ok(())
     }
 
@@ -134,42 +124,84 @@ impl ProvedBody {
     }
 
     /// Makes the request, of which `told` has the reply.
-    fn make(&mut self, request: Request<'_>) -> Result<(), Refusal> {
-        match request {
-            Request::Get(key) => self.ask(&Asked::Get(key)),
-            Request::Put(key, value) => self.put(key, value),
-            Request::Append(key, more) => self.ask(&Asked::Append(key, more)),
-            Request::Add(key, number) => self.ask(&Asked::Add(key, number)),
-            Request::Delete(key) => self.ask(&Asked::Remove(key)),
-            Request::Scan(range) => self.scan(range),
+    fn make(&mut self, request: &Asked<'_>) -> Result<(), Refusal> {
+        // Whether it holds another number of keys since then isn't told.
+        self.keys = None;
+        self.ask(request)
+    }
+
+    /// What was told of a request that was made.
+    fn reply(&self) -> Reply<'_> {
+        match &self.told {
+            Told::Nothing => Reply::Nothing,
+            Told::Done => Reply::Done,
+            Told::Text => Reply::Value(Value::Text(&self.text)),
+            Told::Count(count) => Reply::Value(Value::Count(*count)),
+            Told::Pairs(pairs) => Reply::Pairs(pairs.iter().map(lent_pair).collect()),
         }
     }
 }
 
 impl ShardBody for ProvedBody {
-    fn apply<'a>(&'a mut self, request: Request<'_>) -> Reply<'a> {
-        if !matches!(request, Request::Get(_) | Request::Scan(_)) {
+    fn get(&mut self, key: &[u8]) -> Result<Option<Value<'_>>, Refusal> {
+        Ok(match lent(&mut self.map, &Asked::Get(key))? {
+            LentReply::Text(text) => {
+                keep(text, &mut self.text);
+                Some(Value::Text(&self.text))
+            }
+            LentReply::Count(count) => Some(Value::Count(count)),
+            LentReply::Nothing => None,
+            other => unreachable!("a key was asked for, and the map replied {other:?}"),
+        })
+    }
+
+    fn put(&mut self, key: &[u8], value: Value<'_>) -> Result<(), Refusal> {
+        self.keys = None;
+        if let Value::Text(text) = value {
+            if text.len() > MAX_TEXT {
+                return Err(Refusal::TooLong);
+            }
+            match self.map.put(key, text) {
+                Err(MapFault::WrongKind) => {}
+                done => return done.map_err(refusal_of),
+            }
+        }
+        self.put_over(key, value)
+    }
+
+    fn add(&mut self, key: &[u8], number: i64) -> Result<i64, Refusal> {
+        let sum = self.map.add(key, number).map_err(refusal_of)?;
+        // A key that held nothing until now holds the number itself.
+        if sum == number {
             self.keys = None;
         }
-        if let Err(refusal) = self.make(request) {
-            return Reply::Refused(refusal);
-        }
-        if let Request::Append(key, _) = request {
-            return self.length(key).map_or_else(Reply::Refused, Reply::Length);
-        }
-        match (&self.told, request) {
-            (_, Request::Put(..)) => Reply::Done,
-            (Told::Count(sum), Request::Add(..)) => Reply::Count(*sum),
-            (Told::Count(count), _) => Reply::Value(Value::Count(*count)),
-            (Told::Text, _) => Reply::Value(Value::Text(&self.text)),
-            (Told::Pairs(pairs), _) => Reply::Pairs(
-                pairs
-                    .iter()
-                    .map(|(key, held)| (key.as_slice(), borrowed(held)))
-                    .collect(),
-            ),
-            (Told::Done, _) => Reply::Done,
-            (_, _) => Reply::Nothing,
+        Ok(sum)
+    }
+
+    fn apply<'a>(&'a mut self, request: Request<'_>) -> Reply<'a> {
+        let made = match request {
+            Request::Get(key) => self.ask(&Asked::Get(key)),
+            Request::Put(key, value) => {
+                return self
+                    .put(key, value)
+                    .map_or_else(Reply::Refused, |()| Reply::Done)
+            }
+            Request::Add(key, number) => {
+                return self
+                    .add(key, number)
+                    .map_or_else(Reply::Refused, Reply::Count)
+            }
+            Request::Append(key, more) => {
+                let made = self.make(&Asked::Append(key, more));
+                let length = made.and_then(|()| self.length(key));
+                return length.map_or_else(Reply::Refused, Reply::Length);
+            }
+            Request::Delete(key) => self.make(&Asked::Remove(key)),
+            Request::Scan(range) => self.scan(range),
+        };
+        match made {
+            Ok(()) => self.reply(),
+            Err(refusal) => Reply::Refused(refusal),
         }
     }
 
@@ -208,12 +240,28 @@ fn asked_for<'a>(key: &'a [u8], value: Value<'a>) -> Asked<'a> {
     }
 }
 
+/// Has the text stand in the room, and nothing else.
+fn keep(text: LentText<'_>, room: &mut Vec<u8>) {
+    room.clear();
+    room.shrink_to(KEPT_ROOM);
+    text.append_to(room);
+}
+
 /// What the map lends for the request; or that memory is refused.
+#[inline]
 fn lent<'a>(map: &'a mut Map, request: &Asked<'_>) -> Result<LentReply<'a>, Refusal> {
-    map.lend(request).map_err(|fault| match fault {
+    map.lend(request).map_err(refusal_of)
+}
+
+/// Why a request of a key that was judged before changes nothing.
+fn refusal_of(fault: MapFault) -> Refusal {
+    match fault {
         MapFault::NoMemory => Refusal::NoMemory,
+        MapFault::WrongKind => Refusal::WrongKind,
+        MapFault::Overflow => Refusal::Overflow,
+        MapFault::TextTooLong => Refusal::TooLong,
         other => unreachable!("a key was judged before: {other}"),
-    })
+    }
 }
 
 fn owned(value: Value<'_>) -> Held {
@@ -221,6 +269,10 @@ fn owned(value: Value<'_>) -> Held {
         Value::Text(text) => Held::Text(text.to_vec()),
         Value::Count(count) => Held::Count(count),
     }
+}
+
+fn lent_pair((key, held): &(Vec<u8>, Held)) -> Pair<'_> {
+    (key, borrowed(held))
 }
 
 fn borrowed(held: &Held) -> Value<'_> {

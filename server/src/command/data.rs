@@ -68,11 +68,7 @@ fn write_value(value: Value<'_>, replies: &mut Replies) {
 
 /// What the key holds, if anything; or why that can't be told.
 fn held<'a>(body: &'a mut dyn ShardBody, key: &[u8]) -> Result<Option<Value<'a>>, Fault> {
-    match body.apply(Request::Get(key)) {
-        Reply::Value(value) => Ok(Some(value)),
-        Reply::Refused(refusal) => Err(refusal.into()),
-        _ => Ok(None),
-    }
+    Ok(body.get(key)?)
 }
 
 fn get(body: &mut dyn ShardBody, key: &[u8], replies: &mut Replies) -> Result<(), Fault> {
@@ -185,7 +181,7 @@ pub fn begin_keys(
 /// What is written once all are.
 pub fn end_keys(word: DataWord, part: Part, replies: &mut Replies) {
     match word {
-        DataWord::MSet => replies.simple("OK"),
+        DataWord::MSet => replies.ok(),
         DataWord::MGet => {}
         _ => replies.count(part.count),
     }
@@ -193,10 +189,7 @@ pub fn end_keys(word: DataWord, part: Part, replies: &mut Replies) {
 
 /// Has the key hold the text.
 fn put(body: &mut dyn ShardBody, key: &[u8], text: &[u8]) -> Result<(), Fault> {
-    match body.apply(Request::Put(key, value_of(text))) {
-        Reply::Refused(refusal) => Err(refusal.into()),
-        _ => Ok(()),
-    }
+    Ok(body.put(key, value_of(text))?)
 }
 
 /// The options of SET.
@@ -237,7 +230,7 @@ fn set(body: &mut dyn ShardBody, command: Command<'_>, replies: &mut Replies) ->
     let (key, text) = (command.get(1), command.get(2));
     if command.len() == 3 {
         put(body, key, text)?;
-        replies.simple("OK");
+        replies.ok();
         return Ok(());
     }
     let options = SetOptions::of(command)?;
@@ -250,7 +243,7 @@ fn set(body: &mut dyn ShardBody, command: Command<'_>, replies: &mut Replies) ->
     };
     match (options.gives_last, is_set) {
         (true, _) => get(body, key, replies)?,
-        (false, true) => replies.simple("OK"),
+        (false, true) => replies.ok(),
         (false, false) => replies.null(),
     }
     if is_set {
@@ -280,7 +273,7 @@ fn set_all(
     for index in (1..command.len()).step_by(2) {
         put(body, command.get(index), command.get(index + 1))?;
     }
-    replies.simple("OK");
+    replies.ok();
     Ok(())
 }
 
@@ -301,11 +294,10 @@ fn add(
     replies: &mut Replies,
 ) -> Result<(), Fault> {
     let number = number.ok_or(Fault::NotInteger)?;
-    let sum = match body.apply(Request::Add(key, number)) {
-        Reply::Count(sum) => sum,
-        Reply::Refused(Refusal::WrongKind) => add_to_text(body, key, number)?,
-        Reply::Refused(refusal) => return Err(refusal.into()),
-        _ => return Err(Fault::NotInteger),
+    let sum = match body.add(key, number) {
+        Ok(sum) => sum,
+        Err(Refusal::WrongKind) => add_to_text(body, key, number)?,
+        Err(refusal) => return Err(refusal.into()),
     };
     replies.number(sum);
     Ok(())
@@ -322,10 +314,8 @@ fn add_to_text(body: &mut dyn ShardBody, key: &[u8], number: i64) -> Result<i64,
         .ok_or(Fault::NotInteger)?
         .checked_add(number)
         .ok_or(Fault::Overflow)?;
-    match body.apply(Request::Put(key, Value::Count(sum))) {
-        Reply::Refused(refusal) => Err(refusal.into()),
-        _ => Ok(sum),
-    }
+    body.put(key, Value::Count(sum))?;
+    Ok(sum)
 }
 
 fn append(

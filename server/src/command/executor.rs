@@ -4,7 +4,7 @@ use super::reader::Reader;
 use super::scan::Scanner;
 use super::session::Session;
 use super::spec::{Spec, Word};
-use super::step::Step;
+use super::step::{Keyed, Step};
 use super::stop::Stop;
 use super::talk;
 use super::unanswered::Unanswered;
@@ -22,9 +22,6 @@ const MOST_UNSENT: usize = 1 << 20;
 /// How many commands are done under one permit, so that others come to the shard.
 const MOST_OF_A_PERMIT: u64 = 128;
 
-/// What becomes of a command, or why it is refused.
-type Judged = Result<Step, Fault>;
-
 /// Does a thread's commands.
 #[derive(Debug)]
 pub struct Executor {
@@ -32,17 +29,20 @@ pub struct Executor {
     admission: Admission,
     keyspace: Keyspace,
     arguments: Arguments,
+    /// Whether data outlives the process.
+    is_durable: bool,
 }
 
 impl Executor {
     /// One for a thread that is admitted so.
     pub fn new(cluster: Arc<Cluster>, admission: Admission, keyspace: Keyspace) -> Executor {
-        let arguments = Arguments::default();
+        let is_durable = cluster.storage.durable().is_some();
         Executor {
             cluster,
             admission,
             keyspace,
-            arguments,
+            arguments: Arguments::default(),
+            is_durable,
         }
     }
 
@@ -61,14 +61,15 @@ impl Executor {
     ) -> (usize, Stop) {
         let mut arguments = std::mem::take(&mut self.arguments);
         let mut reader = Reader::new(input, &mut arguments);
-        // What becomes of the next command, where that was found out already.
+        // What the next command does, and the shard of its keys, where that was found out already.
         let mut next = None;
         let stop = loop {
             if replies.unsent().len() >= MOST_UNSENT {
                 break Stop::Full;
             }
-            if let Err(stop) = self.step(session, &mut reader, &mut next, replies) {
-                break stop;
+            match self.turn(next, session, &mut reader, replies) {
+                Ok(found) => next = found,
+                Err(stop) => break stop,
             }
         };
         let done = reader.at();
@@ -96,15 +97,35 @@ impl Executor {
         reader.at()
     }
 
+    /// Does the next command, which does this with keys of one shard, if that was found out already. Returns what the
+    /// one behind it does, where it looked at that.
+    #[inline]
+    fn turn(
+        &mut self,
+        next: Option<Keyed>,
+        session: &mut Session,
+        reader: &mut Reader<'_>,
+        replies: &mut Replies,
+    ) -> Result<Option<Keyed>, Stop> {
+        let keyed = match next {
+            Some(keyed) => Some(keyed),
+            None => self.step(session, reader, replies)?,
+        };
+        match keyed {
+            Some(keyed) => self.data(keyed, session, reader, replies),
+            None => Ok(None),
+        }
+    }
+
+    /// Does the next command, unless it is done with keys of one shard: then it returns what that does.
     fn step(
         &mut self,
         session: &mut Session,
         reader: &mut Reader<'_>,
-        next: &mut Option<Judged>,
         replies: &mut Replies,
-    ) -> Result<(), Stop> {
-        if self.cluster.storage.durable().is_some() && self.gather(session, reader, replies)? {
-            return Ok(());
+    ) -> Result<Option<Keyed>, Stop> {
+        if self.is_durable && self.gather(session, reader, replies)? {
+            return Ok(None);
         }
         let command = match reader.peek() {
             Ok(command) => command,
@@ -116,16 +137,11 @@ impl Executor {
         };
         if command.is_empty() {
             reader.advance();
-            return Ok(());
+            return Ok(None);
         }
         let mark = replies.mark();
-        let judged = next.take();
-        let judged = judged.unwrap_or_else(|| Step::of(session, command, &self.keyspace));
-        let done = match judged {
-            Ok(Step::Data(word, shard)) => {
-                *next = self.data((word, shard), session, reader, replies)?;
-                return Ok(());
-            }
+        let done = match Step::of(session, command, &self.keyspace) {
+            Ok(Step::Data(keyed)) => return Ok(Some(keyed)),
             Ok(Step::Each(word)) => self.each(word, command, session, replies),
             Ok(Step::Other(spec)) => self.other(spec.word, command, session, replies),
             Ok(Step::Queue(shard)) => session.queue(command, shard, replies).map_err(Into::into),
@@ -135,7 +151,8 @@ impl Executor {
         if !matches!(done, Ok(()) | Err(Unanswered::End)) {
             replies.take_back(mark);
         }
-        self.settle(done, session, reader, replies)
+        self.settle(done, session, reader, replies)?;
+        Ok(None)
     }
 
     /// Stops where the next commands ask something of shards whose data outlives the process. Returns whether the next
@@ -183,15 +200,15 @@ impl Executor {
         stop.map_or(Ok(()), Err)
     }
 
-    /// Does the next command, and those behind it while they are of the same shard, under one permit. Returns what
-    /// becomes of the command behind them, where it looked at that.
+    /// Does the next command, and those behind it while they are of the same shard, under one permit. Returns what the
+    /// command behind them does, where it looked at that.
     fn data(
         &mut self,
-        (mut word, shard): (DataWord, u16),
+        (mut word, shard): Keyed,
         session: &mut Session,
         reader: &mut Reader<'_>,
         replies: &mut Replies,
-    ) -> Result<Option<Judged>, Stop> {
+    ) -> Result<Option<Keyed>, Stop> {
         let (keyspace, mut count) = (&self.keyspace, 0);
         let errors = replies.error_count();
         let done = self.admission.admit(shard, |body| loop {
@@ -203,12 +220,10 @@ impl Executor {
             if count == MOST_OF_A_PERMIT || replies.unsent().len() >= MOST_UNSENT {
                 break None;
             }
-            match reader.peek() {
-                Ok(next) if !next.is_empty() => match Step::of(session, next, keyspace) {
-                    Ok(Step::Data(next, other)) if other == shard => word = next,
-                    judged => break Some(judged),
-                },
-                _ => break None,
+            let next = reader.peek().ok();
+            match next.and_then(|it| Step::keyed(session, it, keyspace)) {
+                Some((next, other)) if other == shard => word = next,
+                next => break next,
             }
         });
         self.admission.stats().commands.add(count);
@@ -284,7 +299,7 @@ impl Executor {
             (Word::ScanRange, None) => return self.scanner().scan_range(command, replies),
             (Word::Data(_), None) => return Err(Fault::BadKey.into()),
         }
-        replies.simple("OK");
+        replies.ok();
         Ok(())
     }
 
@@ -300,7 +315,7 @@ impl Executor {
             .ok_or(Fault::UnknownServer)?;
         let inner = command.from(3);
         let spec = Spec::of(inner)?;
-        let place = spec.place(inner, &self.keyspace)?;
+        let place = spec.place(inner, &self.keyspace).map_err(Fault::from)?;
         let (Word::Data(word), Some(shard)) = (spec.word, place.one()?) else {
             return Err(Fault::NoKeys.into());
         };

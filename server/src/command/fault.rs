@@ -84,7 +84,14 @@ pub enum Fault {
 }
 
 impl Fault {
+    /// That the command takes another number of arguments.
+    #[cold]
+    pub fn wrong_arity(name: &str) -> Fault {
+        Fault::WrongArity(name.into())
+    }
+
     /// That there is no such command.
+    #[cold]
     pub fn unknown_command(command: Command<'_>) -> Fault {
         let mut shown = String::new();
         for argument in command.from(1).iter() {
@@ -108,6 +115,16 @@ impl Fault {
             true => Fault::WrongArity(format!("{name}|{word}").to_ascii_lowercase()),
             false => Fault::UnknownSubcommand(name, word),
         }
+    }
+}
+
+/// That a key is too long, or empty.
+#[derive(Clone, Copy, Debug, PartialEq, Eq)]
+pub struct BadKey;
+
+impl From<BadKey> for Fault {
+    fn from(_: BadKey) -> Fault {
+        Fault::BadKey
     }
 }
 

@@ -24,7 +24,7 @@ mod wanted;
 pub use cursors::Cursors;
 pub use durable::{step_of_spelled, Asked};
 pub use executor::Executor;
-pub use fault::{name_of, Fault};
+pub use fault::{name_of, BadKey, Fault};
 pub use info::memory_used;
 pub use role::Role;
 pub use session::Session;

@@ -5,39 +5,37 @@ use crate::resp::{parse, Arguments, Command, Unparsed};
 pub struct Reader<'a> {
     input: &'a [u8],
     at: usize,
-    /// What was read behind that, so that it is read once.
-    next: Option<Result<usize, Unparsed>>,
+    /// How many bytes the command behind that has, where it was read, so that this is done once; else 0.
+    length: usize,
     arguments: &'a mut Arguments,
 }
 
 impl<'a> Reader<'a> {
     /// One at the front of the input, whose arguments are kept there.
     pub fn new(input: &'a [u8], arguments: &'a mut Arguments) -> Reader<'a> {
-        let (at, next) = (0, None);
+        let (at, length) = (0, 0);
         Reader {
             input,
             at,
-            next,
+            length,
             arguments,
         }
     }
 
     /// The next command, or why there is none.
+    #[inline]
     pub fn peek(&mut self) -> Result<Command<'_>, Unparsed> {
         let rest = &self.input[self.at..];
-        let next = match self.next {
-            Some(next) => next,
-            None => parse(rest, self.arguments),
-        };
-        self.next = Some(next);
-        next.map(|_| self.arguments.command(rest))
+        if self.length == 0 {
+            self.length = parse(rest, self.arguments)?;
+        }
+        Ok(self.arguments.command(rest))
     }
 
-    /// Goes behind the next command.
+    /// Goes behind the next command, where it was peeked at.
+    #[inline]
     pub fn advance(&mut self) {
-        if let Some(Ok(length)) = self.next.take() {
-            self.at += length;
-        }
+        self.at += std::mem::take(&mut self.length);
     }
 
     /// How many bytes are done with.

@@ -1,7 +1,8 @@
 use super::data::DataWord;
-use super::Fault;
+use super::{BadKey, Fault};
 use crate::body::MAX_KEY;
 use crate::keyspace::Keyspace;
+use crate::packed::packed;
 use crate::resp::Command;
 
 /// Which arguments of a command are keys.
@@ -156,29 +157,19 @@ pub static COMMANDS: [Spec; 32] = [
     data("type", 2, Keys::First, false, DataWord::Type),
 ];
 
-/// How many letters names begin with.
-const LETTERS: usize = 26;
+/// How many places the commands' names are spread over, a power of two.
+const PLACES: usize = 256;
 /// The most letters of a name.
 const MOST_LETTERS: usize = 16;
-/// The bit that a small letter has beside the capital.
-const SMALL: u8 = 0x20;
+/// The bit that a small letter has beside the capital, of eight letters.
+const SMALL: u64 = u64::from_le_bytes([0x20; 8]);
 
-/// Where the commands of each letter begin, and at last how many there are.
-static STARTS: [usize; LETTERS + 1] = starts();
 /// The commands' names as numbers.
 static NUMBERS: [u128; COMMANDS.len()] = numbers();
-
-const fn starts() -> [usize; LETTERS + 1] {
-    let (mut starts, mut letter, mut index) = ([0; LETTERS + 1], 0, 0);
-    while letter <= LETTERS {
-        while index < COMMANDS.len() && COMMANDS[index].name.as_bytes()[0] < b'a' + letter as u8 {
-            index += 1;
-        }
-        starts[letter] = index;
-        letter += 1;
-    }
-    starts
-}
+/// An odd number by which each command's name falls on a place of its own.
+const SPREAD: u64 = spread();
+/// The command whose name falls on each place, or the first where none does.
+static AT_PLACES: [u8; PLACES] = at_places();
 
 const fn numbers() -> [u128; COMMANDS.len()] {
     let (mut numbers, mut index) = ([0; COMMANDS.len()], 0);
@@ -189,28 +180,74 @@ const fn numbers() -> [u128; COMMANDS.len()] {
     numbers
 }
 
-/// A name as a number, in which no letter's case counts and no byte is 0, so that each name has its own.
-const fn number_of(name: &[u8]) -> u128 {
-    let (mut number, mut at) = (0, 0);
-    while at < name.len() {
-        number = number << 8 | (name[at] | SMALL) as u128;
-        at += 1;
+const fn spread() -> u64 {
+    const FIRST: u64 = 0x9e37_79b9_7f4a_7c15;
+    let mut odd = FIRST;
+    while !is_spread_by(odd) {
+        odd = odd.wrapping_mul(FIRST);
     }
-    number
+    odd
+}
+
+/// Whether no two commands' names fall on one place by this number.
+const fn is_spread_by(odd: u64) -> bool {
+    let (mut is_taken, mut index) = ([false; PLACES], 0);
+    while index < COMMANDS.len() {
+        let place = place_of(number_of(COMMANDS[index].name.as_bytes()), odd);
+        if is_taken[place] {
+            return false;
+        }
+        is_taken[place] = true;
+        index += 1;
+    }
+    true
+}
+
+const fn at_places() -> [u8; PLACES] {
+    let (mut commands, mut index) = ([0; PLACES], 0);
+    while index < COMMANDS.len() {
+        let place = place_of(number_of(COMMANDS[index].name.as_bytes()), SPREAD);
+        commands[place] = index as u8;
+        index += 1;
+    }
+    commands
+}
+
+/// The place on which the name of this number falls by the odd one.
+const fn place_of(number: u128, odd: u64) -> usize {
+    let mixed = (number as u64 ^ (number >> 64) as u64).wrapping_mul(odd);
+    (mixed >> (u64::BITS - PLACES.ilog2())) as usize
+}
+
+/// A name of at most `MOST_LETTERS` as a number, in which no letter's case counts and no byte of the name is 0, so that
+/// each name has its own.
+const fn number_of(name: &[u8]) -> u128 {
+    match name.split_first_chunk::<8>() {
+        None => part_of(name) as u128,
+        Some((first, rest)) => part_of(first) as u128 | (part_of(rest) as u128) << 64,
+    }
+}
+
+/// The same of at most eight letters.
+const fn part_of(letters: &[u8]) -> u64 {
+    match letters.len() {
+        0 => 0,
+        count => packed(letters) | SMALL >> (64 - 8 * count),
+    }
 }
 
 impl Spec {
     /// That of the command; refused where there is none, or it takes another number of arguments.
     pub fn of(command: Command<'_>) -> Result<&'static Spec, Fault> {
         let spec = Spec::queued(command)?;
-        // MSET takes keys with their values.
-        match spec.keys == Keys::Odd && command.len() % 2 == 0 {
-            true => Err(Fault::WrongArity(spec.name.into())),
+        match spec.lacks_value(command) {
+            true => Err(Fault::wrong_arity(spec.name)),
             false => Ok(spec),
         }
     }
 
     /// The same where it may be queued: that a key has no value is told when it is executed.
+    #[inline(always)]
     pub fn queued(command: Command<'_>) -> Result<&'static Spec, Fault> {
         let spec = Spec::named(command.get(0)).ok_or_else(|| Fault::unknown_command(command))?;
         let count = command.len() as i64;
@@ -220,44 +257,40 @@ impl Spec {
         };
         match is_well {
             true => Ok(spec),
-            false => Err(Fault::WrongArity(spec.name.into())),
+            false => Err(Fault::wrong_arity(spec.name)),
         }
     }
 
+    /// Whether the last key of the command has no value, where it takes keys with their values.
+    #[inline]
+    pub fn lacks_value(&self, command: Command<'_>) -> bool {
+        self.keys == Keys::Odd && command.len() % 2 == 0
+    }
+
     /// That of this name, in whatever case.
+    #[inline]
     pub fn named(name: &[u8]) -> Option<&'static Spec> {
-        let letter = name.first()?.to_ascii_lowercase();
-        let place = usize::from(letter.checked_sub(b'a')?);
-        let last = *STARTS.get(place + 1)?;
         if name.len() > MOST_LETTERS {
             return None;
         }
         let number = number_of(name);
-        let found = (STARTS[place]..last).find(|it| NUMBERS[*it] == number)?;
-        Some(&COMMANDS[found])
+        let index = usize::from(AT_PLACES[place_of(number, SPREAD)]);
+        (NUMBERS[index] == number).then(|| &COMMANDS[index])
     }
 
-    /// The shards of the command's keys.
-    pub fn place(&self, command: Command<'_>, keyspace: &Keyspace) -> Result<Place, Fault> {
-        let step = match self.keys {
-            Keys::None => return Ok(Place::Nowhere),
-            Keys::First => return shard_of(command.get(1), keyspace).map(Place::Shard),
-            Keys::All => 1,
-            Keys::Odd => 2,
-        };
-        let mut place = Place::Nowhere;
-        for key in command.iter().skip(1).step_by(step) {
-            let shard = shard_of(key, keyspace)?;
-            place = match place {
-                Place::Nowhere => Place::Shard(shard),
-                Place::Shard(other) if other != shard => Place::Several,
-                place => place,
-            };
+    /// The shards of the command's keys; refused where one is none.
+    #[inline]
+    pub fn place(&self, command: Command<'_>, keyspace: &Keyspace) -> Result<Place, BadKey> {
+        match self.keys {
+            Keys::None => Ok(Place::Nowhere),
+            Keys::First => shard_of(command.get(1), keyspace).map(Place::Shard),
+            Keys::All => place_of_each(1, command, keyspace),
+            Keys::Odd => place_of_each(2, command, keyspace),
         }
-        Ok(place)
     }
 
     /// Whether a client that gave no password may send it.
+    #[inline]
     pub fn is_open(&self) -> bool {
         use TalkWord::{Auth, Hello, Quit, Reset};
         matches!(self.word, Word::Talk(Auth | Hello | Quit | Reset))
@@ -273,11 +306,26 @@ impl Spec {
     }
 }
 
+/// The shards of the command's keys, which stand so many arguments apart; refused where one is none.
+fn place_of_each(step: usize, command: Command<'_>, keyspace: &Keyspace) -> Result<Place, BadKey> {
+    let mut place = Place::Nowhere;
+    for key in command.iter().skip(1).step_by(step) {
+        let shard = shard_of(key, keyspace)?;
+        place = match place {
+            Place::Nowhere => Place::Shard(shard),
+            Place::Shard(other) if other != shard => Place::Several,
+            place => place,
+        };
+    }
+    Ok(place)
+}
+
 /// The shard of the key, which has to be one.
-pub fn shard_of(key: &[u8], keyspace: &Keyspace) -> Result<u16, Fault> {
+#[inline]
+pub fn shard_of(key: &[u8], keyspace: &Keyspace) -> Result<u16, BadKey> {
     match key.len() {
         1..=MAX_KEY => Ok(keyspace.shard_of(key)),
-        _ => Err(Fault::BadKey),
+        _ => Err(BadKey),
     }
 }
 

@@ -6,10 +6,13 @@ use super::Fault;
 use crate::keyspace::Keyspace;
 use crate::resp::Command;
 
+/// What a command does, and the shard of its keys.
+pub type Keyed = (DataWord, u16);
+
 /// What becomes of a command.
 pub enum Step {
-    /// It is done with keys of this shard.
-    Data(DataWord, u16),
+    /// It is done with keys of one shard.
+    Data(Keyed),
     /// It is done with keys of several shards, each by itself.
     Each(DataWord),
     /// It is queued for EXEC, with keys of this shard.
@@ -20,12 +23,14 @@ pub enum Step {
 
 impl Step {
     /// That of the command; or why it is refused.
+    // Where it is inlined, a fault is made as far as it is looked at.
+    #[inline(always)]
     pub fn of(session: &Session, command: Command<'_>, keyspace: &Keyspace) -> Result<Step, Fault> {
         let is_within = session.transaction.is_some();
-        let spec = match is_within {
-            true => Spec::queued(command)?,
-            false => Spec::of(command)?,
-        };
+        let spec = Spec::queued(command)?;
+        if !is_within && spec.lacks_value(command) {
+            return Err(Fault::wrong_arity(spec.name));
+        }
         if !session.is_known && !spec.is_open() {
             return Err(Fault::NoAuth);
         }
@@ -37,9 +42,17 @@ impl Step {
             return place.one().map(Step::Queue);
         }
         Ok(match (spec.word, place) {
-            (Word::Data(word), Place::Shard(shard)) => Step::Data(word, shard),
+            (Word::Data(word), Place::Shard(shard)) => Step::Data((word, shard)),
             (Word::Data(word), Place::Several) => Step::Each(word),
             _ => Step::Other(spec),
         })
+    }
+
+    /// What the command does, if that is done with keys of one shard; none where it is refused, too.
+    pub fn keyed(session: &Session, command: Command<'_>, keyspace: &Keyspace) -> Option<Keyed> {
+        match Step::of(session, command, keyspace) {
+            Ok(Step::Data(keyed)) => Some(keyed),
+            _ => None,
+        }
     }
 }

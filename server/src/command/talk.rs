@@ -42,7 +42,7 @@ pub fn answer(
             replies.simple("RESET");
         }
         TalkWord::Quit => {
-            replies.simple("OK");
+            replies.ok();
             return Err(Unanswered::End);
         }
     }
@@ -60,7 +60,7 @@ fn ping(command: Command<'_>, replies: &mut Replies) -> Result<(), Fault> {
 
 fn select(command: Command<'_>, replies: &mut Replies) -> Result<(), Fault> {
     match number::parse(command.get(1)) {
-        Some(0) => replies.simple("OK"),
+        Some(0) => replies.ok(),
         Some(_) => return Err(Fault::BadDatabase),
         None => return Err(Fault::NotInteger),
     }
@@ -106,7 +106,7 @@ fn auth(
         3 => let_in(command.get(1), command.get(2), session, cluster)?,
         _ => return Err(Fault::Syntax),
     }
-    replies.simple("OK");
+    replies.ok();
     Ok(())
 }
 
@@ -186,9 +186,9 @@ fn client(command: Command<'_>, session: &mut Session, replies: &mut Replies) ->
         },
         (b"SETNAME", 3) => {
             set_name(command.get(2), session)?;
-            replies.simple("OK");
+            replies.ok();
         }
-        (b"SETINFO", 4) | (b"NO-EVICT" | b"NO-TOUCH", 3) => replies.simple("OK"),
+        (b"SETINFO", 4) | (b"NO-EVICT" | b"NO-TOUCH", 3) => replies.ok(),
         _ => {
             let known = [
                 "ID", "GETNAME", "SETNAME", "SETINFO", "NO-EVICT", "NO-TOUCH",

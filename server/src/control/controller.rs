@@ -372,7 +372,7 @@ fn is_standing(word: &str) -> bool {
 pub(super) fn send(reply_to: ReplyTo, answer: Result<Answer, Refusal>) {
     let mut replies = Replies::default();
     match answer {
-        Ok(Answer::Done) => replies.simple("OK"),
+        Ok(Answer::Done) => replies.ok(),
         Ok(Answer::Line(line)) => replies.simple(&line),
         Ok(Answer::Lines(lines)) => {
             replies.array(lines.len());

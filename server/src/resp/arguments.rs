@@ -25,6 +25,7 @@ impl Arguments {
     }
 
     /// Adds the argument at this place of the input.
+    #[inline]
     pub(super) fn push(&mut self, start: usize, end: usize) {
         self.spans.push(Span { start, end });
     }
@@ -50,6 +51,7 @@ impl Arguments {
     }
 
     /// The command, whose input is the one that it was parsed from.
+    #[inline]
     pub fn command<'a>(&'a self, input: &'a [u8]) -> Command<'a> {
         let bytes = if self.is_line { &self.words } else { input };
         Command::new(bytes, &self.spans)

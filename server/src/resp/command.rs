@@ -10,21 +10,25 @@ pub struct Command<'a> {
 }
 
 impl<'a> Command<'a> {
+    #[inline]
     pub(super) fn new(bytes: &'a [u8], spans: &'a [Span]) -> Command<'a> {
         Command { bytes, spans }
     }
 
     /// How many arguments there are, the name among them.
+    #[inline]
     pub fn len(&self) -> usize {
         self.spans.len()
     }
 
     /// Whether it is none, as an empty line is.
+    #[inline]
     pub fn is_empty(&self) -> bool {
         self.spans.is_empty()
     }
 
     /// The argument at this place, from 0, which is the name; an empty one past the last.
+    #[inline]
     pub fn get(&self, index: usize) -> &'a [u8] {
         self.spans
             .get(index)

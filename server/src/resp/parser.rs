@@ -38,18 +38,66 @@ pub fn parse(input: &[u8], arguments: &mut Arguments) -> Result<usize, Unparsed>
 }
 
 fn parse_array(input: &[u8], arguments: &mut Arguments) -> Result<usize, Unparsed> {
-    let (count, mut at) = length(input, 1, ProtocolFault::ArrayLength)?;
+    let (count, start) = match short_length(input, b'*') {
+        Some(short) => short,
+        None => any_count(input)?,
+    };
+    // An argument that ends within this is none of a command that is too large.
+    let most = &input[..input.len().min(MAX_COMMAND)];
+    let mut rest = &most[start..];
+    for _ in 0..count {
+        let at = most.len() - rest.len();
+        let next = match short_argument(rest) {
+            Some((start, end)) => {
+                arguments.push(at + start, at + end);
+                end + LINE_END.len()
+            }
+            None => parse_argument(input, at, arguments)? - at,
+        };
+        rest = &rest[next..];
+    }
+    Ok(most.len() - rest.len())
+}
+
+/// The number of arguments in the first line, and where the next line begins.
+#[inline(never)]
+fn any_count(input: &[u8]) -> Result<(usize, usize), Unparsed> {
+    let (count, at) = length(input, 1, ProtocolFault::ArrayLength)?;
     // A number below 0 is none, as in Redis.
     let count = usize::try_from(count).unwrap_or(0);
     if count > MAX_ARGUMENTS {
         return Err(ProtocolFault::ArrayLength.into());
     }
-    for _ in 0..count {
-        at = parse_argument(input, at, arguments)?;
-    }
-    Ok(at)
+    Ok((count, at))
 }
 
+/// The number in the line of this mark with which the input begins, and where the next line begins; where it has one
+/// digit or two.
+#[inline(always)]
+fn short_length(input: &[u8], mark: u8) -> Option<(usize, usize)> {
+    let [first, ten, one, ..] = input.first_chunk::<5>()?;
+    if *first != mark {
+        return None;
+    }
+    let digit = |byte: &u8| usize::from(byte.wrapping_sub(b'0'));
+    match (digit(ten), digit(one)) {
+        (one @ 0..=9, _) if input[2..4] == *LINE_END => Some((one, 4)),
+        (ten @ 1..=9, one @ 0..=9) if input[3..5] == *LINE_END => Some((10 * ten + one, 5)),
+        _ => None,
+    }
+}
+
+/// Where the argument begins and ends with which the input begins; where it has less than 100 bytes and all of it is
+/// there.
+#[inline(always)]
+fn short_argument(input: &[u8]) -> Option<(usize, usize)> {
+    let (length, start) = short_length(input, b'$')?;
+    let end = start + length;
+    (input.get(end..end + LINE_END.len())? == LINE_END).then_some((start, end))
+}
+
+/// Takes the argument from here on, whatever it is, and returns where the next one begins.
+#[inline(never)]
 fn parse_argument(input: &[u8], at: usize, arguments: &mut Arguments) -> Result<usize, Unparsed> {
     match input.get(at) {
         None => return Err(Unparsed::Incomplete(at + 1)),
@@ -76,19 +124,8 @@ fn parse_argument(input: &[u8], at: usize, arguments: &mut Arguments) -> Result<
     }
 }
 
-/// The number in the line from here on, and where the next line begins.
+/// The number in the line from here on, of however many digits, and where the next line begins.
 fn length(input: &[u8], at: usize, fault: ProtocolFault) -> Result<(i64, usize), Unparsed> {
-    match input[at..] {
-        [one @ b'0'..=b'9', b'\r', b'\n', ..] => Ok((i64::from(one - b'0'), at + 3)),
-        [ten @ b'1'..=b'9', one @ b'0'..=b'9', b'\r', b'\n', ..] => {
-            Ok((10 * i64::from(ten - b'0') + i64::from(one - b'0'), at + 4))
-        }
-        _ => any_length(input, at, fault),
-    }
-}
-
-/// The same, of however many digits.
-fn any_length(input: &[u8], at: usize, fault: ProtocolFault) -> Result<(i64, usize), Unparsed> {
     let line = &input[at..];
     let end = line
         .iter()
@@ -106,6 +143,7 @@ fn any_length(input: &[u8], at: usize, fault: ProtocolFault) -> Result<(i64, usi
     Ok((number, at + end + 1))
 }
 
+#[inline(never)]
 fn parse_line(input: &[u8], arguments: &mut Arguments) -> Result<usize, Unparsed> {
     let Some(end) = input.iter().take(MAX_LINE).position(|it| *it == b'\n') else {
         return Err(if input.len() < MAX_LINE {

@@ -39,6 +39,7 @@ impl Replies {
     }
 
     /// The bytes that weren't sent yet.
+    #[inline]
     pub fn unsent(&self) -> &[u8] {
         &self.bytes[self.sent..]
     }
@@ -82,6 +83,7 @@ impl Replies {
     }
 
     /// Where the next reply begins.
+    #[inline]
     pub fn mark(&self) -> usize {
         self.bytes.len()
     }
@@ -96,7 +98,13 @@ impl Replies {
         self.bytes.truncate(mark);
     }
 
-    /// A word that is no data, as OK.
+    /// The word OK.
+    #[inline]
+    pub fn ok(&mut self) {
+        self.bytes.extend_from_slice(b"+OK\r\n");
+    }
+
+    /// A word that is no data, as PONG.
     pub fn simple(&mut self, word: &str) {
         self.bytes.push(b'+');
         self.bytes.extend_from_slice(word.as_bytes());
@@ -132,6 +140,7 @@ impl Replies {
     }
 
     /// How many errors were written.
+    #[inline]
     pub fn error_count(&self) -> u64 {
         self.error_count
     }
@@ -194,7 +203,7 @@ mod tests {
     #[test]
     fn replies_are_written_in_both_versions() {
         let mut replies = Replies::default();
-        replies.simple("OK");
+        replies.ok();
         replies.error("ERR a\r\nb");
         replies.number(-7);
         replies.bulk(b"x\r\n");

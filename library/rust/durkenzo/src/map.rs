@@ -42,6 +42,7 @@ impl Map {
     }
 
     /// How many keys hold something.
+    #[inline]
     pub fn len(&mut self) -> u64 {
         let mut length = 0;
         // SAFETY: the handle is this value's alone.
@@ -61,7 +62,16 @@ impl Map {
     }
 
     /// The same, with a text that is copied where and when you want it; or the faults of `ask`.
+    // Where it is inlined, a reply is told from others by its number alone.
+    #[inline]
     pub fn lend(&mut self, request: &Request<'_>) -> Result<LentReply<'_>, MapFault> {
+        let parts = self.call(request)?;
+        Ok(LentReply::of(&mut self.reply, &parts))
+    }
+
+    // The parts of the reply, of which its handle keeps the bytes.
+    #[inline]
+    fn call(&mut self, request: &Request<'_>) -> Result<ReplyParts, MapFault> {
         let (kind, key, other, amount) = request.parts();
         let mut parts = ReplyParts::default();
         // SAFETY: the handles are this value's alone, and the slices last as long as the call.
@@ -79,7 +89,7 @@ impl Map {
             )
         };
         match code {
-            0 => Ok(LentReply::of(&mut self.reply, &parts)),
+            0 => Ok(parts),
             code => Err(MapFault::of(code)),
         }
     }
@@ -154,8 +164,9 @@ impl Map {
     /// Adds to the key's count, where a key that holds nothing counts as 0: the sum; or the faults of `ask`,
     /// `WrongKind` where the key holds a text, or `Overflow`.
     pub fn add(&mut self, key: impl AsRef<[u8]>, amount: i64) -> Result<i64, MapFault> {
-        match self.made(&Request::Add(key.as_ref(), amount))? {
-            Reply::Value(Value::Count(sum)) => Ok(sum),
+        let parts = self.made(&Request::Add(key.as_ref(), amount))?;
+        match LentReply::of(&mut self.reply, &parts) {
+            LentReply::Count(sum) => Ok(sum),
             other => unreachable!("an addition replied {other:?}"),
         }
     }
@@ -179,13 +190,13 @@ impl Map {
         }
     }
 
-    // The reply of a request that was made, or why it changed nothing.
-    fn made(&mut self, request: &Request<'_>) -> Result<Reply, MapFault> {
-        match self.ask(request)? {
-            Reply::WrongKind => Err(MapFault::WrongKind),
-            Reply::Overflow => Err(MapFault::Overflow),
-            Reply::TextTooLong => Err(MapFault::TextTooLong),
-            reply => Ok(reply),
+    // The parts of the reply to a request that was made, or why it changed nothing.
+    #[inline]
+    fn made(&mut self, request: &Request<'_>) -> Result<ReplyParts, MapFault> {
+        let parts = self.call(request)?;
+        match LentReply::refusal(&parts) {
+            Some(fault) => Err(fault),
+            None => Ok(parts),
         }
     }
 }

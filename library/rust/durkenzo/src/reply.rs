@@ -1,4 +1,5 @@
 //! What the sample service replies.
+use crate::fault::MapFault;
 use crate::raw::{self, Handle, ReplyParts};
 
 /// The longest key, in bytes.
@@ -70,6 +71,7 @@ pub enum LentReply<'a> {
 }
 
 impl<'a> LentReply<'a> {
+    #[inline]
     pub(crate) fn of(handle: &'a mut Handle, parts: &ReplyParts) -> LentReply<'a> {
         let length = parts.length;
         match parts.kind {
@@ -77,11 +79,24 @@ impl<'a> LentReply<'a> {
             1 => LentReply::Done,
             2 => LentReply::Text(LentText { handle, length }),
             3 => LentReply::Count(parts.count),
-            4 => LentReply::Pairs((0..length).map(|at| pair_of(handle, at)).collect()),
+            4 => LentReply::Pairs(pairs_of(handle, length)),
             5 => LentReply::WrongKind,
             6 => LentReply::Overflow,
             7 => LentReply::TextTooLong,
             other => unreachable!("a reply of kind {other}"),
+        }
+    }
+}
+
+impl LentReply<'_> {
+    /// Why the request of the reply with these parts changed nothing, if that is so.
+    #[inline]
+    pub(crate) fn refusal(parts: &ReplyParts) -> Option<MapFault> {
+        match parts.kind {
+            5 => Some(MapFault::WrongKind),
+            6 => Some(MapFault::Overflow),
+            7 => Some(MapFault::TextTooLong),
+            _ => None,
         }
     }
 }
@@ -137,6 +152,11 @@ impl LentText<'_> {
         self.append_to(&mut text);
         text
     }
+}
+
+/// So many pairs, which are all of the reply.
+fn pairs_of(handle: &mut Handle, count: usize) -> Vec<(Vec<u8>, Value)> {
+    (0..count).map(|at| pair_of(handle, at)).collect()
 }
 
 /// The pair at this place of the reply.

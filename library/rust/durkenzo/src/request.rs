@@ -26,6 +26,7 @@ impl<'a> Request<'a> {
         self.parts().1
     }
 
+    #[inline]
     pub(crate) fn parts(&self) -> RequestParts<'a> {
         match *self {
             Request::Get(key) => (1, key, &[], 0),

@@ -35,7 +35,7 @@ pub fn gather(
     };
     // Where it is refused, that is found again.
     let asked = match Step::of(session, command, keyspace).ok() {
-        Some(Step::Data(word, shard)) => {
+        Some(Step::Data((word, shard))) => {
             let commands = run_of(word, shard, reader, session, keyspace);
             return Ok(Some(Asked::keyed(protocol, shard, commands)));
         }
@@ -73,9 +73,9 @@ fn run_of(
         }
         commands.push((word, OwnedCommand::new(command)));
         reader.advance();
-        let next = reader.peek().ok().filter(|it| !it.is_empty());
-        match next.map(|it| Step::of(session, it, keyspace)) {
-            Some(Ok(Step::Data(next, other))) if other == shard => word = next,
+        let next = reader.peek().ok();
+        match next.and_then(|it| Step::keyed(session, it, keyspace)) {
+            Some((next, other)) if other == shard => word = next,
             _ => break,
         }
     }

@@ -50,7 +50,7 @@ fn of_each(word: DataWord, parts: Vec<Option<Replies>>, mut answer: Replies) -> 
     }
     let (is_whole, mark) = (parts.len() == count, answer.mark());
     match word {
-        DataWord::MSet => answer.simple("OK"),
+        DataWord::MSet => answer.ok(),
         DataWord::MGet => {
             answer.array(count);
             for part in parts {

@@ -94,7 +94,7 @@ impl Keyed {
     /// The answer to what was written whatever was there.
     fn written(&self, replies: &[Reply], answer: &mut Replies) -> Result<(), Fault> {
         match self.word {
-            DataWord::Set | DataWord::MSet => answer.simple("OK"),
+            DataWord::Set | DataWord::MSet => answer.ok(),
             DataWord::Del => {
                 answer.count(replies.iter().filter(|it| **it == Reply::Done).count());
             }
