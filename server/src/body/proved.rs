@@ -1,5 +1,7 @@
 use super::{Pair, Range, Refusal, Reply, Request, ShardBody, Value, MAX_KEY, MAX_PAIRS, MAX_TEXT};
-use durkenzo::{LentReply, LentText, Map, MapFault, Request as Asked, Value as Held};
+use durkenzo::{
+    Held as HeldIn, LentReply, LentText, Map, MapFault, Request as Asked, Value as Held,
+};
 use std::ops::Bound;
 
 /// How much room for a text is kept from one request to the next.
@@ -144,15 +146,15 @@ impl ProvedBody {
 
 impl ShardBody for ProvedBody {
     fn get(&mut self, key: &[u8]) -> Result<Option<Value<'_>>, Refusal> {
-        Ok(match lent(&mut self.map, &Asked::Get(key))? {
-            LentReply::Text(text) => {
-                keep(text, &mut self.text);
-                Some(Value::Text(&self.text))
-            }
-            LentReply::Count(count) => Some(Value::Count(count)),
-            LentReply::Nothing => None,
-            other => unreachable!("a key was asked for, and the map replied {other:?}"),
-        })
+        if self.text.len() > KEPT_ROOM {
+            self.text.truncate(KEPT_ROOM);
+            self.text.shrink_to_fit();
+        }
+        let held = self.map.get_in(key, &mut self.text).map_err(refusal_of)?;
+        Ok(held.map(|it| match it {
+            HeldIn::Text(text) => Value::Text(text),
+            HeldIn::Count(count) => Value::Count(count),
+        }))
     }
 
     fn put(&mut self, key: &[u8], value: Value<'_>) -> Result<(), Refusal> {

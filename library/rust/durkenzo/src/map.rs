@@ -96,6 +96,7 @@ impl Map {
 
     /// What the key holds, if anything, where a text stands in front of your room, which grows where it has fewer bytes;
     /// or `EmptyKey` or `KeyTooLong`.
+    #[inline]
     pub fn get_in<'a>(
         &mut self,
         key: impl AsRef<[u8]>,
@@ -104,7 +105,7 @@ impl Map {
         let key = key.as_ref();
         let mut parts = self.parts_in(key, room)?;
         if parts.length > room.len() {
-            room.resize(parts.length, 0);
+            room.resize(parts.length.next_power_of_two(), 0);
             parts = self.parts_in(key, room)?;
         }
         Ok(match parts.kind {
@@ -116,6 +117,7 @@ impl Map {
     }
 
     // The parts of what the key holds, of which a text is written where it fits.
+    #[inline]
     fn parts_in(&mut self, key: &[u8], room: &mut [u8]) -> Result<ReplyParts, MapFault> {
         let mut parts = ReplyParts::default();
         // SAFETY: the handle is this value's alone, and the slices last as long as the call.

@@ -83,7 +83,10 @@ fn refused_requests_change_nothing() {
     let mut room = Vec::new();
     assert_eq!(map.get_in("", &mut room), Err(MapFault::EmptyKey));
     assert_eq!(map.get_in([b'k'; 255], &mut room), Ok(None));
-    assert_eq!(map.get_in([b'k'; 256], &mut room), Err(MapFault::KeyTooLong));
+    assert_eq!(
+        map.get_in([b'k'; 256], &mut room),
+        Err(MapFault::KeyTooLong)
+    );
     assert_eq!(map.get("text"), Ok(text("a")));
     assert_eq!(map.get("count"), Ok(Some(Value::Count(i64::MAX))));
 }
