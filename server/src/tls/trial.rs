@@ -230,6 +230,43 @@ fn who_stalls_or_breaks_off_is_found_out() {
     drop(write);
 }
 
+/// Writes until the peer, which reads nothing, has no more room; returns how many bytes were sent.
+fn fill(write: &mut impl Write) -> usize {
+    let (all, mut sent) = (vec![7; 100_000], 0);
+    loop {
+        match write.write(&all) {
+            Ok(count) => sent += count,
+            Err(error) => {
+                let is_late = matches!(error.kind(), ErrorKind::WouldBlock | ErrorKind::TimedOut);
+                assert!(is_late, "{error}");
+                return sent;
+            }
+        }
+    }
+}
+
+#[test]
+fn of_bytes_by_which_a_write_fails_the_peer_reads_none() {
+    let Some(folder) = Folder::made("fails") else {
+        return;
+    };
+    folder.certify("cluster", "one", PEER_NAME);
+    let one = folder.peers("cluster", "one").unwrap();
+    for _ in 0..3 {
+        let (connected, accepted) = met(&one, &one);
+        let ((_own, mut write), (mut read, _other)) = (connected.unwrap(), accepted.unwrap());
+        write.set_timeout(Some(Duration::from_millis(50))).unwrap();
+        let sent = fill(&mut write);
+        assert!(write.write(b"more").is_err());
+        read.set_timeout(Some(Duration::from_millis(300))).unwrap();
+        let (mut came, mut room) = (0, [0; 5_000]);
+        while let Ok(count @ 1..) = read.read(&mut room) {
+            came += count;
+        }
+        assert_eq!(came, sent);
+    }
+}
+
 #[test]
 fn files_that_have_nothing_are_named() {
     let nowhere = Path::new("/nowhere/key.pem");

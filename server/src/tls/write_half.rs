@@ -6,15 +6,20 @@ use std::time::Duration;
 
 /// How long the end may take to tell.
 const LAST: Duration = Duration::from_millis(10);
+/// The most bytes that one record of TLS holds.
+const RECORD: usize = 16 << 10;
 
 /// What sends bytes to a peer, on a thread of its own if it likes. Bytes are sent by the time that `write` returns, so
-/// who sends much puts a buffer before it. Once it is dropped the peer is told the end.
+/// who sends much puts a buffer before it; and of those by which it fails the peer reads none. Once it is dropped the
+/// peer is told the end.
 #[derive(Debug)]
 pub struct WriteHalf {
     socket: TcpStream,
     tls: Option<Arc<Shared>>,
     /// Bytes of TLS that are on their way.
     sealed: Vec<u8>,
+    /// Whether some of them may be missing, so that whatever follows can't be read.
+    is_broken: bool,
 }
 
 impl WriteHalf {
@@ -33,6 +38,7 @@ impl WriteHalf {
             socket,
             tls,
             sealed,
+            is_broken: false,
         }
     }
 
@@ -52,16 +58,32 @@ impl WriteHalf {
         let _ = self.socket.shutdown(Shutdown::Both);
     }
 
-    /// Sends what the connection has to send, its own words among them.
-    fn send(&mut self) -> io::Result<()> {
+    /// Seals the first of these bytes, in one record at most, behind what the connection itself has to say; returns how
+    /// many. The record is the last thing: where the socket doesn't take all, the peer can't open it.
+    fn seal(&mut self, shared: &Shared, bytes: &[u8]) -> io::Result<usize> {
         self.sealed.clear();
-        if let Some(shared) = &self.tls {
-            let mut connection = shared.lock();
-            while connection.wants_write() {
-                connection.write_tls(&mut self.sealed)?;
-            }
+        let mut connection = shared.lock();
+        // All that went in before was taken out, so there is room.
+        let count = match bytes {
+            [] => 0,
+            _ => connection
+                .writer()
+                .write(&bytes[..bytes.len().min(RECORD)])?,
+        };
+        while connection.wants_write() {
+            connection.write_tls(&mut self.sealed)?;
         }
-        self.socket.write_all(&self.sealed)
+        Ok(count)
+    }
+
+    /// Sends what is sealed. Nothing is sent behind bytes of which some are missing.
+    fn send(&mut self) -> io::Result<()> {
+        if self.is_broken {
+            return Err(ErrorKind::BrokenPipe.into());
+        }
+        let sent = self.socket.write_all(&self.sealed);
+        self.is_broken = sent.is_err();
+        sent
     }
 }
 
@@ -70,13 +92,12 @@ impl Write for WriteHalf {
     ///
     /// # Errors
     ///
-    /// Those of the socket; after one the connection is of no use any more.
+    /// Those of the socket; the peer reads none of these bytes then, and the connection is of no use any more.
     fn write(&mut self, bytes: &[u8]) -> io::Result<usize> {
-        let Some(shared) = &self.tls else {
+        let Some(shared) = self.tls.clone() else {
             return self.socket.write(bytes);
         };
-        // All that went in before was taken out, so there is room.
-        let count = shared.lock().writer().write(bytes)?;
+        let count = self.seal(&shared, bytes)?;
         if count == 0 && !bytes.is_empty() {
             return Err(ErrorKind::WriteZero.into());
         }
@@ -90,11 +111,11 @@ impl Write for WriteHalf {
 
 impl Drop for WriteHalf {
     fn drop(&mut self) {
-        if let Some(shared) = &self.tls {
+        if let Some(shared) = self.tls.take() {
             shared.lock().send_close_notify();
             // A peer that takes no bytes isn't waited for: it finds out by the socket's end.
             if self.socket.set_write_timeout(Some(LAST)).is_ok() {
-                let _ = self.send();
+                let _ = self.seal(&shared, &[]).and_then(|_| self.send());
             }
         }
         let _ = self.socket.shutdown(Shutdown::Write);
