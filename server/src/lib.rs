@@ -21,6 +21,7 @@ pub mod http;
 pub mod io;
 pub mod join;
 pub mod joining;
+pub mod keep_alive;
 pub mod keyspace;
 pub mod observer;
 pub mod open_fault;

@@ -5,6 +5,7 @@ use super::stream::Stream;
 use crate::cluster::Cluster;
 use crate::command::{Asked as AskedOfShards, Executor, Session};
 use crate::control::Asked;
+use crate::keep_alive;
 use crate::resp::OwnedCommand;
 use crate::wait::Wait;
 use mio::net::TcpStream;
@@ -179,6 +180,7 @@ impl Worker {
 
     fn open(&mut self, socket: TcpStream) -> io::Result<()> {
         socket.set_nodelay(true)?;
+        keep_alive::of_client(&socket)?;
         let safety = &self.cluster.configuration.safety;
         let mut stream = Stream::new(socket, safety.tls.as_ref())?;
         let entry = self.connections.vacant_entry();

@@ -1,5 +1,6 @@
 //! How a process reaches another one, and is reached: the only two places that make connections between them.
 use super::Identity;
+use crate::keep_alive;
 use crate::secret::Secret;
 use crate::tls::{PeersTls, ReadHalf, WriteHalf};
 use std::fmt;
@@ -74,6 +75,7 @@ type Begin = fn(&PeersTls, TcpStream, Duration) -> io::Result<(ReadHalf, WriteHa
 
 fn met(stream: TcpStream, terms: &Terms, begin: Begin) -> io::Result<Channel> {
     stream.set_nodelay(true)?;
+    keep_alive::of_peer(&stream)?;
     let end = End(stream.try_clone()?);
     let (reader, writer) = match &terms.tls {
         Some(tls) => begin(tls, stream, PATIENCE)?,
