@@ -1,4 +1,5 @@
 //! Who may reach the server, and what they may do.
+use crate::peers::MAX_SECRET;
 use crate::run::Fault;
 use crate::secret::Secret;
 use crate::tls::{ClientsTls, PeersTls};
@@ -105,7 +106,7 @@ impl Safety {
             login_time: Duration::from_millis(options.login_time),
             tls,
             peer_tls,
-            peer_secret: secret(&options.peer_secret_file, "DURKENZO_PEER_SECRET")?,
+            peer_secret: peer_secret(options)?,
         })
     }
 
@@ -132,6 +133,22 @@ impl Safety {
     pub fn is_guarded(&self) -> bool {
         self.password.is_some() || self.tls.is_some()
     }
+}
+
+/// The secret of processes, which a greeting has room for.
+fn peer_secret(options: &SafetyOptions) -> Result<Option<Secret>, Fault> {
+    let (file, variable) = (options.peer_secret_file.as_deref(), "DURKENZO_PEER_SECRET");
+    let secret = Secret::given(file, variable)?;
+    if secret
+        .as_ref()
+        .is_some_and(|it| it.reveal().len() > MAX_SECRET)
+    {
+        let source = file.map_or(variable.into(), |it| it.display().to_string());
+        return Err(
+            format!("{source}: a secret of processes has at most {MAX_SECRET} bytes").into(),
+        );
+    }
+    Ok(secret)
 }
 
 impl Default for Safety {

@@ -344,6 +344,7 @@ def what_gives_no_safety_is_told(program):
         (["--peer-ca", "/nowhere"], {}, "--peer-cert"),
         ([], {"DURKENZO_PASSWORD": ""}, "DURKENZO_PASSWORD is empty"),
         (["--control-password-file", "/dev/null"], {}, "/dev/null: its first line is empty"),
+        ([], {"DURKENZO_PEER_SECRET": "s" * 257}, "DURKENZO_PEER_SECRET: a secret of processes has at most 256 bytes"),
     ]
     if shutil.which("openssl"):
         given += [

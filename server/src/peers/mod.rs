@@ -24,7 +24,7 @@ pub use channel::{may_listen, Terms};
 pub use counts::Counts;
 pub use fault::WireFault;
 pub use frame::{Frame, Told, Works};
-pub use greeting::{checksum, Greeting, Identity};
+pub use greeting::{checksum, Greeting, Identity, MAX_SECRET};
 
 use crate::cluster::Cluster;
 use crate::control::Asked;
