@@ -70,7 +70,7 @@ impl Ask {
             }
             Who::Control(_, reply_to) => {
                 match told {
-                    Told::Answer(bytes) => reply_to.send(bytes),
+                    Told::Answer(bytes) => pass_on(reply_to, bytes),
                     Told::NotDone(why) => refuse(reply_to, format_args!("REFUSED NotDone: {why}")),
                 }
                 Err(None)
@@ -106,11 +106,26 @@ impl Ask {
     }
 }
 
+/// Sends an answer of another process, whose errors are counted here, where the client is.
+fn pass_on(reply_to: ReplyTo, answer: Vec<u8>) {
+    // What is no error may be long, and isn't copied.
+    if answer.starts_with(b"-") {
+        let mut told = Replies::default();
+        told.append_told(&answer);
+        note_errors(&reply_to, &mut told);
+    }
+    reply_to.send(answer);
+}
+
 fn refuse(reply_to: ReplyTo, why: impl fmt::Display) {
     let mut replies = Replies::default();
     replies.error(why);
+    note_errors(&reply_to, &mut replies);
+    reply_to.send(replies.unsent().to_vec());
+}
+
+fn note_errors(reply_to: &ReplyTo, replies: &mut Replies) {
     if let Some(errors) = replies.take_errors() {
         reply_to.note_errors(errors);
     }
-    reply_to.send(replies.unsent().to_vec());
 }
