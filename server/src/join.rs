@@ -5,6 +5,7 @@ use crate::control::Asked;
 use crate::joining::JoinOptions;
 use crate::peers::{checksum, may_listen, Identity, Peers, Terms};
 use crate::run::Fault;
+use crate::safety::Safety;
 use crate::stored;
 use durkenzo_driver::{Durable, Member, Own};
 use durkenzo_store::{Etcd, Store};
@@ -35,15 +36,10 @@ impl Joined {
         configuration: &Configuration,
         clients: SocketAddr,
     ) -> Result<Joined, Fault> {
-        if server > configuration.servers {
-            let most = configuration.servers;
-            return Err(
-                format!("--name {server}: there are servers 1 to {most}, by --servers").into(),
-            );
-        }
+        is_named(server, configuration.servers)?;
         let store: Arc<dyn Store> = Arc::new(Etcd::new(options.access()?)?);
-        let terms = terms(&*store, server, configuration)?;
-        may_listen(&terms, options.listen)?;
+        let settings = settings(&*store, configuration)?;
+        may_listen(&configuration.safety, options.listen)?;
         let listener = TcpListener::bind(options.listen);
         let listener = listener.map_err(|error| format!("{}: {error}", options.listen))?;
         let addresses = options.addresses(listener.local_addr()?, clients);
@@ -58,6 +54,7 @@ impl Joined {
         let on_change = Box::new(|| {});
         let member = Member::join(store.clone(), server, addresses, lease, on_change)?;
         let member = Arc::new(member);
+        let terms = terms(&member, settings, &configuration.safety);
         let peers = Arc::new(Peers::new(terms, member.clone(), configuration.wait));
         let elsewhere = peers.hand_over();
         let own = Own { member, elsewhere };
@@ -90,14 +87,32 @@ impl Joined {
     }
 }
 
-/// How this server's process and others know each other.
-fn terms(store: &dyn Store, server: u16, configuration: &Configuration) -> Result<Terms, Fault> {
+/// Whether there is such a server.
+fn is_named(server: u16, most: u16) -> Result<(), Fault> {
+    match server <= most {
+        true => Ok(()),
+        false => {
+            Err(format!("--name {server}: there are servers 1 to {most}, by --servers").into())
+        }
+    }
+}
+
+/// The checksum of the settings, which all processes of the cluster have.
+fn settings(store: &dyn Store, configuration: &Configuration) -> Result<u64, Fault> {
     let otherwise = "name another cluster of etcd";
     let settings = stored::agree(store, "the cluster", otherwise, configuration)?;
-    let settings = checksum(settings.as_bytes());
-    Ok(Terms {
-        identity: Identity { server, settings },
-        secret: configuration.safety.peer_secret.clone(),
-        tls: configuration.safety.peer_tls.clone(),
-    })
+    Ok(checksum(settings.as_bytes()))
+}
+
+/// How this process and others know each other.
+fn terms(member: &Member, settings: u64, safety: &Safety) -> Terms {
+    Terms {
+        identity: Identity {
+            server: member.server(),
+            settings,
+            process: member.process(),
+        },
+        secret: safety.peer_secret.clone(),
+        tls: safety.peer_tls.clone(),
+    }
 }

@@ -32,6 +32,8 @@ RECOVERY = 2
 # What a machine with other work may take besides.
 SLOW = 6
 PATIENCE = 20
+# How soon it is told that a process isn't reached: connecting in vain takes longer.
+SOON = 1.8
 WAIT = 10_000
 
 
@@ -121,8 +123,8 @@ class Cluster:
     def __init__(self, program, etcd, options):
         self.program, self.etcd, self.options, self.processes = program, etcd, options, {}
 
-    def begin(self, server):
-        self.processes[server] = Process(self.program, self, server, self.options)
+    def begin(self, server, *options):
+        self.processes[server] = Process(self.program, self, server, (*self.options, *options))
         return self.processes[server]
 
     def client(self, server):
@@ -367,8 +369,8 @@ def strangers_are_refused(several):
     """What nobody of the cluster sends where processes reach each other ends that connection, and nothing else."""
     with several.any() as client:
         places = [it[8].rpartition(":") for it in rows(client)]
-    chance, hello = random.Random(9), b"SMP\0\x01\0\0\0\x11\x01"
-    spoilt = [b"*1\r\n$4\r\nPING\r\n", b"SMP\0\x09", b"SMP\0\x01\xff\xff\xff\xff", hello + bytes(16), hello, b""]
+    chance, hello = random.Random(9), b"SMP\0\x01\0\0\0\x19\x01"
+    spoilt = [b"*1\r\n$4\r\nPING\r\n", b"SMP\0\x09", b"SMP\0\x01\xff\xff\xff\xff", hello + bytes(24), hello, b""]
     spoilt += [hello + chance.randbytes(chance.randrange(99)) for _ in range(50)]
     for bytes_of_one in spoilt:
         host, _, port = chance.choice(places)
@@ -505,6 +507,80 @@ def who_does_not_wait_is_told(program):
     return f"{total} additions, {', '.join(sorted(names))}"
 
 
+def who_takes_the_place_of_a_process_is_asked(program):
+    """The process before it was stopped, so that connections to it stay; strangers take what places they get."""
+    with cluster(program) as several, contextlib.ExitStack() as stack:
+        gone = next(it for it in several.processes if it != several.leader())
+        client = stack.enter_context(several.client(next(it for it in several.processes if it != gone)))
+        keys = [f"key:{it}" for it in range(60)]
+        assert client.piped([("INCR", it) for it in keys]) == [1] * len(keys)
+        stopped, port = several.processes[gone], free_ports(1)[0]
+        stopped.process.send_signal(signal.SIGSTOP)
+        stack.callback(stopped.kill)
+        several.begin(gone, "--http-port", port)
+        eventually(lambda: rows(client)[gone - 1][1] == "up")
+        give_all(client, gone)
+        host, _, place = rows(client)[gone - 1][8].rpartition(":")
+        for _ in range(100):
+            stranger = stack.enter_context(socket.create_connection((host, int(place)), PATIENCE))
+            stranger.sendall(b"SMP\0\x01\0\0\x07\xff")
+        began = time.monotonic()
+        assert client.ask("INCR", keys[0]) == 2
+        took = time.monotonic() - began
+        assert took < SOON, f"it took {took:.1f} s"
+        assert client.piped([("INCR", it) for it in keys[1:]]) == [2] * len(keys[1:])
+        errors_of_the_control_are_counted(several.processes[gone], port)
+        return f"{took:.1f} s"
+
+
+def give_all(client, server):
+    """Has the server own all shards."""
+    for shard, (_, owner) in enumerate(shards(client)):
+        if owner != str(server):
+            client.ask("SM", "MIGRATE", shard, server)
+
+
+def errors_of_the_control_are_counted(process, port):
+    """At the process that the client asks, which isn't the one that refuses."""
+    with process.client() as client, durable.served_refusal("REFUSED"):
+        client.ask("SM", "MIGRATE", 0, SERVERS + 1)
+    with urllib.request.urlopen(f"http://127.0.0.1:{port}/metrics", timeout=PATIENCE) as told:
+        counted = [it for it in told.read().decode().splitlines() if it.startswith("durkenzo_errors_total{")]
+    assert len(counted) == 1 and counted[0].endswith(" 1"), counted
+
+
+def who_is_not_reached_is_told_in_time(program):
+    """A machine that answers no connection doesn't have others wait for longer than they like."""
+    with cluster(program, "--wait", 500) as several, contextlib.ExitStack() as stack:
+        silent = next(it for it in several.processes if it != several.leader())
+        client = stack.enter_context(several.client(next(it for it in several.processes if it != silent)))
+        several.processes.pop(silent).kill(signal.SIGTERM)
+        several.begin(silent, "--advertise", full_place(stack))
+        eventually(lambda: rows(client)[silent - 1][1] == "up")
+        several.settled()
+        give_all(client, silent)
+        times = []
+        for _ in range(5):
+            began = time.monotonic()
+            with durable.served_refusal("PEERDOWN"):
+                client.ask("INCR", "key")
+            times.append(time.monotonic() - began)
+        assert min(times) < SOON, times
+        with several.client(silent) as there:
+            assert there.ask("GET", "key") is None
+        return f"{min(times):.1f} s"
+
+
+def full_place(stack):
+    """An address at which nobody is connected, as too many wait there."""
+    place = stack.enter_context(socket.create_server(("127.0.0.1", 0), backlog=0))
+    for _ in range(4):
+        waiting = stack.enter_context(socket.socket())
+        waiting.setblocking(False)
+        waiting.connect_ex(place.getsockname())
+    return f"127.0.0.1:{place.getsockname()[1]}"
+
+
 def kills_of_the_leader_let_migrations_go_on(program):
     with cluster(program, "--pace", 150) as several:
         leader = several.leader()
@@ -566,6 +642,8 @@ TESTS = [
     migrations_lose_no_addition,
     kills_of_a_process_lose_nothing,
     who_does_not_wait_is_told,
+    who_takes_the_place_of_a_process_is_asked,
+    who_is_not_reached_is_told_in_time,
     kills_of_the_leader_let_migrations_go_on,
     kills_of_the_leader_let_drains_go_on,
     restarts_are_told_when_a_process_may_end,

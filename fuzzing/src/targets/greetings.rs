@@ -42,7 +42,7 @@ impl Target for Greetings {
     }
 
     fn seeds(&mut self) -> Vec<Vec<u8>> {
-        let identity = [0, 3, 1, 2, 3, 4, 5, 6, 7, 8];
+        let identity = [0, 3, 1, 2, 3, 4, 5, 6, 7, 8, 0, 0, 0, 0, 0, 0, 0, 9];
         vec![
             greeted(
                 1,

@@ -156,6 +156,7 @@ impl Process {
             identity: Identity {
                 server,
                 settings: 0,
+                process: member.process(),
             },
             secret: None,
             tls: None,

@@ -7,10 +7,16 @@ use std::time::{Duration, Instant};
 
 /// How long an answer may take beyond the time for which work waits: for a transaction that is under way there.
 const BEYOND: Duration = Duration::from_secs(6);
+/// How long works that have waited already may take to be sent.
+const SOON: Duration = Duration::from_millis(100);
+/// How long a command for the control may take to be sent, however short works wait.
+const LEAST: Duration = Duration::from_secs(1);
 
 /// What another process is asked.
 pub(super) struct Ask {
     pub(super) who: Who,
+    /// When it is given up where it isn't sent.
+    due: Instant,
     /// When its answer is given up.
     end: Option<Instant>,
 }
@@ -26,15 +32,21 @@ pub(super) enum Who {
 impl Ask {
     /// That of works which wait for so long.
     pub(super) fn works(handed: Handed, wait: Duration) -> Ask {
-        let end = Some(Instant::now() + wait + BEYOND);
-        let who = Who::Works(handed);
-        Ask { who, end }
+        let now = Instant::now();
+        Ask {
+            due: (handed.since() + wait).max(now + SOON),
+            end: Some(now + wait + BEYOND),
+            who: Who::Works(handed),
+        }
     }
 
-    /// That of a command for the control, whose answer may take as long as it likes.
-    pub(super) fn control(command: OwnedCommand, reply_to: ReplyTo) -> Ask {
-        let who = Who::Control(command, reply_to);
-        Ask { who, end: None }
+    /// That of a command for the control, which waits for so long, and whose answer may take as long as it likes.
+    pub(super) fn control(command: OwnedCommand, reply_to: ReplyTo, wait: Duration) -> Ask {
+        Ask {
+            due: Instant::now() + wait.max(LEAST),
+            end: None,
+            who: Who::Control(command, reply_to),
+        }
     }
 
     /// Its frame with this number; none where that is larger than one may be.
@@ -49,6 +61,11 @@ impl Ask {
         }
     }
 
+    /// Whether it is given up where it isn't sent.
+    pub(super) fn is_due(&self, now: Instant) -> bool {
+        self.due <= now
+    }
+
     /// Whether its answer is given up.
     pub(super) fn is_late(&self, now: Instant) -> bool {
         self.end.is_some_and(|it| it <= now)
@@ -56,7 +73,7 @@ impl Ask {
 
     /// What became of the work at this place; returns the ask where more is to be told.
     pub(super) fn told(self, place: u16, told: Told) -> Result<Ask, Option<Handed>> {
-        let Ask { who, end } = self;
+        let Ask { who, due, end } = self;
         match who {
             Who::Works(mut handed) => {
                 handed.told(place, told);
@@ -64,6 +81,7 @@ impl Ask {
                     true => Err(Some(handed)),
                     false => Ok(Ask {
                         who: Who::Works(handed),
+                        due,
                         end,
                     }),
                 }

@@ -1,14 +1,15 @@
 //! How a process reaches another one, and is reached: the only two places that make connections between them.
 use super::Identity;
 use crate::keep_alive;
+use crate::safety::Safety;
 use crate::secret::Secret;
 use crate::tls::{PeersTls, ReadHalf, WriteHalf};
 use std::fmt;
-use std::io::{self, Read, Write};
+use std::io::{self, ErrorKind, Read, Write};
 use std::net::{Shutdown, SocketAddr, TcpStream, ToSocketAddrs};
-use std::time::Duration;
+use std::time::{Duration, Instant};
 
-/// How long another process may take to be reached, to greet, and to take what is sent.
+/// How long another process may take to be reached, to be met and greet in all, and to take what is sent.
 pub(super) const PATIENCE: Duration = Duration::from_secs(2);
 
 /// How processes of a cluster know each other.
@@ -36,12 +37,30 @@ pub(super) struct Channel {
     pub(super) reader: Box<dyn Read + Send>,
     pub(super) writer: Box<dyn Write + Send>,
     pub(super) end: End,
+    /// When both sides have to know each other.
+    pub(super) deadline: Instant,
+}
+
+impl Channel {
+    /// Has the next read end by the deadline.
+    pub(super) fn hurry(&self) -> io::Result<()> {
+        let left = self.deadline.saturating_duration_since(Instant::now());
+        match left.is_zero() {
+            true => Err(ErrorKind::TimedOut.into()),
+            false => self.end.set_patience(Some(left)),
+        }
+    }
 }
 
 /// What ends a connection, so that whoever reads or writes notices.
 pub(super) struct End(TcpStream);
 
 impl End {
+    /// That of this connection.
+    pub(super) fn of(stream: &TcpStream) -> io::Result<End> {
+        stream.try_clone().map(End)
+    }
+
     pub(super) fn end(&self) {
         // Where it has ended, nothing is to do.
         let _ = self.0.shutdown(Shutdown::Both);
@@ -74,9 +93,10 @@ pub(super) fn accept(terms: &Terms, stream: TcpStream) -> io::Result<Channel> {
 type Begin = fn(&PeersTls, TcpStream, Duration) -> io::Result<(ReadHalf, WriteHalf)>;
 
 fn met(stream: TcpStream, terms: &Terms, begin: Begin) -> io::Result<Channel> {
+    let deadline = Instant::now() + PATIENCE;
     stream.set_nodelay(true)?;
     keep_alive::of_peer(&stream)?;
-    let end = End(stream.try_clone()?);
+    let end = End::of(&stream)?;
     let (reader, writer) = match &terms.tls {
         Some(tls) => begin(tls, stream, PATIENCE)?,
         None => (
@@ -90,6 +110,7 @@ fn met(stream: TcpStream, terms: &Terms, begin: Begin) -> io::Result<Channel> {
         reader: Box::new(reader),
         writer: Box::new(writer),
         end,
+        deadline,
     })
 }
 
@@ -98,8 +119,8 @@ fn met(stream: TcpStream, terms: &Terms, begin: Begin) -> io::Result<Channel> {
 /// # Errors
 ///
 /// Where others could reach it who know nothing.
-pub fn may_listen(terms: &Terms, address: SocketAddr) -> Result<(), String> {
-    let is_guarded = terms.secret.is_some() || terms.tls.is_some();
+pub fn may_listen(safety: &Safety, address: SocketAddr) -> Result<(), String> {
+    let is_guarded = safety.peer_secret.is_some() || safety.peer_tls.is_some();
     match address.ip().is_loopback() || is_guarded {
         true => Ok(()),
         false => Err(format!(
@@ -115,20 +136,15 @@ mod tests {
 
     #[test]
     fn who_has_no_secret_listens_on_this_machine_alone() {
-        let identity = Identity {
-            server: 1,
-            settings: 1,
-        };
-        let terms = |secret: Option<&[u8]>| Terms {
-            identity,
-            secret: secret.and_then(Secret::of),
-            tls: None,
+        let safety = |secret: Option<&[u8]>| Safety {
+            peer_secret: secret.and_then(Secret::of),
+            ..Safety::default()
         };
         let (near, far) = ("127.0.0.1:7", "10.0.0.1:7");
-        assert!(may_listen(&terms(None), near.parse().unwrap()).is_ok());
-        let told = may_listen(&terms(None), far.parse().unwrap()).unwrap_err();
+        assert!(may_listen(&safety(None), near.parse().unwrap()).is_ok());
+        let told = may_listen(&safety(None), far.parse().unwrap()).unwrap_err();
         assert!(told.starts_with("NOSECRET"), "{told}");
-        assert!(may_listen(&terms(Some(b"x")), far.parse().unwrap()).is_ok());
-        assert!(!format!("{:?}", terms(Some(b"open"))).contains("open"));
+        assert!(may_listen(&safety(Some(b"x")), far.parse().unwrap()).is_ok());
+        assert!(!format!("{:?}", safety(Some(b"open"))).contains("open"));
     }
 }

@@ -1,3 +1,4 @@
+use super::greeting::VERSION;
 use std::error::Error;
 use std::fmt;
 
@@ -28,7 +29,7 @@ impl fmt::Display for WireFault {
     fn fmt(&self, f: &mut fmt::Formatter<'_>) -> fmt::Result {
         match self {
             WireFault::NoPeer => f.write_str("it doesn't begin as another process does"),
-            WireFault::Version(version) => write!(f, "it speaks version {version}"),
+            WireFault::Version(version) => write!(f, "it speaks version {version}, not {VERSION}"),
             WireFault::TooLong => f.write_str("a length is greater than it may be"),
             WireFault::TooShort => f.write_str("a frame ends too early"),
             WireFault::TooMuch => f.write_str("a frame is longer than what it holds"),

@@ -1,7 +1,7 @@
 //! How two processes make themselves known to each other.
 use super::channel::{Channel, Terms};
 use super::greeting::Greeting;
-use super::Identity;
+use super::{Identity, WireFault};
 use crate::secret::Secret;
 use std::io::{self, ErrorKind, Read, Write};
 
@@ -10,8 +10,8 @@ const ROOM: usize = 512;
 /// No greeting is longer.
 const MOST: usize = 8 << 10;
 
-/// Greets the process that was reached, which is to run this server.
-pub(super) fn greet(channel: &mut Channel, terms: &Terms, server: u16) -> io::Result<()> {
+/// Greets the process that was reached, which is to run this server; returns its number.
+pub(super) fn greet(channel: &mut Channel, terms: &Terms, server: u16) -> io::Result<u64> {
     let secret = terms.secret.as_ref().map_or(&[][..], Secret::reveal);
     let hello = Greeting::Hello(terms.identity, server, secret.to_vec());
     say(channel, &hello)?;
@@ -21,31 +21,70 @@ pub(super) fn greet(channel: &mut Channel, terms: &Terms, server: u16) -> io::Re
         Greeting::Hello(..) => return Err(io::Error::other("it doesn't answer a greeting")),
     };
     match told_apart(terms.identity, identity).or_else(|| not_wanted(identity, server)) {
-        None => Ok(()),
+        None => Ok(identity.process),
         Some(why) => Err(io::Error::other(why)),
     }
 }
 
-/// Welcomes the process that connected, or says why not; returns the server that it runs.
-pub(super) fn welcome(channel: &mut Channel, terms: &Terms) -> io::Result<u16> {
-    let Greeting::Hello(identity, wanted, secret) = hear(channel)? else {
-        return Err(io::Error::other("it doesn't greet"));
-    };
-    let known = terms.secret.as_ref();
-    let why = match known.map_or(secret.is_empty(), |it| it.is(&secret)) {
-        false => Some("its secret is another one".to_owned()),
-        true => told_apart(terms.identity, identity).or_else(|| not_wanted(terms.identity, wanted)),
-    };
-    match why {
-        None => {
-            say(channel, &Greeting::Welcome(terms.identity))?;
-            Ok(identity.server)
-        }
-        Some(why) => {
-            say(channel, &Greeting::Refusal(why.clone()))?;
-            Err(io::Error::other(why))
+/// Welcomes the process that connected, where `place` gives one for it, or says why not; returns who it is, and that.
+pub(super) fn welcome<T>(
+    channel: &mut Channel,
+    terms: &Terms,
+    place: impl FnOnce() -> Option<T>,
+) -> io::Result<(Identity, T)> {
+    let found = heard(channel, terms).and_then(|it| {
+        let place = place().ok_or_else(|| Refused::why("it has no place for one more"))?;
+        Ok((it, place))
+    });
+    match found {
+        Ok(found) => say(channel, &Greeting::Welcome(terms.identity)).map(|()| found),
+        Err(Refused { why, error }) => {
+            if let Some(why) = why {
+                say(channel, &Greeting::Refusal(why))?;
+            }
+            Err(error)
         }
     }
+}
+
+/// Who isn't welcomed: what it is told, and why its connection ends.
+struct Refused {
+    why: Option<String>,
+    error: io::Error,
+}
+
+impl Refused {
+    fn why(why: impl Into<String>) -> Refused {
+        let why: String = why.into();
+        let error = io::Error::other(why.clone());
+        Refused {
+            why: Some(why),
+            error,
+        }
+    }
+}
+
+impl From<io::Error> for Refused {
+    /// One of another version is told so; who speaks otherwise is told nothing.
+    fn from(error: io::Error) -> Refused {
+        let fault = error.get_ref().and_then(|it| it.downcast_ref());
+        let is_version = matches!(fault, Some(WireFault::Version(_)));
+        let why = is_version.then(|| error.to_string());
+        Refused { why, error }
+    }
+}
+
+/// Hears of the process that connected who it is, where it may be welcomed.
+fn heard(channel: &mut Channel, terms: &Terms) -> Result<Identity, Refused> {
+    let Greeting::Hello(identity, wanted, secret) = hear(channel)? else {
+        return Err(io::Error::other("it doesn't greet").into());
+    };
+    let known = terms.secret.as_ref();
+    if !known.map_or(secret.is_empty(), |it| it.is(&secret)) {
+        return Err(Refused::why("its secret is another one"));
+    }
+    let why = told_apart(terms.identity, identity).or_else(|| not_wanted(terms.identity, wanted));
+    why.map_or(Ok(identity), |it| Err(Refused::why(it)))
 }
 
 fn told_apart(own: Identity, other: Identity) -> Option<String> {
@@ -64,10 +103,11 @@ fn say(channel: &mut Channel, greeting: &Greeting) -> io::Result<()> {
     channel.writer.flush()
 }
 
-/// Reads a greeting: nothing follows it before it is answered.
+/// Reads a greeting, which is there in time: nothing follows it before it is answered.
 fn hear(channel: &mut Channel) -> io::Result<Greeting> {
     let (mut input, mut room) = (Vec::new(), [0; ROOM]);
     while input.len() < MOST {
+        channel.hurry()?;
         let count = channel.reader.read(&mut room)?;
         if count == 0 {
             return Err(ErrorKind::UnexpectedEof.into());
@@ -80,4 +120,103 @@ fn hear(channel: &mut Channel) -> io::Result<Greeting> {
         }
     }
     Err(io::Error::other("its greeting is too long"))
+}
+
+#[cfg(test)]
+mod tests {
+    use super::super::channel::accept;
+    use super::*;
+    use std::net::{TcpListener, TcpStream};
+    use std::thread;
+    use std::time::{Duration, Instant};
+
+    fn terms(secret: &str) -> Terms {
+        Terms {
+            identity: Identity {
+                server: 2,
+                settings: 1,
+                process: 9,
+            },
+            secret: Secret::of(secret.as_bytes()),
+            tls: None,
+        }
+    }
+
+    /// A connection: whoever connected, and how it is met.
+    fn met(terms: &Terms) -> (TcpStream, Channel) {
+        let listener = TcpListener::bind("127.0.0.1:0").unwrap();
+        let client = TcpStream::connect(listener.local_addr().unwrap()).unwrap();
+        (client, accept(terms, listener.accept().unwrap().0).unwrap())
+    }
+
+    /// What the process that accepts and the one that connects come to, with these secrets, where there is a place or
+    /// none.
+    fn greeted(
+        known: &str,
+        shown: &str,
+        place: Option<()>,
+    ) -> (io::Result<Identity>, io::Result<u64>) {
+        let (client, mut accepted) = met(&terms(known));
+        let shown = terms(shown);
+        let greeting = thread::spawn(move || {
+            let mut connected = accept(&shown, client).unwrap();
+            greet(&mut connected, &shown, 2)
+        });
+        let welcomed = welcome(&mut accepted, &terms(known), || place);
+        drop(accepted);
+        (welcomed.map(|it| it.0), greeting.join().unwrap())
+    }
+
+    #[test]
+    fn both_sides_learn_who_the_other_one_is_or_why_not() {
+        let (accepted, connected) = greeted("a", "a", Some(()));
+        assert_eq!(accepted.unwrap(), terms("a").identity);
+        assert_eq!(connected.unwrap(), 9);
+        for (shown, place, why) in [
+            ("b", Some(()), "its secret is another one"),
+            ("a", None, "it has no place for one more"),
+        ] {
+            let (accepted, connected) = greeted("a", shown, place);
+            assert_eq!(accepted.unwrap_err().to_string(), why);
+            assert_eq!(connected.unwrap_err().to_string(), why);
+        }
+    }
+
+    #[test]
+    fn one_of_another_version_is_told_so_and_others_nothing() {
+        let told = |greeting: &[u8]| {
+            let (mut client, mut accepted) = met(&terms("a"));
+            client.write_all(greeting).unwrap();
+            assert!(welcome(&mut accepted, &terms("a"), || Some(())).is_err());
+            drop(accepted);
+            let mut told = Vec::new();
+            client.read_to_end(&mut told).unwrap();
+            told
+        };
+        let (refusal, _) = Greeting::read(&told(b"SMP\0\x63")).unwrap().unwrap();
+        let why = "it speaks version 99, not 1".to_owned();
+        assert_eq!(refusal, Greeting::Refusal(why));
+        assert!(told(b"PING\r\n").is_empty());
+    }
+
+    #[test]
+    fn who_greets_byte_by_byte_has_no_more_time() {
+        let (mut client, mut accepted) = met(&terms("a"));
+        let began = Instant::now();
+        accepted.deadline = began + Duration::from_millis(300);
+        let slow = thread::spawn(move || {
+            // It fails once the other side has gone.
+            let mut bytes = b"SMP\0\x01\0\0\0\x20".iter();
+            while bytes
+                .next()
+                .is_some_and(|it| client.write_all(&[*it]).is_ok())
+            {
+                thread::sleep(Duration::from_millis(100));
+            }
+        });
+        assert!(welcome(&mut accepted, &terms("a"), || Some(())).is_err());
+        assert!(began.elapsed() < Duration::from_millis(800));
+        drop(accepted);
+        slow.join().unwrap();
+    }
 }

@@ -22,6 +22,8 @@ pub struct Identity {
     pub server: u16,
     /// The checksum of its settings.
     pub settings: u64,
+    /// Its number: of two processes of one server the later one has the greater.
+    pub process: u64,
 }
 
 /// What a connection begins with.
@@ -107,12 +109,14 @@ impl Identity {
     fn write(&self, out: &mut Vec<u8>) {
         out.extend(self.server.to_be_bytes());
         out.extend(self.settings.to_be_bytes());
+        out.extend(self.process.to_be_bytes());
     }
 
     fn read(fields: &mut Fields<'_>) -> Result<Identity, WireFault> {
         Ok(Identity {
             server: fields.short()?,
             settings: fields.long()?,
+            process: fields.long()?,
         })
     }
 }
@@ -132,6 +136,7 @@ mod tests {
     const IDENTITY: Identity = Identity {
         server: 3,
         settings: 0x0123_4567_89ab_cdef,
+        process: 1 << 40,
     };
 
     fn greetings() -> [Greeting; 4] {

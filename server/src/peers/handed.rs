@@ -59,6 +59,11 @@ impl Handed {
         }
     }
 
+    /// Since when these wait.
+    pub(super) fn since(&self) -> Instant {
+        self.elsewhere.since
+    }
+
     /// Whether these have waited for so long.
     pub(super) fn has_waited(&self, wait: Duration) -> bool {
         self.elsewhere.since + wait <= Instant::now()

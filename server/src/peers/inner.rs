@@ -1,9 +1,10 @@
 use super::ask::Ask;
-use super::channel::{End, Terms};
+use super::callers::Callers;
+use super::channel::Terms;
 use super::counts::Counts;
 use super::handed::{Handed, Returned};
 use super::link::{Link, Unasked};
-use super::outbox::Outbox;
+use super::strangers::Strangers;
 use crate::cluster::Cluster;
 use crate::control::Asked;
 use durkenzo_driver::{Durable, Member};
@@ -30,9 +31,10 @@ pub(super) struct Inner {
     pub(super) links: Mutex<BTreeMap<u16, Arc<Link>>>,
     /// What is tried again, and when.
     pub(super) returned: Mutex<Vec<(Instant, Returned)>>,
-    /// How many connections of others there are, what ends them, and what they are answered.
+    /// Who connected: how many of them are answered, and they, and those who haven't greeted yet.
     pub(super) serving: AtomicUsize,
-    pub(super) served: Mutex<Vec<(Weak<End>, Weak<Outbox>)>>,
+    pub(super) callers: Callers,
+    pub(super) strangers: Arc<Strangers>,
     pub(super) stops: AtomicBool,
 }
 
@@ -49,7 +51,8 @@ impl Inner {
             links: Mutex::default(),
             returned: Mutex::default(),
             serving: AtomicUsize::new(0),
-            served: Mutex::default(),
+            callers: Callers::default(),
+            strangers: Arc::default(),
             stops: AtomicBool::new(false),
         }
     }
@@ -149,9 +152,16 @@ impl Inner {
         let due: Vec<(Instant, Returned)> = due;
         due.into_iter().for_each(|it| self.submit_again(it.1));
         let (links, members) = (locked(&self.links).clone(), self.member.members());
+        self.callers.tick(now, &members);
         for (server, link) in links {
+            let given_up = link.tick(now, members.get(&server).map(|it| it.process));
+            let why = given_up.why;
+            let unsent = given_up.unsent.into_iter();
+            unsent
+                .filter_map(|it| it.unsent(&why))
+                .for_each(|it| self.go_on(it, Some(&why)));
             let why = format!("the process of server {server} doesn't answer");
-            let late = link.tick(now, members.contains_key(&server)).into_iter();
+            let late = given_up.unanswered.into_iter();
             late.filter_map(|it| it.lost(&why))
                 .for_each(|it| self.go_on(it, Some(&why)));
         }
@@ -161,29 +171,6 @@ impl Inner {
     pub(super) fn stop_returned(&self) {
         let returned = std::mem::take(&mut *locked(&self.returned));
         returned.into_iter().for_each(|it| it.1.stop());
-    }
-
-    /// Notes a connection of another process, and forgets those that ended.
-    pub(super) fn note_served(&self, end: &Arc<End>, outbox: &Arc<Outbox>) {
-        let mut served = locked(&self.served);
-        served.retain(|it| it.0.strong_count() > 0);
-        served.push((Arc::downgrade(end), Arc::downgrade(outbox)));
-    }
-
-    /// Whether something is under way that another process asked for.
-    pub(super) fn is_answering(&self) -> bool {
-        let served = locked(&self.served);
-        let mut outboxes = served.iter().filter_map(|it| it.1.upgrade());
-        outboxes.any(|it| it.is_answering())
-    }
-
-    /// Ends all connections of others.
-    pub(super) fn end_serving(&self) {
-        let served = std::mem::take(&mut *locked(&self.served));
-        served
-            .iter()
-            .filter_map(|it| it.0.upgrade())
-            .for_each(|it| it.end());
     }
 }
 

@@ -1,4 +1,5 @@
 use super::ask::Ask;
+use super::batch::Batch;
 use super::channel::{connect, Channel, End};
 use super::frame::Frame;
 use super::greet::greet;
@@ -12,8 +13,6 @@ use std::time::{Duration, Instant};
 /// How much may wait to be sent to a process, and how much it may be asked at once.
 const MOST_BYTES: usize = 64 << 20;
 const MOST_ASKS: usize = 1 << 16;
-/// How much is written at once.
-const MOST_WRITTEN: usize = 256 << 10;
 /// How much is read at once.
 const ROOM: usize = 64 << 10;
 /// How long a connection goes on to a server that isn't there any more, as it may end by itself and answer first.
@@ -22,7 +21,8 @@ const LAST: Duration = Duration::from_millis(500);
 const FIRST_PAUSE: Duration = Duration::from_millis(20);
 const LAST_PAUSE: Duration = Duration::from_millis(500);
 
-/// The connection to the process of one server, made where it is needed, and again after it broke.
+/// The connection to the process of one server, made where it is needed, and again after it broke, or another process
+/// has the server.
 pub(super) struct Link {
     server: u16,
     state: Mutex<State>,
@@ -37,8 +37,11 @@ struct State {
     /// What was sent, or is being sent, and isn't told.
     asked: HashMap<u64, Ask>,
     last: u64,
-    /// What ends the connection, where there is one.
+    /// What ends the connection, where there is one, and the number of the process to which it is.
     end: Option<Arc<End>>,
+    process: u64,
+    /// Why the server wasn't reached when that was tried last, if it wasn't.
+    unreached: Option<String>,
     /// Since when the server isn't there, if it isn't.
     gone: Option<Instant>,
     is_broken: bool,
@@ -49,6 +52,50 @@ struct Queued {
     number: u64,
     bytes: Vec<u8>,
     ask: Ask,
+}
+
+impl State {
+    /// Ends the connection at once where a later process has the server, and after a while where none has it.
+    fn follow(&mut self, now: Instant, process: Option<u64>) {
+        let gone = *self.gone.get_or_insert(now);
+        if process.is_some() {
+            self.gone = None;
+        }
+        let is_other = process.is_some_and(|it| it > self.process);
+        if is_other || process.is_none() && gone + LAST <= now {
+            self.end.iter().for_each(|it| it.end());
+        }
+    }
+
+    /// Takes what has waited for too long to be sent: nobody was asked that.
+    fn take_due(&mut self, now: Instant) -> Vec<Ask> {
+        if !self.queue.iter().any(|it| it.ask.is_due(now)) {
+            return Vec::new();
+        }
+        let queue = std::mem::take(&mut self.queue).into_iter();
+        let (due, queue): (Vec<_>, Vec<_>) = queue.partition(|it| it.ask.is_due(now));
+        self.queue = queue.into();
+        self.bytes -= due.iter().map(|it| it.bytes.len()).sum::<usize>();
+        due.into_iter().map(|it| it.ask).collect()
+    }
+
+    /// Takes what was sent and isn't answered in time.
+    fn take_late(&mut self, now: Instant) -> Vec<Ask> {
+        let asked = self.asked.iter();
+        let late = asked.filter(|it| it.1.is_late(now)).map(|it| *it.0);
+        let late: Vec<u64> = late.collect();
+        let late = late.iter().filter_map(|it| self.asked.remove(it));
+        late.collect()
+    }
+}
+
+/// What a link gives up, as it took too long.
+pub(super) struct GivenUp {
+    /// What wasn't sent, and why.
+    pub(super) unsent: Vec<Ask>,
+    pub(super) why: String,
+    /// What was sent, and isn't answered.
+    pub(super) unanswered: Vec<Ask>,
 }
 
 impl Link {
@@ -97,22 +144,22 @@ impl Link {
         Ok(())
     }
 
-    /// Ends the connection where the server hasn't been there for a while. Returns what was asked and isn't answered in
-    /// time, which is asked no more.
-    pub(super) fn tick(&self, now: Instant, is_there: bool) -> Vec<Ask> {
+    /// Ends the connection where the server hasn't been there for a while, or is another process, by the number of the
+    /// one that is there. Returns what wasn't sent or answered in time, which is asked no more.
+    pub(super) fn tick(&self, now: Instant, process: Option<u64>) -> GivenUp {
         let mut state = self.state();
-        let gone = *state.gone.get_or_insert(now);
-        if is_there {
-            state.gone = None;
+        state.follow(now, process);
+        let unsent = state.take_due(now);
+        let why = match &state.unreached {
+            Some(why) if !unsent.is_empty() => why.clone(),
+            _ => "it isn't reached in time".to_owned(),
+        };
+        let unanswered = state.take_late(now);
+        GivenUp {
+            unsent,
+            why,
+            unanswered,
         }
-        if !is_there && gone + LAST <= now {
-            state.end.iter().for_each(|it| it.end());
-        }
-        let asked = state.asked.iter();
-        let late = asked.filter(|it| it.1.is_late(now)).map(|it| *it.0);
-        let late: Vec<u64> = late.collect();
-        let late = late.iter().filter_map(|it| state.asked.remove(it));
-        late.collect()
     }
 
     /// Ends the connection: what was sent isn't told.
@@ -137,16 +184,18 @@ impl Link {
     fn run(self: Arc<Link>, inner: &Arc<Inner>) {
         let mut pause = FIRST_PAUSE;
         while self.wait_for_work() {
-            let reached = self.reach(inner);
-            let why = match reached {
-                Ok(channel) => {
+            let begun = self.reach(inner);
+            let begun = begun.and_then(|it| self.begin_to_serve(it, inner));
+            let why = match begun {
+                Ok((writer, reading)) => {
                     pause = FIRST_PAUSE;
-                    self.serve(channel, inner);
+                    self.serve(writer, reading, inner);
                     continue;
                 }
                 Err(error) => error.to_string(),
             };
             tracing::debug!(server = self.server, why, "a process isn't reached");
+            self.state().unreached = Some(why.clone());
             self.give_back_all(&why, inner);
             thread::sleep(pause);
             pause = (2 * pause).min(LAST_PAUSE);
@@ -162,40 +211,53 @@ impl Link {
         !state.unwrap_or_else(PoisonError::into_inner).is_over
     }
 
-    fn reach(&self, inner: &Inner) -> io::Result<Channel> {
+    /// Reaches the process, and says which one it is.
+    fn reach(&self, inner: &Inner) -> io::Result<(Channel, u64)> {
         let address = inner.address_of(self.server);
         let address = address.ok_or_else(|| io::Error::other("it isn't there"))?;
         let mut channel = connect(&inner.terms, &address)?;
-        greet(&mut channel, &inner.terms, self.server)?;
+        let process = greet(&mut channel, &inner.terms, self.server)?;
         channel.end.set_patience(None)?;
-        tracing::info!(server = self.server, address, "reached a process");
-        Ok(channel)
+        tracing::info!(server = self.server, process, address, "reached a process");
+        Ok((channel, process))
     }
 
-    /// Sends what there is to send while the connection lasts.
-    fn serve(self: &Arc<Link>, channel: Channel, inner: &Arc<Inner>) {
+    /// Has the answers of the process read, without which it is asked nothing. Returns what asks it, and who reads.
+    fn begin_to_serve(
+        self: &Arc<Link>,
+        (channel, process): (Channel, u64),
+        inner: &Arc<Inner>,
+    ) -> io::Result<(Writer, JoinHandle<()>)> {
         let Channel {
             reader,
-            mut writer,
+            writer,
             end,
+            ..
         } = channel;
         let mut state = self.state();
         state.end = Some(Arc::new(end));
+        state.process = process;
+        state.unreached = None;
         state.is_broken = false;
         drop(state);
         let reading = self.begin_to_read(reader, inner.clone());
+        if reading.is_err() {
+            self.state().end = None;
+        }
+        reading.map(|it| (writer, it))
+    }
+
+    /// Sends what there is to send while the connection lasts.
+    fn serve(&self, mut writer: Writer, reading: JoinHandle<()>, inner: &Arc<Inner>) {
         while let Some(batch) = self.next_batch() {
-            if let Err((left, error)) = send(&mut *writer, &batch) {
+            if let Err((left, error)) = batch.send(&mut *writer) {
                 self.give_back(&left, &error.to_string(), inner);
                 break;
             }
         }
         self.cut();
-        match reading {
-            // A thread that panicked has said so.
-            Ok(thread) => drop(thread.join()),
-            Err(error) => self.lose_all(&error.to_string(), inner),
-        }
+        // A thread that panicked has said so.
+        let _ = reading.join();
     }
 
     fn begin_to_read(
@@ -223,10 +285,9 @@ impl Link {
         let mut batch = Batch::default();
         while let Some(it) = state.queue.pop_front() {
             state.bytes -= it.bytes.len();
-            batch.begins.push((batch.bytes.len(), it.number));
-            batch.bytes.extend(it.bytes);
+            batch.add(it.number, &it.bytes);
             state.asked.insert(it.number, it.ask);
-            if batch.bytes.len() >= MOST_WRITTEN {
+            if batch.is_full() {
                 break;
             }
         }
@@ -308,6 +369,9 @@ impl Link {
     }
 }
 
+/// What asks a process.
+type Writer = Box<dyn Write + Send>;
+
 /// What isn't asked, and why.
 pub(super) struct Unasked {
     pub(super) ask: Ask,
@@ -319,68 +383,102 @@ fn unasked(ask: Ask, why: &str) -> Box<Unasked> {
     Box::new(Unasked { ask, why })
 }
 
-/// Frames that are written at once.
-#[derive(Default)]
-struct Batch {
-    bytes: Vec<u8>,
-    /// Where each begins, with its number.
-    begins: Vec<(usize, u64)>,
-}
-
-/// Writes the batch, or says why not all of it, with the numbers of the frames of which nothing was written.
-fn send(writer: &mut dyn Write, batch: &Batch) -> Result<(), (Vec<u64>, io::Error)> {
-    let (mut written, mut last) = (0, None);
-    while written < batch.bytes.len() && last.is_none() {
-        match writer.write(&batch.bytes[written..]) {
-            Ok(0) => last = Some(ErrorKind::WriteZero.into()),
-            Ok(count) => written += count,
-            Err(error) if error.kind() == ErrorKind::Interrupted => {}
-            Err(error) => last = Some(error),
-        }
-    }
-    match last.map_or_else(|| writer.flush(), Err) {
-        Ok(()) => Ok(()),
-        Err(error) => {
-            let unsent = batch.begins.iter().filter(|it| it.0 >= written);
-            Err((unsent.map(|it| it.1).collect(), error))
-        }
-    }
-}
-
 #[cfg(test)]
 mod tests {
     use super::*;
+    use crate::io::ReplyTo;
+    use crate::resp::OwnedCommand;
+    use std::net::{TcpListener, TcpStream};
+    use std::sync::mpsc::{channel, Receiver};
 
-    /// Takes so many bytes, and then nothing more.
-    struct Narrow(usize);
+    const WAIT: Duration = Duration::from_secs(1);
 
-    impl Write for Narrow {
-        fn write(&mut self, bytes: &[u8]) -> io::Result<usize> {
-            let count = bytes.len().min(self.0).min(3);
-            self.0 -= count;
-            match count {
-                0 => Err(ErrorKind::BrokenPipe.into()),
-                count => Ok(count),
-            }
-        }
-
-        fn flush(&mut self) -> io::Result<()> {
-            Ok(())
+    /// A link that has no thread.
+    fn idle() -> Link {
+        Link {
+            server: 2,
+            state: Mutex::default(),
+            woken: Condvar::new(),
         }
     }
 
+    /// Has the link asked something; returns where the answer comes.
+    fn asked(link: &Link) -> Receiver<Vec<u8>> {
+        let (tell, told) = channel();
+        let reply_to = ReplyTo::process(move |bytes| tell.send(bytes).unwrap());
+        let ask = Ask::control(OwnedCommand::of(&["SM", "ROUTES"]), reply_to, WAIT);
+        assert!(link.ask(ask).is_ok());
+        told
+    }
+
     #[test]
-    fn what_was_not_written_is_known() {
-        let batch = Batch {
-            bytes: vec![0; 30],
-            begins: vec![(0, 7), (10, 8), (20, 9)],
-        };
-        let unsent = |room| send(&mut Narrow(room), &batch).map_err(|it| it.0);
-        assert_eq!(unsent(30), Ok(()));
-        assert_eq!(unsent(29), Err(vec![]));
-        assert_eq!(unsent(21), Err(vec![]));
-        assert_eq!(unsent(20), Err(vec![9]));
-        assert_eq!(unsent(3), Err(vec![8, 9]));
-        assert_eq!(unsent(0), Err(vec![7, 8, 9]));
+    fn what_waits_too_long_to_be_sent_is_given_up_as_unsent() {
+        let link = idle();
+        let (first, _sent) = (asked(&link), asked(&link));
+        let now = Instant::now();
+        assert!(link.tick(now, Some(1)).unsent.is_empty());
+        link.state().unreached = Some("its secret is another one".to_owned());
+        // The second is sent.
+        let mut state = link.state();
+        let sent = state.queue.pop_back().unwrap();
+        state.bytes -= sent.bytes.len();
+        state.asked.insert(sent.number, sent.ask);
+        drop(state);
+        let given_up = link.tick(now + WAIT, Some(1));
+        assert_eq!((given_up.unsent.len(), given_up.unanswered.len()), (1, 0));
+        let state = link.state();
+        assert_eq!((state.bytes, state.asked.len()), (0, 1));
+        drop(state);
+        let mut unsent = given_up.unsent.into_iter();
+        unsent
+            .by_ref()
+            .for_each(|it| drop(it.unsent(&given_up.why)));
+        let told = String::from_utf8(first.recv().unwrap()).unwrap();
+        let wanted = "-PEERDOWN nothing has changed: its secret is another one";
+        assert!(told.starts_with(wanted), "{told}");
+    }
+
+    /// A link to process 7 of the server, and the other side of its connection.
+    fn connected() -> (Link, TcpStream) {
+        let listener = TcpListener::bind("127.0.0.1:0").unwrap();
+        let own = TcpStream::connect(listener.local_addr().unwrap()).unwrap();
+        let other = listener.accept().unwrap().0;
+        let patience = Some(Duration::from_millis(50));
+        other.set_read_timeout(patience).unwrap();
+        let link = idle();
+        link.state().process = 7;
+        link.state().end = Some(Arc::new(End::of(&own).unwrap()));
+        (link, other)
+    }
+
+    fn is_ended(other: &mut TcpStream) -> bool {
+        matches!(other.read(&mut [0]), Ok(0))
+    }
+
+    #[test]
+    fn a_connection_ends_once_another_process_has_the_server() {
+        let (link, mut other) = connected();
+        let now = Instant::now();
+        // What is seen of others may lag behind whom a link has reached.
+        for process in [Some(7), Some(6)] {
+            link.tick(now, process);
+            assert!(!is_ended(&mut other));
+        }
+        link.tick(now, Some(8));
+        assert!(is_ended(&mut other));
+    }
+
+    #[test]
+    fn a_connection_goes_on_for_a_while_to_a_server_that_is_gone() {
+        let (link, mut other) = connected();
+        let now = Instant::now();
+        link.tick(now, None);
+        link.tick(now + LAST / 2, None);
+        assert!(!is_ended(&mut other));
+        link.tick(now + LAST / 2, Some(7));
+        link.tick(now + LAST, None);
+        assert!(!is_ended(&mut other));
+        link.tick(now + 2 * LAST, None);
+        assert!(is_ended(&mut other));
     }
 }

@@ -5,6 +5,8 @@
 //! which it sends [`frame`]s and gets answers in any order. Nothing here decides who executes: the driver says where
 //! works go, and whoever gets them has its proved server look at the record before anything is made.
 mod ask;
+mod batch;
+mod callers;
 mod channel;
 mod counts;
 mod fault;
@@ -16,8 +18,10 @@ mod handed;
 mod inner;
 mod link;
 mod outbox;
+mod place;
 mod received;
 mod serving;
+mod strangers;
 mod unsure;
 
 pub use channel::{may_listen, Terms};
@@ -31,14 +35,15 @@ use crate::control::Asked;
 use crate::io::ReplyTo;
 use crate::resp::OwnedCommand;
 use ask::Ask;
+use channel::End;
 use durkenzo_driver::{Durable, Elsewhere, HandOver, Member, Step};
 use handed::Handed;
 use inner::{locked, Inner};
 use serving::Serving;
 use std::fmt;
 use std::io::{self, ErrorKind};
-use std::net::TcpListener;
-use std::sync::atomic::{AtomicUsize, Ordering};
+use std::net::{SocketAddr, TcpListener, TcpStream};
+use std::sync::atomic::Ordering;
 use std::sync::mpsc::Sender;
 use std::sync::Arc;
 use std::thread::{self, JoinHandle};
@@ -46,8 +51,6 @@ use std::time::{Duration, Instant};
 
 /// How often it is looked for who connects, and for what is due.
 const TICK: Duration = Duration::from_millis(10);
-/// How many connections from others there may be, for each server of the cluster.
-const MOST_OF_A_SERVER: usize = 4;
 /// How long others are told at a stop that nothing more is begun, so that they look who executes now.
 const LINGER: Duration = Duration::from_millis(200);
 /// How long a stop waits for answers that others asked for.
@@ -91,7 +94,8 @@ impl Peers {
 
     /// Gives the command to the control in this server's process.
     pub fn ask_control(&self, server: u16, command: OwnedCommand, reply_to: ReplyTo) {
-        self.inner.ask(server, Ask::control(command, reply_to));
+        let ask = Ask::control(command, reply_to, self.inner.wait);
+        self.inner.ask(server, ask);
     }
 
     /// What went between this process and others.
@@ -124,11 +128,10 @@ impl Peers {
         let _ = self.inner.cluster.set(Arc::downgrade(cluster));
         *locked(&self.inner.control) = Some(control);
         let inner = self.inner.clone();
-        let most = MOST_OF_A_SERVER * usize::from(cluster.configuration.servers) + 16;
         let thread = thread::Builder::new().name("peers".to_owned());
         thread.spawn(move || {
             while !inner.stops.load(Ordering::Acquire) {
-                accept_all(&listener, &inner, most);
+                accept_all(&listener, &inner);
                 inner.tick();
                 thread::sleep(TICK);
             }
@@ -156,14 +159,15 @@ impl Peers {
         let links = std::mem::take(&mut *locked(&self.inner.links));
         links.values().for_each(|it| it.stop());
         self.linger(Duration::ZERO, LINGER);
-        self.inner.end_serving();
+        self.inner.callers.end();
     }
 
     /// Waits until nothing is under way that others asked for, between so long and so long.
     fn linger(&self, least: Duration, most: Duration) {
         let began = Instant::now();
         self.inner.stop_returned();
-        while began.elapsed() < least || self.inner.is_answering() && began.elapsed() < most {
+        while began.elapsed() < least || self.inner.callers.is_answering() && began.elapsed() < most
+        {
             thread::sleep(TICK);
             self.inner.stop_returned();
         }
@@ -178,8 +182,8 @@ impl fmt::Debug for Peers {
     }
 }
 
-/// Answers those who connected, each on threads of its own.
-fn accept_all(listener: &TcpListener, inner: &Arc<Inner>, most: usize) {
+/// Answers those who connected.
+fn accept_all(listener: &TcpListener, inner: &Arc<Inner>) {
     loop {
         let (stream, from) = match listener.accept() {
             Ok(accepted) => accepted,
@@ -189,38 +193,24 @@ fn accept_all(listener: &TcpListener, inner: &Arc<Inner>, most: usize) {
                 return;
             }
         };
-        if inner.serving.load(Ordering::Relaxed) >= most || stream.set_nonblocking(false).is_err() {
-            continue;
-        }
-        let counted = Counted::new(inner);
-        let running = inner.clone();
-        let spawned = thread::Builder::new()
-            .name("from".to_owned())
-            .spawn(move || {
-                let _counted = counted;
-                if let Err(error) = Serving::run(running, stream) {
-                    tracing::warn!(%from, %error, "a connection of a process ended");
-                }
-            });
-        if let Err(error) = spawned {
+        if let Err(error) = answer(inner, stream, from) {
             tracing::warn!(%error, "a process isn't answered");
         }
     }
 }
 
-/// Counts a connection while it lasts.
-struct Counted(Arc<Inner>);
-
-impl Counted {
-    fn new(inner: &Arc<Inner>) -> Counted {
-        let of: &AtomicUsize = &inner.serving;
-        of.fetch_add(1, Ordering::Relaxed);
-        Counted(inner.clone())
-    }
-}
-
-impl Drop for Counted {
-    fn drop(&mut self) {
-        self.0.serving.fetch_sub(1, Ordering::Relaxed);
-    }
+/// Answers one who connected, on threads of its own.
+fn answer(inner: &Arc<Inner>, stream: TcpStream, from: SocketAddr) -> io::Result<()> {
+    stream.set_nonblocking(false)?;
+    let Some(stranger) = inner.strangers.take(End::of(&stream)?) else {
+        return Ok(());
+    };
+    let running = inner.clone();
+    let thread = thread::Builder::new().name("from".to_owned());
+    let run = move || {
+        if let Err(error) = Serving::run(running, stream, stranger) {
+            tracing::warn!(%from, %error, "a connection of a process ended");
+        }
+    };
+    thread.spawn(run).map(drop)
 }

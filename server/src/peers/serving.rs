@@ -4,8 +4,10 @@ use super::frame::{Frame, Told, Works};
 use super::greet::welcome;
 use super::inner::{locked, Inner};
 use super::outbox::{Outbox, Teller};
+use super::place::Place;
 use super::received::Received;
-use super::WireFault;
+use super::strangers::Stranger;
+use super::{Identity, WireFault};
 use crate::command::step_of_spelled;
 use crate::control::Asked;
 use crate::io::ReplyTo;
@@ -27,15 +29,17 @@ pub(super) struct Serving {
     inner: Arc<Inner>,
     keyspace: Keyspace,
     outbox: Arc<Outbox>,
-    /// The server that the process runs.
-    server: u16,
+    /// Who the process is.
+    caller: Identity,
 }
 
 impl Serving {
-    /// Welcomes whoever connected, and answers it until it ends.
-    pub(super) fn run(inner: Arc<Inner>, stream: TcpStream) -> io::Result<()> {
+    /// Welcomes this stranger who connected, and answers it until it ends.
+    pub(super) fn run(inner: Arc<Inner>, stream: TcpStream, stranger: Stranger) -> io::Result<()> {
         let mut channel = accept(&inner.terms, stream)?;
-        let server = welcome(&mut channel, &inner.terms)?;
+        let place = || Place::take(&inner);
+        let (caller, _place) = welcome(&mut channel, &inner.terms, place)?;
+        drop(stranger);
         channel.end.set_patience(None)?;
         let Some(cluster) = inner.cluster() else {
             return Ok(());
@@ -46,7 +50,7 @@ impl Serving {
             inner,
             keyspace,
             outbox,
-            server,
+            caller,
         };
         serving.answer(channel)
     }
@@ -56,11 +60,12 @@ impl Serving {
             mut reader,
             mut writer,
             end,
+            ..
         } = channel;
         let end = Arc::new(end);
-        self.inner.note_served(&end, &self.outbox);
+        self.inner.callers.note(self.caller, &end, &self.outbox);
         let (outbox, ending) = (self.outbox.clone(), end.clone());
-        let name = format!("answers-{}", self.server);
+        let name = format!("answers-{}", self.caller.server);
         let writing = thread::Builder::new().name(name).spawn(move || {
             while let Some(bytes) = outbox.take() {
                 if writer
