@@ -89,6 +89,7 @@ pub struct Options {
         value_name = "COUNT",
         default_value_t = 64,
         value_parser = clap::value_parser!(u16).range(1..=4096),
+        conflicts_with_all = ["ranges", "bounds"],
         help_heading = SHARDS
     )]
     pub shards: u16,

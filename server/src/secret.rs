@@ -19,9 +19,9 @@ impl Secret {
     pub fn given(file: Option<&Path>, variable: &str) -> Result<Option<Secret>, Fault> {
         if let Some(file) = file {
             let text = fs::read(file).map_err(|error| format!("{}: {error}", file.display()))?;
-            let line = text.split(|it| *it == b'\n').next().unwrap_or_default();
             let told = || format!("{}: its first line is empty", file.display());
-            return Secret::of(line).ok_or_else(|| told().into()).map(Some);
+            let found = Secret::of(first_line(&text));
+            return found.ok_or_else(|| told().into()).map(Some);
         }
         let Some(text) = env::var_os(variable) else {
             return Ok(None);
@@ -50,6 +50,15 @@ impl Secret {
     }
 }
 
+/// The first line, without its end, which may be that of Windows.
+pub fn first_line(text: &[u8]) -> &[u8] {
+    let line = text.split(|it| *it == b'\n').next().unwrap_or_default();
+    let is_ended = line.len() < text.len();
+    line.strip_suffix(b"\r")
+        .filter(|_| is_ended)
+        .unwrap_or(line)
+}
+
 impl fmt::Debug for Secret {
     fn fmt(&self, f: &mut fmt::Formatter<'_>) -> fmt::Result {
         f.write_str("Secret(..)")
@@ -69,6 +78,21 @@ mod tests {
         }
         assert_eq!(format!("{secret:?}"), "Secret(..)");
         assert!(Secret::of(b"").is_none());
+    }
+
+    #[test]
+    fn the_first_line_has_no_end() {
+        for (text, line) in [
+            ("word", "word"),
+            ("word\n", "word"),
+            ("word\r\nmore\n", "word"),
+            ("wo\rrd\r\r\n", "wo\rrd\r"),
+            ("word\r", "word\r"),
+            ("\r\n", ""),
+            ("", ""),
+        ] {
+            assert_eq!(first_line(text.as_bytes()), line.as_bytes(), "{text:?}");
+        }
     }
 
     #[test]

@@ -174,6 +174,8 @@ def what_is_not_accepted_is_told(program):
         (["--port", port], "--port takes another port"),
         (["--port", 0, "--http-port", port], "--http-port takes another port"),
         (["--servers", 0], "0 is not in 1..=4095"),
+        (["--shards", 3, "--ranges", 2], "cannot be used with"),
+        (["--bounds", "m", "--shards", 3], "cannot be used with"),
         (["--settings", "/nowhere"], "/nowhere: No such file"),
         (["--settings", settings_file], "the settings: BadGroups"),
         (["--bounds", "m,a"], "a bound is not above the one before it"),

@@ -4,6 +4,8 @@ use super::Refusal;
 use crate::cluster::Cluster;
 use crate::peers::Peers;
 use durkenzo_store::Revision;
+use std::fmt::Display;
+use std::sync::mpsc::channel;
 use std::sync::Arc;
 use std::thread;
 
@@ -36,15 +38,21 @@ fn routes(cluster: &Cluster, peers: &Peers) -> Answer {
 
 /// Has a thread of its own make room, as that takes long.
 fn compact(cluster: &Arc<Cluster>, asked: Asked) {
-    let (cluster, reply_to) = (cluster.clone(), asked.reply_to);
+    let (cluster, (give, given)) = (cluster.clone(), channel());
+    let told = |error: &dyn Display| Refusal::new("StoreDown", format!("{error}"), "try again");
     let compacting = move || {
-        let durable = cluster.storage.durable();
-        let done = durable.map_or(Ok(()), |it| it.compact());
-        let told = |error| Refusal::new("StoreDown", format!("{error}"), "try again");
-        send(reply_to, done.map(|()| Answer::Done).map_err(told));
+        // Who asked is given to a thread that there is: a refused one would take him along.
+        if let Ok(reply_to) = given.recv() {
+            let durable = cluster.storage.durable();
+            let done = durable.map_or(Ok(()), |it| it.compact());
+            let done = done.map_err(|error| told(&error));
+            send(reply_to, done.map(|()| Answer::Done));
+        }
     };
     let thread = thread::Builder::new().name("compact".to_owned());
-    if let Err(error) = thread.spawn(compacting) {
-        tracing::error!(%error, "nothing is compacted");
+    match thread.spawn(compacting) {
+        // A thread that has no one to answer has panicked, and said so.
+        Ok(_) => drop(give.send(asked.reply_to)),
+        Err(error) => send(asked.reply_to, Err(told(&error))),
     }
 }

@@ -68,6 +68,9 @@ impl DumpFile {
         self.file.get_ref().sync_all()?;
         fs::rename(&self.part, &self.path)?;
         self.is_whole = true;
+        // The name lies in the folder.
+        let folder = self.path.parent().filter(|it| !it.as_os_str().is_empty());
+        File::open(folder.unwrap_or(Path::new(".")))?.sync_all()?;
         Ok(pairs)
     }
 
