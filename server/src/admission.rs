@@ -97,10 +97,12 @@ impl Admission {
     /// Counts commands that were done under the last permit, so many of which were answered by an error.
     pub fn note_done(&self, commands: u64, errors: u64) {
         let server = &self.stats.servers[self.executed_by];
-        server.commands.add(commands);
+        let mut done = commands;
         if errors > 0 {
             server.errors.add(errors);
+            done -= errors.min(done);
         }
+        server.done.add(done);
     }
 
     /// Has the closure work on the body of the shard, as the server that executes it.

@@ -83,13 +83,16 @@ impl Latency {
 }
 
 /// What a thread did as a server.
+///
+/// Each is a number of its own that only grows, and no difference of two, which are read one after the other: so who
+/// reads again never finds less, as a read of one place never finds an older value than the read before it.
 #[derive(Debug, Default)]
 pub struct AsServer {
     /// Admissions to shards.
     pub admissions: Counter,
-    /// Commands with keys.
-    pub commands: Counter,
-    /// Those of them that were answered by an error.
+    /// Commands with keys that were done.
+    pub done: Counter,
+    /// Commands with keys that were answered by an error.
     pub errors: Counter,
 }
 

@@ -158,13 +158,9 @@ fn servers(registry: &Registry, cluster: &Cluster, snapshot: &Snapshot) -> prome
         };
         admissions.set(&[&server], count);
         for inlet in cluster.inlets() {
-            let done = &inlet.stats().servers[usize::from(row.server) - 1];
-            let errors = done.errors.get();
-            requests.set(&[&server, "error"], errors);
-            requests.set(
-                &[&server, "done"],
-                done.commands.get().saturating_sub(errors),
-            );
+            let of = &inlet.stats().servers[usize::from(row.server) - 1];
+            requests.set(&[&server, "error"], of.errors.get());
+            requests.set(&[&server, "done"], of.done.get());
         }
     }
     Ok(())
