@@ -64,6 +64,20 @@ def metrics_are_in_the_format_of_prometheus(program):
         assert "# TYPE durkenzo_commands_total counter" in lines and "# TYPE durkenzo_keys gauge" in lines
 
 
+def slow_clients_keep_nobody_out(program):
+    """Many connections that send nothing, or a part of a request."""
+    port = free_port()
+    with served(program, "--http-port", port) as server, contextlib.ExitStack() as stack:
+        assert got(port, "/healthz") == "ok\n"
+        before = server.descriptors()
+        for number in range(600):
+            one = stack.enter_context(socket.create_connection(("127.0.0.1", port), 10))
+            one.sendall(b"GET / HTTP/1.1\r\nHost: a\r\n"[: number % 20])
+        began = time.monotonic()
+        assert got(port, "/healthz") == "ok\n" and time.monotonic() - began < 3
+        assert server.descriptors() - before < 300, server.descriptors()
+
+
 def what_is_not_counted_is_not_told(program):
     """Of data in a folder there are no counts of keys, nor of what each server did."""
     port = free_port()
@@ -192,6 +206,7 @@ def what_is_not_accepted_is_told(program):
 TESTS = [
     the_page_shows_how_all_stands,
     metrics_are_in_the_format_of_prometheus,
+    slow_clients_keep_nobody_out,
     what_is_not_counted_is_not_told,
     settings_of_scripts_are_taken,
     limits_of_settings_bind,

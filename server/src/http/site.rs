@@ -7,6 +7,7 @@ use hyper::header::{CACHE_CONTROL, CONTENT_TYPE};
 use hyper::server::conn::Http;
 use hyper::service::service_fn;
 use hyper::{Body, Method, Request, Response, StatusCode};
+use std::collections::VecDeque;
 use std::convert::Infallible;
 use std::error::Error;
 use std::net::SocketAddr;
@@ -14,14 +15,14 @@ use std::sync::{Arc, Mutex, PoisonError};
 use std::time::Duration;
 use tokio::io::{AsyncRead, AsyncWrite};
 use tokio::net::{TcpListener, TcpStream};
-use tokio::sync::Semaphore;
+use tokio::task::JoinHandle;
 use tokio::time::{sleep, timeout};
 use tokio_rustls::TlsAcceptor;
 
 const PAGE: &str = include_str!("page.html");
 const TEXT: &str = "text/plain; charset=utf-8";
 
-/// How many connections there are at a time, and how long one lasts.
+/// How many connections there are at a time, and how long one lasts at most.
 const MOST: usize = 256;
 const LASTS: Duration = Duration::from_secs(60);
 /// How long nothing is accepted after the system had no room for a connection.
@@ -42,21 +43,30 @@ pub async fn serve(cluster: Arc<Cluster>, address: SocketAddr) -> Result<(), Fau
     tracing::info!(address = %listener.local_addr()?, "page, /metrics and /healthz");
     let safety = &site.cluster.configuration.safety;
     let tls = safety.tls.as_ref().map(|it| it.config().into());
-    let room = Arc::new(Semaphore::new(MOST));
+    let mut open = VecDeque::new();
     loop {
-        let place = room.clone().acquire_owned().await?;
-        let (site, tls) = (site.clone(), tls.clone());
         match listener.accept().await {
-            Ok((socket, _)) => drop(tokio::spawn(async move {
-                let _place = place;
+            Ok((socket, _)) => {
+                make_room(&mut open);
+                let meeting = site.clone().meet(socket, tls.clone());
                 // One that takes longer is cut off.
-                let _ = timeout(LASTS, site.meet(socket, tls)).await;
-            })),
+                open.push_back(tokio::spawn(timeout(LASTS, meeting)));
+            }
             Err(error) => {
                 tracing::warn!(%error, "a connection to the page isn't accepted");
                 sleep(PAUSE).await;
             }
         }
+    }
+}
+
+/// Cuts off the oldest connections until there is a place for one more, so that nobody keeps others out by many that
+/// send nothing, or little: who asks at once is answered before so many others have come.
+fn make_room<T>(open: &mut VecDeque<JoinHandle<T>>) {
+    open.retain(|it| !it.is_finished());
+    while open.len() >= MOST {
+        let oldest = open.pop_front();
+        oldest.iter().for_each(JoinHandle::abort);
     }
 }
 
