@@ -124,6 +124,8 @@ pub struct Cluster {
     inlets: OnceLock<Box<[Arc<Inlet>]>>,
     changes: AtomicU64,
     stops: AtomicBool,
+    /// Whether connections may still be brought to threads.
+    accepts: AtomicBool,
     /// Whether a thread polls for events without sleeping.
     polls: AtomicBool,
 }
@@ -154,6 +156,7 @@ impl Cluster {
             inlets: OnceLock::new(),
             changes: AtomicU64::new(0),
             stops: AtomicBool::new(false),
+            accepts: AtomicBool::new(false),
             polls: AtomicBool::new(false),
             configuration,
         })
@@ -265,6 +268,21 @@ impl Cluster {
     /// Notes that the thread doesn't any more.
     pub fn end_to_poll(&self) {
         self.polls.store(false, Ordering::Release);
+    }
+
+    /// Notes that connections may be brought to threads from now on, until [`Cluster::end_to_accept`].
+    pub fn begin_to_accept(&self) {
+        self.accepts.store(true, Ordering::Release);
+    }
+
+    /// Notes that none is brought any more: what was is there for who sees this.
+    pub fn end_to_accept(&self) {
+        self.accepts.store(false, Ordering::Release);
+    }
+
+    /// Whether connections may still be brought to threads.
+    pub fn is_accepting(&self) -> bool {
+        self.accepts.load(Ordering::Acquire)
     }
 
     /// Has all threads come to their end.

@@ -5,7 +5,7 @@ use mio::{Events, Interest, Poll, Token, Waker};
 use std::io::{self, ErrorKind, Write};
 use std::net::SocketAddr;
 use std::sync::Arc;
-use std::time::Duration;
+use std::time::{Duration, Instant};
 
 const LISTENER: Token = Token(0);
 /// How long nothing is accepted after the system had no room for a connection.
@@ -34,6 +34,7 @@ impl Acceptor {
             .register(&mut listener, LISTENER, Interest::READABLE)?;
         let waker = Arc::new(Waker::new(poll.registry(), WAKE)?);
         let turn = 0;
+        cluster.begin_to_accept();
         Ok(Acceptor {
             cluster,
             listener,
@@ -53,7 +54,7 @@ impl Acceptor {
         self.waker.clone()
     }
 
-    /// Accepts until the cluster stops.
+    /// Accepts until the cluster stops, and then what the system holds, but no longer than for its grace.
     pub fn run(mut self) {
         let mut events = Events::with_capacity(8);
         let mut timeout = None;
@@ -72,10 +73,19 @@ impl Acceptor {
                 PAUSE
             });
         }
+        // What connected before the stop may have sent something, which is answered.
+        if let Err(error) = self.accept_all() {
+            tracing::warn!(%error, "a connection that came before the stop isn't accepted");
+        }
     }
 
+    /// Accepts what is there; at a stop for no longer than its grace.
     fn accept_all(&mut self) -> io::Result<()> {
-        while !self.cluster.is_stopping() {
+        let mut end = None;
+        while end.is_none_or(|it| Instant::now() < it) {
+            if end.is_none() && self.cluster.is_stopping() {
+                end = Some(Instant::now() + self.cluster.configuration.grace);
+            }
             match self.listener.accept() {
                 Ok((stream, _)) => self.hand_on(stream),
                 Err(error) if error.kind() == ErrorKind::WouldBlock => break,
@@ -104,6 +114,12 @@ impl Acceptor {
     }
 }
 
+impl Drop for Acceptor {
+    fn drop(&mut self) {
+        self.cluster.end_to_accept();
+    }
+}
+
 fn is_of_the_client(error: &io::Error) -> bool {
     matches!(
         error.kind(),
@@ -119,10 +135,10 @@ mod tests {
     use crate::io::Inlet;
     use crate::keyspace::Rule;
 
-    #[test]
-    fn a_burst_is_bounded_before_any_of_it_is_looked_at() {
+    /// One that gives so many connections at most to two threads.
+    fn begun(most_clients: usize) -> (Acceptor, [Arc<Inlet>; 2]) {
         let configuration = Configuration {
-            most_clients: 3,
+            most_clients,
             ..Configuration::new(Rule::Hash(1))
         };
         let cluster = Arc::new(Cluster::new(configuration, Box::new(Memory)).unwrap());
@@ -131,11 +147,37 @@ mod tests {
         let inlets = inlets.map(Result::unwrap);
         cluster.set_inlets(inlets.clone().into());
         let listener = Acceptor::bind("127.0.0.1:0".parse().unwrap()).unwrap();
-        let mut acceptor = Acceptor::new(cluster, listener).unwrap();
+        (Acceptor::new(cluster, listener).unwrap(), inlets)
+    }
+
+    /// So many clients that connect.
+    fn clients(acceptor: &Acceptor, count: usize) -> Vec<std::net::TcpStream> {
         let address = acceptor.address().unwrap();
-        let clients = [0; 10].map(|_| std::net::TcpStream::connect(address).unwrap());
+        let client = |_| std::net::TcpStream::connect(address).unwrap();
+        (0..count).map(client).collect()
+    }
+
+    /// How many connections were brought.
+    fn brought(inlets: &[Arc<Inlet>]) -> usize {
+        inlets.iter().map(|it| it.take().streams.len()).sum()
+    }
+
+    #[test]
+    fn a_burst_is_bounded_before_any_of_it_is_looked_at() {
+        let (mut acceptor, inlets) = begun(3);
+        let clients = clients(&acceptor, 10);
         acceptor.accept_all().unwrap();
-        let brought = inlets.map(|it| it.take().streams.len());
-        assert_eq!(brought.iter().sum::<usize>(), 3, "of {}", clients.len());
+        assert_eq!(brought(&inlets), 3, "of {}", clients.len());
+    }
+
+    #[test]
+    fn who_connected_before_a_stop_is_brought_to_threads_that_wait_for_that() {
+        let (acceptor, inlets) = begun(100);
+        let (cluster, clients) = (acceptor.cluster.clone(), clients(&acceptor, 10));
+        assert!(cluster.is_accepting());
+        cluster.stop();
+        acceptor.run();
+        assert!(!cluster.is_accepting());
+        assert_eq!(brought(&inlets), clients.len());
     }
 }

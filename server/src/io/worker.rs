@@ -345,9 +345,11 @@ impl Worker {
         self.inlet.stats().open.note_less();
     }
 
-    /// Whether nothing is under way, and others brought nothing.
+    /// Whether nothing is under way, and others brought nothing and won't bring connections.
     fn is_quiet(&self) -> bool {
-        let is_idle = self.queue.is_empty() && self.inlet.is_empty();
+        // What was brought before they ended is seen behind that.
+        let is_idle = !self.cluster.is_accepting() && self.inlet.is_empty();
+        let is_idle = is_idle && self.queue.is_empty();
         is_idle && self.connections.iter().all(|it| it.1.is_quiet())
     }
 }
@@ -462,6 +464,24 @@ mod tests {
             client.read_to_string(&mut told).unwrap();
             assert_eq!(told, "+PONG\r\n");
         }
+    }
+
+    #[test]
+    fn a_stop_answers_who_is_brought_behind_it() {
+        let (cluster, worker) = begun(Duration::ZERO);
+        cluster.begin_to_accept();
+        cluster.stop();
+        let inlet = worker.inlet.clone();
+        let thread = thread::spawn(move || worker.run());
+        thread::sleep(Duration::from_millis(100));
+        let mut client = clients(&inlet, 1).remove(0);
+        client.write_all(b"PING\r\n").unwrap();
+        thread::sleep(Duration::from_millis(100));
+        cluster.end_to_accept();
+        let mut told = String::new();
+        client.read_to_string(&mut told).unwrap();
+        thread.join().unwrap().unwrap();
+        assert_eq!(told, "+PONG\r\n");
     }
 
     #[test]
