@@ -96,12 +96,22 @@ impl Connection {
         is_known && self.stranger_since.take().is_some()
     }
 
-    /// Notes what happened at the socket, and returns whether a turn is due.
-    pub(super) fn note(&mut self, event: &Event) -> bool {
+    /// Notes what happened at the socket, and returns whether a turn is due. While the next command waits or is owed an
+    /// answer none is, and the socket takes what was answered before.
+    pub(super) fn note(&mut self, event: &Event, executor: &mut Executor) -> bool {
         self.is_half_closed |= event.is_read_closed() || event.is_error();
         self.is_readable |= event.is_readable() || self.is_half_closed;
         let is_due = self.is_readable || !self.is_sent();
-        is_due && self.owed_since.is_none() && self.waits_since.is_none()
+        if self.is_held() && is_due {
+            // What fails fails again in the turn that comes then.
+            let _ = self.send(executor);
+        }
+        is_due && !self.is_held()
+    }
+
+    /// Whether the next command waits, or is owed an answer.
+    fn is_held(&self) -> bool {
+        self.owed_since.is_some() || self.waits_since.is_some()
     }
 
     /// Takes the answer that was owed, and says for how long it was.
@@ -119,8 +129,7 @@ impl Connection {
 
     /// Whether there is nothing that it would still be answered.
     pub(super) fn is_quiet(&self) -> bool {
-        let is_held = self.owed_since.is_some() || self.waits_since.is_some();
-        !self.is_readable && !is_held && self.is_sent()
+        !self.is_readable && !self.is_held() && self.is_sent()
     }
 
     /// Whether the socket has taken all answers.

@@ -149,8 +149,8 @@ impl Worker {
             return self.take_brought();
         }
         let place = event.token().0;
-        let connection = self.connections.get_mut(place);
-        if connection.is_some_and(|it| it.note(event)) {
+        let (connection, executor) = (self.connections.get_mut(place), &mut self.executor);
+        if connection.is_some_and(|it| it.note(event, executor)) {
             self.enqueue(place);
         }
     }
@@ -497,6 +497,21 @@ mod tests {
         thread.join().unwrap().unwrap();
         assert_eq!(told.len(), slow_bytes());
         assert!(told.ends_with(BEHIND.as_bytes()));
+    }
+
+    #[test]
+    fn what_was_answered_before_a_command_that_waits_is_sent_meanwhile() {
+        let (cluster, worker) = begun(Duration::from_secs(60));
+        let inlet = worker.inlet.clone();
+        let thread = thread::spawn(move || worker.run());
+        let mut client = slow(&cluster, &inlet);
+        let mut told = vec![0; slow_bytes() - BEHIND.len()];
+        client.read_exact(&mut told).unwrap();
+        cluster.stop();
+        let mut told = String::new();
+        client.read_to_string(&mut told).unwrap();
+        thread.join().unwrap().unwrap();
+        assert_eq!(told, BEHIND);
     }
 
     #[test]
