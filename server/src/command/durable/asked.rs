@@ -121,7 +121,8 @@ impl Asked {
                 }
             }
             What::Together(shard, transaction) => {
-                let answers = Answers::new(1, transaction.len(), protocol, Join::InOrder, reply_to);
+                // Each of its commands was counted when it was queued.
+                let answers = Answers::new(1, 1, protocol, Join::InOrder, reply_to);
                 let keys = keys_of_all(transaction.data());
                 let step = Together::step(transaction, cluster.clone(), shard, keys, answers);
                 durable.submit(shard, vec![step]);

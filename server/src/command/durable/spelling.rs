@@ -83,11 +83,11 @@ pub fn step_of_spelled(
         let query = Query::spelled(rest)?;
         return Some(Listing::told_to(query, shard, protocol, reply_to));
     }
-    let answers = |commands| Answers::new(1, commands, protocol, Join::InOrder, reply_to);
+    let answers = || Answers::new(1, 1, protocol, Join::InOrder, reply_to);
     match kind {
         KEYED => {
             let command = command_of(rest, shard, keyspace)?;
-            Some(Keyed::step(command, shard, answers(1), 0))
+            Some(Keyed::step(command, shard, answers(), 0))
         }
         NUMBERED => {
             let (client, rest) = rest.split_first_chunk()?;
@@ -97,13 +97,12 @@ pub fn step_of_spelled(
                 number: u64::from_be_bytes(*number),
             };
             let command = command_of(rest, shard, keyspace)?;
-            Keyed::numbered(numbered, command, shard, answers(1)).ok()
+            Keyed::numbered(numbered, command, shard, answers()).ok()
         }
         TOGETHER => {
             let transaction = transaction_of(rest, shard, keyspace)?;
             let keys = keys_of_all(transaction.data());
-            let (cluster, answers) = (cluster.clone(), answers(transaction.len()));
-            let step = Together::step(transaction, cluster, shard, keys, answers);
+            let step = Together::step(transaction, cluster.clone(), shard, keys, answers());
             Some(step)
         }
         _ => None,
