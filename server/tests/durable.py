@@ -7,6 +7,7 @@ A server that is killed at random under load, so often: tools/kills."""
 import contextlib
 import pathlib
 import random
+import re
 import shutil
 import signal
 import sqlite3
@@ -104,6 +105,31 @@ def answers_have_a_bound(program):
                 assert all(deaf.stream.read(len(answer)) == answer for _ in range(40))
         assert most < 64 << 20, f"{most} bytes more"
     return f"{most >> 20} MiB more memory"
+
+
+def a_refusal_of_one_key_hides_no_write_of_another(program):
+    with folder() as data, served.served(program, "--data", data, "--bounds", "m,t", "--wait", 50) as server:
+        with server.client() as client:
+            for shard in (1, 2):
+                client.ask("SM", "PAUSE", shard)
+            for words, name, held in [
+                (("MSET", "a", 1, "z", 1), "UNKNOWN", b"1"),
+                (("MGET", "a", "z"), "SHARDPAUSED", b"1"),
+                (("MSET", "n", 1, "z", 1), "SHARDPAUSED", b"1"),
+                (("DEL", "z", "a"), "UNKNOWN", None),
+            ]:
+                told = str(answer_of(client, words))
+                assert told.startswith(f"{name} ") and client.ask("GET", "a") == held, (words, told)
+
+
+def commands_of_a_transaction_are_counted_once(program):
+    with folder() as data, over(program, data) as durable, served.served(program) as memory:
+        for server in (durable, memory):
+            with server.client() as client:
+                lines = [("INFO",), ("MULTI",), *[("INCR", "a")] * 7, ("EXEC",), ("INFO",)]
+                told = [it for it in client.piped(lines) if isinstance(it, bytes)]
+                before, after = (int(re.search(rb"total_commands_processed:(\d+)", it)[1]) for it in told)
+                assert after - before == 10, after - before
 
 
 # What goes over keys, of which shards have few, so that a cursor isn't told; and what transactions refuse.
@@ -490,6 +516,8 @@ TESTS = [
     restarts_keep_all,
     commands_answer_as_in_memory,
     answers_have_a_bound,
+    a_refusal_of_one_key_hides_no_write_of_another,
+    commands_of_a_transaction_are_counted_once,
     scans_give_each_key_once_in_order,
     cursors_stay_known_where_others_scan,
     scans_give_what_stays_while_shards_move,

@@ -79,6 +79,8 @@ pub enum Fault {
     NotDurable(&'static str),
     /// A shard whose data outlives the process didn't do it, or isn't known to have done it.
     NotDone(u16, NotDone),
+    /// A command with keys of several shards wasn't done with all of them, and with others it was, or may have been.
+    InPart,
     /// The board refuses the admission, and no waiting mends that.
     NotAdmitted(AdmitFault),
 }
@@ -159,6 +161,8 @@ fn cut(bytes: &[u8], most: usize) -> String {
 const CROSS_SHARD: &str =
     "CROSSSHARD a transaction, as a command behind SM AT, is of one shard, and these keys are of several: \
      give them one {tag} where keys go by hash";
+const IN_PART: &str =
+    "UNKNOWN some of these keys are written, or may be, and others aren't: read before you try again";
 const NO_EXPIRY: &str = "NOEXPIRY keys don't expire here: SET takes no EX, PX, EXAT and PXAT";
 const QUEUE_FULL: &str =
     "QUEUEFULL a transaction has at most 1024 commands, of 1 MiB in all: send it in parts";
@@ -189,6 +193,7 @@ impl fmt::Display for Fault {
                 "NOTDURABLE {name} isn't there where data outlives the process"
             ),
             Fault::NotDone(shard, why) => not_done(f, *shard, why),
+            Fault::InPart => f.write_str(IN_PART),
             Fault::TooLong => write!(f, "TOOLONG a value has at most {MAX_TEXT} bytes"),
             Fault::LongPattern => write!(f, "TOOLONG a pattern has at most {MAX_PATTERN} bytes"),
             Fault::BadKey => write!(f, "BADKEY a key has 1 to {MAX_KEY} bytes"),

@@ -136,6 +136,47 @@ mod tests {
         assert!(held < MAX_REPLY + MAX_TEXT, "{held}");
     }
 
+    /// What a command with a key for each of these parts is answered, but for where its advice begins.
+    fn told_of(word: DataWord, parts: &[&str]) -> String {
+        let (tell, told) = channel();
+        let reply_to = ReplyTo::process(move |bytes| tell.send(bytes).unwrap());
+        let join = Join::Each(word);
+        let answers = Answers::new(parts.len(), 1, Protocol::Two, join, reply_to);
+        for (place, part) in parts.iter().enumerate() {
+            answers.bring_bytes(place, format!("{part}\r\n").as_bytes());
+        }
+        let text = String::from_utf8(told.recv().unwrap()).unwrap();
+        text.split([':', '\r']).next().unwrap().to_owned()
+    }
+
+    #[test]
+    fn a_refusal_of_one_key_hides_no_write_of_another() {
+        let in_part = "-UNKNOWN some of these keys are written, or may be, and others aren't";
+        for (word, parts, answer) in [
+            (DataWord::MSet, &["+OK", "-STOREDOWN a"][..], in_part),
+            (DataWord::MSet, &["-STOREDOWN a", "-UNKNOWN b"], in_part),
+            (DataWord::Del, &[":0", "-PEERDOWN a", ":1"], in_part),
+            (DataWord::Del, &["-UNKNOWN a", "-UNKNOWN b"], in_part),
+            (
+                DataWord::MSet,
+                &["-SHARDPAUSED a", "-STOREDOWN b"],
+                "-SHARDPAUSED a",
+            ),
+            (
+                DataWord::MGet,
+                &["*1\r\n:1", "-STOREDOWN a"],
+                "-STOREDOWN a",
+            ),
+            (
+                DataWord::Exists,
+                &[":1", "-SHARDPAUSED a"],
+                "-SHARDPAUSED a",
+            ),
+        ] {
+            assert_eq!(told_of(word, parts), answer, "{parts:?}");
+        }
+    }
+
     #[test]
     fn answers_to_several_commands_are_all_told() {
         let (answer, _) = told(Join::InOrder, &[MAX_TEXT; 200]);

@@ -4,6 +4,8 @@ use crate::resp::{Replies, MAX_ARGUMENTS, MAX_REPLY};
 
 /// What a part begins with whose command asks for the value of one key.
 const ARRAY_OF_ONE: &[u8] = b"*1\r\n";
+/// How a part begins of which nobody knows whether it is made.
+const UNKNOWN: &[u8] = b"-UNKNOWN ";
 
 /// How parts become an answer.
 #[derive(Clone, Copy, Debug)]
@@ -41,11 +43,17 @@ fn in_order(parts: Vec<Option<Replies>>, empty: Replies) -> Replies {
     })
 }
 
-/// The answer to the command of which these are for each of its keys: a refusal of one is that of all.
+/// The answer to the command of which these are for each of its keys: a refusal of one is that of all, unless the
+/// others may have been written.
 fn of_each(word: DataWord, parts: Vec<Option<Replies>>, mut answer: Replies) -> Replies {
     let count = parts.len();
     let mut parts: Vec<Replies> = parts.into_iter().flatten().collect();
     if let Some(place) = parts.iter().position(|it| it.error_count() > 0) {
+        let writes = matches!(word, DataWord::MSet | DataWord::Del);
+        if writes && count > 1 && parts.iter().any(may_be_made) {
+            answer.error(Fault::InPart);
+            return answer;
+        }
         return parts.swap_remove(place);
     }
     let (is_whole, mark) = (parts.len() == count, answer.mark());
@@ -64,6 +72,11 @@ fn of_each(word: DataWord, parts: Vec<Option<Replies>>, mut answer: Replies) -> 
         answer.error(Fault::ReplyTooLarge);
     }
     answer
+}
+
+/// Whether what this is the answer to is made, or isn't known not to be.
+fn may_be_made(part: &Replies) -> bool {
+    part.error_count() == 0 || part.unsent().starts_with(UNKNOWN)
 }
 
 /// The number that is answered.
