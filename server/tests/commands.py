@@ -100,6 +100,12 @@ PING
 ECHO x
 EXEC
 MULTI
+AUTH secret
+AUTH other secret
+HELLO 9
+SET {m}a 1
+EXEC
+MULTI
 SET {m}a text
 INCR {m}a
 GET {m}a

@@ -296,11 +296,11 @@ impl Spec {
         matches!(self.word, Word::Talk(Auth | Hello | Quit | Reset))
     }
 
-    /// Whether it may be a part of a transaction.
+    /// Whether it may be a part of a transaction: as in Redis, what ends the connection or its transaction isn't.
     pub fn is_queued(&self) -> bool {
         match self.word {
             Word::Data(_) => true,
-            Word::Talk(_) => !self.is_open(),
+            Word::Talk(word) => !matches!(word, TalkWord::Quit | TalkWord::Reset),
             _ => false,
         }
     }
