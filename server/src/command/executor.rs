@@ -147,8 +147,8 @@ impl Executor {
             Ok(Step::Queue(shard)) => session.queue(command, shard, replies).map_err(Into::into),
             Err(fault) => Err(fault.into()),
         };
-        // What ends the connection was answered.
-        if !matches!(done, Ok(()) | Err(Unanswered::End)) {
+        // What ends the turn or the connection was answered.
+        if !matches!(done, Ok(()) | Err(Unanswered::Long | Unanswered::End)) {
             replies.take_back(mark);
         }
         self.settle(done, session, reader, replies)?;
@@ -185,14 +185,17 @@ impl Executor {
         let stop = match done {
             Ok(()) => None,
             Err(Unanswered::Wait(wait)) => return Err(Stop::Wait(wait)),
+            Err(Unanswered::Long) => Some(Stop::Full),
             Err(Unanswered::End) => Some(Stop::End),
             Err(Unanswered::Control) => reader
                 .peek()
                 .ok()
                 .map(|it| Stop::Control(OwnedCommand::new(it))),
             Err(Unanswered::Fault(fault)) => {
+                // Much was read in vain: others have their turn.
+                let stop = (fault == Fault::ReplyTooLarge).then_some(Stop::Full);
                 session.refuse(fault, replies);
-                None
+                stop
             }
         };
         reader.advance();
@@ -295,8 +298,14 @@ impl Executor {
                 return self.at_server(command, replies)
             }
             (Word::Control, None) => return Err(Unanswered::Control),
-            (Word::Scan, None) => return self.scanner().scan(command, session.cursors(), replies),
-            (Word::ScanRange, None) => return self.scanner().scan_range(command, replies),
+            (Word::Scan, None) => {
+                self.scanner().scan(command, session.cursors(), replies)?;
+                return Err(Unanswered::Long);
+            }
+            (Word::ScanRange, None) => {
+                self.scanner().scan_range(command, replies)?;
+                return Err(Unanswered::Long);
+            }
             (Word::Data(_), None) => return Err(Fault::BadKey.into()),
         }
         replies.ok();
@@ -389,10 +398,27 @@ mod tests {
         (cluster, executor)
     }
 
+    /// Does commands in as many turns as they take; returns how many bytes are done with, and why it ended there.
+    fn done(
+        executor: &mut Executor,
+        session: &mut Session,
+        bytes: &[u8],
+        replies: &mut Replies,
+    ) -> (usize, Stop) {
+        let mut at = 0;
+        loop {
+            let (more, stop) = executor.run(session, &bytes[at..], replies);
+            at += more;
+            if more == 0 || !matches!(stop, Stop::Full) {
+                return (at, stop);
+            }
+        }
+    }
+
     /// What lines are answered, and why it ended.
     fn told(executor: &mut Executor, session: &mut Session, lines: &str) -> (String, Stop) {
         let mut replies = Replies::default();
-        let (_, stop) = executor.run(session, lines.as_bytes(), &mut replies);
+        let (_, stop) = done(executor, session, lines.as_bytes(), &mut replies);
         let text = String::from_utf8_lossy(replies.unsent()).replace("\r\n", " ");
         (text.trim_end().to_owned(), stop)
     }
@@ -464,6 +490,29 @@ mod tests {
             ("SCAN 0 COUNT 5 COUNT 1\n", "*2 $1 0 *0"),
         ] {
             assert_eq!(answers(&mut executor, line), told, "{line}");
+        }
+    }
+
+    #[test]
+    fn what_goes_over_shards_ends_a_turn() {
+        let (_, mut executor) = begun();
+        let mut session = Session::new(1, true);
+        for line in ["SCAN 0 COUNT 1000 MATCH zz*\n", "SCANRANGE a z 9\n"] {
+            let lines = format!("SET a 1\n{}PING\n", line.repeat(9));
+            let (mut at, mut turns) = (0, 0);
+            while at < lines.len() {
+                let mut replies = Replies::default();
+                let rest = &lines.as_bytes()[at..];
+                at += executor.run(&mut session, rest, &mut replies).0;
+                turns += 1;
+                let text = String::from_utf8_lossy(replies.unsent());
+                assert_eq!(
+                    text.matches("*2\r\n").count(),
+                    usize::from(turns < 10),
+                    "{text}"
+                );
+            }
+            assert_eq!(turns, 10);
         }
     }
 
@@ -679,14 +728,14 @@ mod tests {
             let bytes = some_commands(&mut chance);
             let (mut whole, mut pieces) = (Replies::default(), Replies::default());
             let (mut one, mut two) = (Session::new(1, true), Session::new(1, true));
-            begun().1.run(&mut one, &bytes, &mut whole);
+            done(&mut begun().1, &mut one, &bytes, &mut whole);
             let (_, mut executor) = begun();
-            let (mut done, mut end) = (0, 0);
+            let (mut at, mut end) = (0, 0);
             while end < bytes.len() {
                 end = (end + 1 + chance.below(40)).min(bytes.len());
-                done += executor.run(&mut two, &bytes[done..end], &mut pieces).0;
+                at += done(&mut executor, &mut two, &bytes[at..end], &mut pieces).0;
             }
-            assert_eq!(done, bytes.len());
+            assert_eq!(at, bytes.len());
             assert!(whole.unsent() == pieces.unsent());
         }
     }

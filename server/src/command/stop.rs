@@ -7,7 +7,7 @@ use crate::wait::Wait;
 pub enum Stop {
     /// There is no whole command in fewer than so many bytes of what is left.
     Incomplete(usize),
-    /// Much is to be sent first.
+    /// Much is to be sent first, or the last command took so long that others have their turn first.
     Full,
     /// The connection is to end when all was sent.
     End,

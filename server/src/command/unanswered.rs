@@ -8,6 +8,8 @@ pub enum Unanswered {
     Fault(Fault),
     /// It waits, and is done anew later.
     Wait(Wait),
+    /// It was answered, and took so long that others have their turn before the next one.
+    Long,
     /// It was answered, and the connection ends.
     End,
     /// The control answers it.
