@@ -131,6 +131,17 @@ def who_never_reads_takes_no_memory(program):
         assert set(client.piped([("GET", "a")] * 200)) == {"QUEUED"}
         answers = client.ask("EXEC")
         assert len(answers) == 200 and str(answers[-1]).startswith("TOOLARGE")
+        # Of many reads that are too large one alone is done, and writes behind them are.
+        client.ask("MULTI")
+        many = [("MGET", *["a"] * 100)] * 500 + [("INCR", "{a}n"), ("SET", "{a}b", 1, "GET"), ("DEL", "a")]
+        assert set(client.piped(many)) == {"QUEUED"}
+        began = time.monotonic()
+        answers = client.ask("EXEC")
+        assert len(answers[0]) == 100 and str(answers[1]).startswith("TOOLARGE")
+        assert answers[500] == 1 and str(answers[501]).startswith("TOOLARGE") and answers[502] == 1, answers[500:]
+        assert client.piped([("GET", "{a}b"), ("GET", "{a}n")]) == [None, b"1"]
+        took = time.monotonic() - began
+        assert took < 2, f"{took} s"
         return f"{taken} bytes of requests taken, {max(grown, 0) >> 10} KiB more memory"
 
 

@@ -101,6 +101,13 @@ pub trait ShardBody: Send {
     /// Does what is asked, and answers.
     fn apply<'a>(&'a mut self, request: Request<'_>) -> Reply<'a>;
 
+    /// How many bytes the key's value has where it is written, none of which is copied; none where it holds nothing.
+    ///
+    /// # Errors
+    ///
+    /// Where memory is refused.
+    fn measure(&mut self, key: &[u8]) -> Result<Option<usize>, Refusal>;
+
     /// How many keys hold something.
     fn keys(&mut self) -> usize;
 }

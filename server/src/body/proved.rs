@@ -1,4 +1,5 @@
 use super::{Pair, Range, Refusal, Reply, Request, ShardBody, Value, MAX_KEY, MAX_PAIRS, MAX_TEXT};
+use crate::resp::number::Digits;
 use durkenzo::{
     Held as HeldIn, LentReply, LentText, Map, MapFault, Request as Asked, Value as Held,
 };
@@ -205,6 +206,14 @@ impl ShardBody for ProvedBody {
             Ok(()) => self.reply(),
             Err(refusal) => Reply::Refused(refusal),
         }
+    }
+
+    fn measure(&mut self, key: &[u8]) -> Result<Option<usize>, Refusal> {
+        Ok(match lent(&mut self.map, &Asked::Get(key))? {
+            LentReply::Text(text) => Some(text.len()),
+            LentReply::Count(count) => Some(Digits::new(count).as_bytes().len()),
+            _ => None,
+        })
     }
 
     fn keys(&mut self) -> usize {

@@ -3,7 +3,12 @@
 use super::Fault;
 use crate::body::{Refusal, Reply, Request, ShardBody, Value, MAX_TEXT};
 use crate::resp::number::{self, Digits};
-use crate::resp::{Command, Replies};
+use crate::resp::{Command, Replies, MAX_REPLY};
+
+/// How many values are one reply however long they are.
+const SURELY_FIT: usize = MAX_REPLY / (MAX_TEXT + 16);
+/// The fewest bytes that say that there is nothing.
+const LEAST_NULL: usize = "_\r\n".len();
 
 /// A command with keys of one shard.
 #[derive(Clone, Copy, Debug, PartialEq, Eq)]
@@ -84,8 +89,11 @@ fn get_all(
     command: Command<'_>,
     replies: &mut Replies,
 ) -> Result<(), Fault> {
-    let mark = replies.mark();
-    replies.array(command.len() - 1);
+    let (keys, mark) = (command.len() - 1, replies.mark());
+    if keys > SURELY_FIT && !may_fit(body, command)? {
+        return Err(Fault::ReplyTooLarge);
+    }
+    replies.array(keys);
     for key in command.from(1).iter() {
         get(body, key, replies)?;
         if replies.is_too_large(mark) {
@@ -95,16 +103,30 @@ fn get_all(
     Ok(())
 }
 
+/// Whether the values of all keys may be one reply: of what is larger nothing is copied, or many such commands would
+/// hold a shard for long.
+fn may_fit(body: &mut dyn ShardBody, command: Command<'_>) -> Result<bool, Fault> {
+    let mut size = 0;
+    for key in command.from(1).iter() {
+        size += body.measure(key)?.map_or(LEAST_NULL, size_of_bulk);
+        if size > MAX_REPLY {
+            return Ok(false);
+        }
+    }
+    Ok(true)
+}
+
+/// How many bytes so many are as an answer.
+fn size_of_bulk(length: usize) -> usize {
+    "$\r\n\r\n".len() + Digits::new(length as i64).as_bytes().len() + length
+}
+
 fn is_held(body: &mut dyn ShardBody, key: &[u8]) -> Result<bool, Fault> {
     held(body, key).map(|it| it.is_some())
 }
 
 fn length(body: &mut dyn ShardBody, key: &[u8]) -> Result<usize, Fault> {
-    Ok(match held(body, key)? {
-        Some(Value::Text(text)) => text.len(),
-        Some(Value::Count(count)) => Digits::new(count).as_bytes().len(),
-        None => 0,
-    })
+    Ok(body.measure(key)?.unwrap_or(0))
 }
 
 /// Whether the key held something until now.

@@ -457,6 +457,42 @@ mod tests {
     }
 
     #[test]
+    fn a_reply_of_exec_that_is_full_has_each_write_made_and_told() {
+        let (_, mut executor) = begun();
+        let mut session = Session::new(1, true);
+        let mut told = |lines: &str| told(&mut executor, &mut session, lines).0;
+        told(&format!("SET a {}\nSET f 1\n", "x".repeat(60_000)));
+        let refused = "-TOOLARGE a reply has at most 8388608 bytes";
+        // Of so many some have no room.
+        told(&format!("MULTI\n{}", "GET a\n".repeat(200)));
+        told("INCR b\nSET c 1\nSET d 1 NX\nSET e 1 GET\nGET f\nCLIENT ID\nDEL f\n");
+        let text = told("EXEC\n");
+        let behind = format!("{refused} :1 +OK +OK {refused} {refused} :1 :1");
+        assert!(text.starts_with("*207 $60000 ") && text.ends_with(&behind));
+        assert_eq!(text.matches(refused).count(), 200 - 139 + 2);
+        assert_eq!(told("MGET b c d e f\n"), "*5 $1 1 $1 1 $1 1 $-1 $-1");
+        // One that is too large by itself takes no room from others.
+        told(&format!(
+            "MULTI\nMGET{}\nGET b\nSET b 2 GET\n",
+            " a".repeat(200)
+        ));
+        assert_eq!(told("EXEC\n"), format!("*3 {refused} $1 1 $1 1"));
+        assert_eq!(told("GET b\n"), "$1 2");
+    }
+
+    #[test]
+    fn who_is_let_in_within_a_transaction_is_so_at_its_end() {
+        let (_, mut executor) = begun();
+        let lines = "MULTI\nAUTH x\nHELLO 3\nGET a\nEXEC\nGET a\nMULTI\nRESET\nEXEC\n";
+        let text = answers(&mut executor, lines);
+        assert!(text.starts_with("+OK +QUEUED +QUEUED +QUEUED *3 -ERR AUTH <password> called"));
+        assert!(
+            text.ends_with("*0 _ _ +OK +RESET -ERR EXEC without MULTI"),
+            "{text}"
+        );
+    }
+
+    #[test]
     fn a_transaction_is_refused_as_by_redis() {
         let (_, mut executor) = begun();
         for (lines, told) in [

@@ -1,12 +1,15 @@
 use super::data::{self, DataWord};
 use super::session::Session;
-use super::spec::{Spec, Word};
+use super::spec::{Spec, TalkWord, Word};
 use super::talk;
 use super::unanswered::Unanswered;
 use super::Fault;
-use crate::body::ShardBody;
+use crate::body::{ShardBody, MAX_TEXT};
 use crate::cluster::Cluster;
 use crate::resp::{Command, OwnedCommand, Replies, MAX_ARGUMENTS, MAX_COMMAND};
+
+/// The most bytes of an answer that is a value, its length among them.
+const MOST_OF_VALUE: usize = MAX_TEXT + 16;
 
 /// Commands that EXEC does at once, whose keys are of one shard.
 #[derive(Debug, Default)]
@@ -82,12 +85,15 @@ impl Transaction {
         cluster: &Cluster,
         replies: &mut Replies,
     ) {
-        let first = replies.mark();
+        let (first, mut is_full) = (replies.mark(), false);
         replies.array(self.commands.len());
         for command in &self.commands {
             let (command, mark) = (command.command(), replies.mark());
             let word = Spec::named(command.get(0)).map(|it| it.word);
+            let size = Size::of(word, command);
+            is_full |= size == Size::OfValue && !replies.has_room(first, MOST_OF_VALUE);
             let done = match (word, &mut body) {
+                _ if is_full && size != Size::Short => Err(Fault::ReplyTooLarge.into()),
                 (Some(Word::Data(word)), Some(body)) => {
                     data::execute(word, command, *body, replies);
                     Ok(())
@@ -97,7 +103,8 @@ impl Transaction {
                 }
                 _ => Err(Fault::NotQueued.into()),
             };
-            let done = match replies.is_too_large(first) {
+            is_full |= replies.is_too_large(first);
+            let done = match size == Size::OfRead && replies.is_too_large(first) {
                 true => Err(Fault::ReplyTooLarge.into()),
                 false => done,
             };
@@ -105,6 +112,32 @@ impl Transaction {
                 replies.take_back(mark);
                 replies.error(fault);
             }
+        }
+    }
+}
+
+/// How large an answer may be, by which it is decided whether a command is done where the whole reply is full.
+#[derive(Clone, Copy, PartialEq, Eq)]
+enum Size {
+    /// It is always done, and answered truly: where it changes something nobody is told that it didn't.
+    Short,
+    /// It changes something, and is answered by what was there: it is done where the largest value has room.
+    OfValue,
+    /// It changes nothing, so its answer may be taken back.
+    OfRead,
+}
+
+impl Size {
+    fn of(word: Option<Word>, command: Command<'_>) -> Size {
+        use DataWord::{Exists, Get, MGet, Set, StrLen, Type};
+        use TalkWord::{Auth, Client, Hello};
+        match word {
+            Some(Word::Data(Get | MGet | Exists | StrLen | Type)) => Size::OfRead,
+            Some(Word::Data(Set)) if (3..command.len()).any(|it| command.is(it, "GET")) => {
+                Size::OfValue
+            }
+            Some(Word::Talk(Auth | Client | Hello) | Word::Data(_)) => Size::Short,
+            _ => Size::OfRead,
         }
     }
 }

@@ -93,6 +93,11 @@ impl Replies {
         self.bytes.len() - mark > MAX_REPLY
     }
 
+    /// Whether the reply that began at the mark may get so many more bytes.
+    pub fn has_room(&self, mark: usize, more: usize) -> bool {
+        self.bytes.len() - mark + more <= MAX_REPLY
+    }
+
     /// Takes back what was written since the mark.
     pub fn take_back(&mut self, mark: usize) {
         self.bytes.truncate(mark);
