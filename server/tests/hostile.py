@@ -145,6 +145,43 @@ def who_never_reads_takes_no_memory(program):
         return f"{taken} bytes of requests taken, {max(grown, 0) >> 10} KiB more memory"
 
 
+def scans_leave_turns_to_others(program):
+    """Many that are sent at once hold the thread for no longer than one."""
+    with served(program, "--threads", 1) as server, server.client() as client:
+        client.piped([("SET", f"k{it}", "v" * 1_000) for it in range(1_000)])
+        with socket.create_connection(("127.0.0.1", server.port), 10) as scanner:
+            scans = 400
+            scanner.sendall(b"SCAN 0 COUNT 1000 MATCH zz*\r\n" * scans)
+            time.sleep(0.02)
+            assert client.ask("PING") == "PONG"
+            scanner.setblocking(False)
+            answered = b""
+            with contextlib.suppress(BlockingIOError):
+                while more := scanner.recv(1 << 16):
+                    answered += more
+            found = answered.count(b"*2\r\n")
+            assert found < scans, "all were answered first"
+            scanner.setblocking(True)
+            while answered.count(b"*2\r\n") < scans:
+                answered += scanner.recv(1 << 16) or b"*2\r\n" * scans
+        return f"{found} of {scans} were answered before another client"
+
+
+def web_pages_change_nothing(program):
+    """What a browser sends for a page, with commands among it, ends the connection, and nothing of it is done."""
+    with served(program) as server:
+        for head in (b"POST / HTTP/1.1\r\n\r\n", b"GET / HTTP/1.1\r\nhost: a\r\n\r\n", b"*1\r\n$4\r\npost\r\n"):
+            with socket.create_connection(("127.0.0.1", server.port), 10) as one:
+                answer = b""
+                with contextlib.suppress(ConnectionError):
+                    one.sendall(head + b"SET web 1\r\n")
+                    while more := one.recv(4096):
+                        answer += more
+                assert b"+OK" not in answer and answer.count(b"\n") <= 2, answer
+        with server.client() as client:
+            assert client.ask("GET", "web") is None
+
+
 def transactions_are_bounded(program):
     with served(program) as server, server.client() as client:
         client.ask("MULTI")
@@ -206,6 +243,8 @@ TESTS = [
     each_bound_is_told,
     slow_senders_are_served,
     who_never_reads_takes_no_memory,
+    scans_leave_turns_to_others,
+    web_pages_change_nothing,
     transactions_are_bounded,
     idle_connections_cost_little,
     more_clients_than_allowed_are_told,

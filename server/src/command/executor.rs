@@ -1,3 +1,4 @@
+use super::cross_protocol;
 use super::data::{self, DataWord, Part};
 use super::durable::gather;
 use super::reader::Reader;
@@ -191,6 +192,13 @@ impl Executor {
                 .peek()
                 .ok()
                 .map(|it| Stop::Control(OwnedCommand::new(it))),
+            // Nothing is told to a web page, and what is behind it isn't done.
+            Err(Unanswered::Fault(Fault::UnknownCommand(..)))
+                if reader.peek().is_ok_and(cross_protocol::is_of_web) =>
+            {
+                cross_protocol::warn(session.id);
+                Some(Stop::End)
+            }
             Err(Unanswered::Fault(fault)) => {
                 // Much was read in vain: others have their turn.
                 let stop = (fault == Fault::ReplyTooLarge).then_some(Stop::Full);
@@ -646,6 +654,25 @@ mod tests {
             assert_eq!(text, "-NOAUTH Authentication required. +OK");
             assert!(matches!(stop, Stop::End), "{stop:?}");
         }
+    }
+
+    #[test]
+    fn a_line_of_http_ends_the_connection_without_an_answer() {
+        let (_, mut executor) = begun();
+        for (lines, answer) in [
+            ("POST / HTTP/1.1\nSET a 1\n", ""),
+            ("PING\nhost: x\nSET a 1\n", "+PONG"),
+            ("MULTI\nINCR b\nHost: x\nEXEC\n", "+OK +QUEUED"),
+        ] {
+            let (text, stop) = told(&mut executor, &mut Session::new(1, true), lines);
+            assert_eq!(text, answer);
+            assert!(matches!(stop, Stop::End), "{stop:?}");
+        }
+        let (text, _) = told(&mut executor, &mut Session::new(1, false), "post\nPING\n");
+        assert_eq!(text, "");
+        let asked = "EXISTS a b\nPOSTS\nSM AT 1 POST\nPING\n";
+        let text = answers(&mut executor, asked);
+        assert!(text.starts_with(":0 -ERR unknown") && text.ends_with("+PONG"));
     }
 
     #[test]

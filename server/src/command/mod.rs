@@ -1,5 +1,6 @@
 //! The commands that clients send, and what each does.
 mod byte_set;
+mod cross_protocol;
 mod cursors;
 mod data;
 mod durable;
