@@ -17,7 +17,7 @@ const TICK: Duration = Duration::from_millis(20);
 /// How long until it tries to lead again after it couldn't.
 const PAUSE: Duration = Duration::from_millis(200);
 /// How long a command waits for somebody to lead.
-const PATIENCE: Duration = Duration::from_secs(5);
+pub(super) const PATIENCE: Duration = Duration::from_secs(5);
 
 /// How answers begin by which nobody has decided on a command, or may not have.
 const UNDECIDED: [&[u8]; 5] = [
@@ -27,6 +27,9 @@ const UNDECIDED: [&[u8]; 5] = [
     b"-REFUSED NotLeader",
     b"-REFUSED St",
 ];
+
+/// A command that waits for somebody to lead, and until when.
+pub(super) type Held = (Instant, Asked);
 
 /// The control in one of several processes: it leads where no other one does, and else has the one that leads answer.
 pub struct Campaigner {
@@ -38,8 +41,8 @@ pub struct Campaigner {
     assigns: bool,
     /// When it tries to lead, or asks who leads, again.
     again: Instant,
-    /// Commands that wait for somebody to lead, and until when.
-    held: Vec<(Instant, Asked)>,
+    /// Commands that wait for somebody to lead.
+    held: Vec<Held>,
     /// Whether this server was stopped before its process began, and is still to ask to be up.
     is_back: Arc<AtomicBool>,
 }
@@ -106,12 +109,10 @@ impl Campaigner {
     }
 
     /// Leads until another process does. Returns whether somebody can still ask.
-    fn lead(&mut self, mut controller: StoredController, asked: &Receiver<Asked>) -> bool {
+    fn lead(&mut self, controller: StoredController, asked: &Receiver<Asked>) -> bool {
         tracing::info!("this process leads");
-        for (_, asked) in self.held.drain(..) {
-            controller.take(asked);
-        }
-        let led = controller.lead(&self.peers, self.assigns, &self.is_back, asked);
+        let waiting = (&mut self.held, asked);
+        let led = controller.lead(&self.peers, self.assigns, &self.is_back, waiting);
         tracing::info!("this process doesn't lead any more");
         matches!(led, Led::Elsewhere)
     }

@@ -448,6 +448,27 @@ fn a_shard_that_somebody_moves_stays_there() {
 }
 
 #[test]
+fn a_shard_that_somebody_moves_while_nobody_leads_stays_there() {
+    // It left for a restart, and then for a drain, and would come home else.
+    let three = Three::begin(false);
+    three.first.ask(&["SM", "RESTART", "3"]);
+    wait_until("server 3 is stopped", || three.second.durable.is_away(3));
+    three.third.kill();
+    let drained = three.first.ask(&["SM", "DRAIN", "1"]);
+    assert!(drained.recv_timeout(PATIENCE).unwrap().starts_with(b"*"));
+    three.first.kill();
+    let moved = three.second.ask(&["SM", "MIGRATE", "5", "2"]);
+    // It lies there already; that it is to stay there is new.
+    let told = moved.recv_timeout(PATIENCE).unwrap();
+    assert!(told.starts_with(b"-REFUSED SameServer"));
+    let third = three.start(3);
+    three.stands_become(|them| them[2] == Stand::Serving(3));
+    three.nothing_is_wished();
+    assert_eq!(three.second.stand(5), Stand::Serving(2));
+    drop(third);
+}
+
+#[test]
 fn a_restart_without_room_elsewhere_is_ended_by_the_next_leader() {
     // It is asked for and approved, both shards pause, the server is stopped and is back, and both shards go on.
     at_each(8, |number| {

@@ -1,4 +1,6 @@
 //! What the control of several processes does beside answering: it looks after servers that went or came back.
+use super::campaigner::{Held, PATIENCE};
+use super::controller::send;
 use super::stored::{Led, StoredController, Task, TURN};
 use super::{Asked, Refusal};
 use crate::peers::Peers;
@@ -29,17 +31,18 @@ impl StoredController {
         peers: &Arc<Peers>,
         assigns: bool,
         is_back: &Arc<AtomicBool>,
-        asked: &Receiver<Asked>,
+        (held, asked): (&mut Vec<Held>, &Receiver<Asked>),
     ) -> Led {
         self.peers = Some(peers.clone());
         let mut watch = Watch::new(assigns, is_back.clone());
         loop {
             let left = watch.due.saturating_duration_since(Instant::now());
             match asked.recv_timeout(self.wait_as_leader().min(left)) {
-                Ok(asked) => self.take(asked),
+                Ok(asked) => held.push((Instant::now() + PATIENCE, asked)),
                 Err(RecvTimeoutError::Timeout) => {}
                 Err(RecvTimeoutError::Disconnected) => return Led::Over,
             }
+            self.take_held(held, watch.has_begun);
             self.run_tasks();
             if let Err(refusal) = watch.look(&mut self) {
                 tracing::warn!(%refusal, "the control doesn't go on for now");
@@ -48,6 +51,19 @@ impl StoredController {
             if self.is_lost || watch.is_led_elsewhere(peers) || self.cluster.is_stopping() {
                 self.leave();
                 return Led::Elsewhere;
+            }
+        }
+    }
+
+    /// Takes what waits, once all that was under way before it is known: a wish that is read behind a command would
+    /// undo that. Before then what has waited in vain is refused.
+    fn take_held(&mut self, held: &mut Vec<Held>, has_begun: bool) {
+        let now = Instant::now();
+        for (end, asked) in std::mem::take(held) {
+            match has_begun {
+                true => self.take(asked),
+                false if end <= now => send(asked.reply_to, Err(Refusal::no_leader())),
+                false => held.push((end, asked)),
             }
         }
     }
