@@ -122,7 +122,7 @@ fn size_of_bulk(length: usize) -> usize {
 }
 
 fn is_held(body: &mut dyn ShardBody, key: &[u8]) -> Result<bool, Fault> {
-    held(body, key).map(|it| it.is_some())
+    Ok(body.measure(key)?.is_some())
 }
 
 fn length(body: &mut dyn ShardBody, key: &[u8]) -> Result<usize, Fault> {
