@@ -13,6 +13,8 @@ const PARTS: u32 = 3;
 const LATE: Duration = Duration::from_secs(2);
 /// How long is waited before a server's key is written again that couldn't be.
 const PAUSE: Duration = Duration::from_millis(50);
+/// How long that is where another process has the server's name.
+const TAKEN_PAUSE: Duration = Duration::from_secs(1);
 /// How long it isn't told how far the server follows, where nothing waits for that: each telling is seen by all.
 const LAG: Duration = Duration::from_millis(500);
 
@@ -247,13 +249,13 @@ impl Inner {
     }
 
     /// Writes the server's key that was written at this revision; or says where the process is that has it, and where
-    /// that is this one, at which revision it lies there.
+    /// that isn't another one, by which revision it may be written.
     fn write(
         &self,
         lease: LeaseId,
         live: &Live,
         before: Revision,
-    ) -> Result<Result<Revision, (String, Revision)>, JoinFault> {
+    ) -> Result<Result<Revision, (String, Option<Revision>)>, JoinFault> {
         let key = keys::server(self.server);
         let transaction = Transaction::new()
             .compare(key.clone(), before)
@@ -267,19 +269,16 @@ impl Inner {
         };
         let Some(pair) = found.get(&key) else {
             let why = "an address that it doesn't tell".to_owned();
-            return Ok(Err((why, Revision::NEVER)));
+            return Ok(Err((why, Some(Revision::NEVER))));
         };
         match Live::of(&pair.value) {
             // What became of it wasn't known.
             Some(found) if found == *live => Ok(Ok(pair.revision)),
             Some(found) if found.process == self.process => {
-                Ok(Err((found.addresses.servers, pair.revision)))
+                Ok(Err((found.addresses.servers, Some(pair.revision))))
             }
-            Some(found) => Ok(Err((found.addresses.servers, Revision::NEVER))),
-            None => {
-                let why = "an address that can't be read".to_owned();
-                Ok(Err((why, Revision::NEVER)))
-            }
+            Some(found) => Ok(Err((found.addresses.servers, None))),
+            None => Ok(Err(("an address that can't be read".to_owned(), None))),
         }
     }
 
@@ -362,9 +361,14 @@ impl Inner {
                 return true;
             }
             Err(JoinFault::Write(WriteError::LeaseEnded)) => state.lease = None,
-            // Somebody else has the name now, or the key went with the lease: it is tried anew. Or an earlier write was
-            // made, or not, of which that wasn't known: it goes on from what lies there.
-            Ok(Err((_, lies))) => state.written = lies,
+            // The key went with the lease, so it is tried anew. Or an earlier write was made, or not, of which that
+            // wasn't known: it goes on from what lies there.
+            Ok(Err((_, Some(lies)))) => state.written = lies,
+            Ok(Err((_, None))) => {
+                state.written = Revision::NEVER;
+                state.due = Some(Instant::now() + TAKEN_PAUSE);
+                return false;
+            }
             Err(_) => {}
         }
         state.due = Some(Instant::now());
