@@ -1,8 +1,7 @@
 use crate::base_parts::BaseParts;
 use crate::shard::{Deed, Shard, Ticket};
 use crate::{
-    keys, process, reading, Came, Elsewhere, Member, NotDone, Numbered, OpenFault, Own, Standing,
-    Step,
+    keys, process, reading, Came, Elsewhere, Member, NotDone, OpenFault, Own, Standing, Step,
 };
 use durkenzo_store::{
     CompactError, Outcome, Revision, Seen, Store, Transaction, Watch, WriteError,
@@ -234,17 +233,14 @@ impl Durable {
             }
             return None;
         }
-        let (fit, other): (Vec<Step>, Vec<Step>) =
-            steps.into_iter().partition(|it| it.begin.fits());
-        for step in other {
-            let why = format!(
-                "clients are 1 to {}, their numbers begin with 1, and one is of {} requests at most",
-                Numbered::LAST_CLIENT,
-                Numbered::MOST_REQUESTS
-            );
-            step.work.end(Err(NotDone::NotMade(why)));
+        let mut taken = Vec::with_capacity(steps.len());
+        for step in steps {
+            match step.begin.refused() {
+                Some(why) => step.work.end(Err(why)),
+                None => taken.push(step),
+            }
         }
-        Some(fit)
+        Some(taken)
     }
 
     /// The shard's record, as it was seen last.

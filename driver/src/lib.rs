@@ -28,6 +28,7 @@ mod refused;
 mod request;
 mod round;
 mod shard;
+mod size;
 mod standing;
 mod wish;
 mod work;

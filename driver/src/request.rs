@@ -34,6 +34,16 @@ impl Request {
         }
     }
 
+    /// How many its bytes are.
+    pub(crate) fn length(&self) -> usize {
+        let rest = match self {
+            Request::Put(_, text) | Request::Append(_, text) => text.len(),
+            Request::Add(..) => COUNT_BYTES,
+            Request::Delete(_) => 0,
+        };
+        2 + self.key().len() + rest
+    }
+
     /// Its bytes: the kind, how long the key is, the key, and what goes with it.
     pub(crate) fn bytes(&self) -> Vec<u8> {
         match self {

@@ -1,5 +1,6 @@
 use crate::listing::{Listed, Listing};
 use crate::request::get_bytes;
+use crate::size::Size;
 use crate::work::{Begin, Numbered, Outcome, Step, Work};
 use crate::{Came, Key, NotDone, Reply, Request};
 use durkenzo_store::Revision;
@@ -8,7 +9,7 @@ use std::time::Instant;
 
 /// How many requests a round takes before no more work comes in, and how many bytes of them.
 const MOST_REQUESTS: usize = 1_024;
-const MOST_BYTES: usize = 1 << 20;
+pub(crate) const MOST_BYTES: usize = 1 << 20;
 
 /// How many bits of a client's number tell its place in a round; those above tell the process.
 pub(crate) const PLACE_BITS: u32 = 16;
@@ -93,6 +94,12 @@ struct Taken {
     ends: Option<NotDone>,
 }
 
+impl Kind {
+    fn writes(self) -> bool {
+        matches!(self, Kind::Write | Kind::Decided)
+    }
+}
+
 impl Taken {
     /// What is told of it, where its requests were replied to so.
     fn told(&mut self, replies: Vec<Reply>) -> Vec<Reply> {
@@ -125,7 +132,7 @@ impl Asked {
 
 /// What becomes of a round's work once all is replied.
 pub(crate) enum Ended {
-    Told(Box<dyn Work>, Vec<Reply>),
+    Told(Box<dyn Work>, Outcome),
     Decided(Decided),
 }
 
@@ -136,7 +143,19 @@ pub(crate) enum Parted {
     Again(Origin, Step),
 }
 
-/// Requests that are decided together, and sent together: the group of a group commit.
+/// Which steps a round takes.
+#[derive(Clone, Copy, Debug, Default, PartialEq, Eq)]
+pub(crate) enum Takes {
+    #[default]
+    All,
+    /// Those of which nothing is written in this round: the store took no writes.
+    NoWrites,
+    /// Those that only read, which may be answered without a transaction, or go before what waits to be written.
+    OnlyReads,
+}
+
+/// Requests that are decided together, and sent together: the group of a group commit. What is written is within a
+/// bound, or of one step alone: so no step is ever made half.
 ///
 /// Reads see what was there before its writes. So a run's reads come before its writes, and no key that a change reads
 /// is written, or read by another change: what it then writes, first in the next round, is decided by what is still
@@ -151,12 +170,16 @@ pub(crate) struct Round {
     pub(crate) is_broken: bool,
     /// The number of the process, which its clients' numbers begin with.
     pub(crate) process: u64,
-    /// Whether it takes reads alone, which are answered without a transaction.
-    pub(crate) only_reads: bool,
+    pub(crate) takes: Takes,
     /// Where requests are of clients that number them.
     numbered: HashMap<u64, usize>,
     taken: Vec<Taken>,
     bytes: usize,
+    /// How much is written, and how much that may be where it isn't of one step.
+    writes: Size,
+    most_writes: Size,
+    /// Whether a step came that had no room any more.
+    is_closed: bool,
     read: HashSet<Key>,
     written: HashSet<Key>,
     /// Runs that wrote, which read no more, and runs that had to stop.
@@ -165,7 +188,8 @@ pub(crate) struct Round {
 }
 
 impl Round {
-    pub(crate) fn new(number: u64, process: u64, since: Instant) -> Round {
+    /// One in which several steps write so many bytes together at most.
+    pub(crate) fn new(number: u64, process: u64, most_bytes: usize, since: Instant) -> Round {
         Round {
             number,
             since,
@@ -173,10 +197,16 @@ impl Round {
             may_be_made: false,
             is_broken: false,
             process,
-            only_reads: false,
+            takes: Takes::All,
             numbered: HashMap::new(),
             taken: Vec::new(),
             bytes: 0,
+            writes: Size::default(),
+            most_writes: Size {
+                bytes: most_bytes,
+                ..Size::MOST
+            },
+            is_closed: false,
             read: HashSet::new(),
             written: HashSet::new(),
             wrote: HashSet::new(),
@@ -190,20 +220,38 @@ impl Round {
 
     /// Whether no more work comes in.
     pub(crate) fn is_full(&self) -> bool {
-        self.asked.len() >= MOST_REQUESTS || self.bytes >= MOST_BYTES
+        self.is_closed || self.asked.len() >= MOST_REQUESTS || self.bytes >= MOST_BYTES
     }
 
-    /// Takes what a change decided.
-    pub(crate) fn take_decided(&mut self, decided: Decided) {
-        let Decided {
-            origin,
-            step,
-            requests,
-        } = decided;
-        self.wrote.insert(origin.run);
-        self.note_written(&requests);
-        let bytes = requests.iter().map(Request::bytes).collect();
-        self.add(step, Kind::Decided, origin, bytes, None);
+    /// How many bytes are written, where several steps write.
+    pub(crate) fn bytes_of_several(&self) -> Option<usize> {
+        let writes = |it: &&Taken| it.kind.writes() && it.count > 0;
+        (self.taken.iter().filter(writes).count() > 1).then_some(self.writes.bytes)
+    }
+
+    /// Takes what changes decided, as far as it has room; what stays comes first in the next round. Until that is made
+    /// nothing else is written, and no more is done of those runs.
+    pub(crate) fn take_decided(&mut self, decided: &mut VecDeque<Decided>) {
+        while let Some(next) = decided.pop_front() {
+            if self.takes != Takes::All || !self.has_room(&next.requests) {
+                decided.push_front(next);
+                break;
+            }
+            self.wrote.insert(next.origin.run);
+            self.note_written(&next.requests);
+            let bytes = next.requests.iter().map(Request::bytes).collect();
+            self.add(next.step, Kind::Decided, next.origin, bytes, None);
+        }
+        if !decided.is_empty() {
+            self.takes = Takes::OnlyReads;
+            self.stopped.extend(decided.iter().map(|it| it.origin.run));
+        }
+    }
+
+    /// Whether these requests can be written beside what is.
+    fn has_room(&self, requests: &[Request]) -> bool {
+        let is_first = self.writes == Size::default();
+        is_first || (self.writes + Size::of(requests)).is_within(self.most_writes)
     }
 
     /// Takes the run's next step, or gives it back where it has to wait for the next round. What goes over keys is
@@ -217,6 +265,11 @@ impl Round {
         let run = origin.run;
         if !self.may_take(run, &step.begin) {
             self.stopped.insert(run);
+            return Err(step);
+        }
+        if !self.has_room(step.begin.requests()) {
+            // What comes later doesn't pass it: so its turn comes.
+            self.is_closed = true;
             return Err(step);
         }
         let gets = |keys: &[Key]| keys.iter().map(|it| get_bytes(it)).collect();
@@ -268,11 +321,16 @@ impl Round {
                 !self.numbered.contains_key(&numbered.first()) && !requests.iter().any(reads)
             }
         };
-        let may = may && (begin.only_reads() || !self.only_reads);
-        may && !self.stopped.contains(&run)
+        let is_wanted = match self.takes {
+            Takes::All => true,
+            Takes::NoWrites => begin.requests().is_empty(),
+            Takes::OnlyReads => begin.only_reads(),
+        };
+        may && is_wanted && !self.stopped.contains(&run)
     }
 
     fn note_written(&mut self, requests: &[Request]) {
+        self.writes = self.writes + Size::of(requests);
         self.written
             .extend(requests.iter().map(|it| it.key().clone()));
     }
@@ -343,6 +401,12 @@ impl Round {
         }
     }
 
+    /// Has all steps that write come to their end so; returns whether there are some.
+    pub(crate) fn end_writes(&mut self, why: &NotDone) -> bool {
+        let writes = self.taken.iter_mut().filter(|it| it.kind.writes());
+        writes.map(|it| it.ends = Some(why.clone())).count() > 0
+    }
+
     /// Has all steps of this run come to their end so.
     pub(crate) fn end_run(&mut self, run: u64, why: &NotDone) {
         let of_run = self.taken.iter_mut().filter(|it| it.origin.run == run);
@@ -400,12 +464,13 @@ impl Round {
             let told: Vec<Reply> = replies.by_ref().take(it.count).collect();
             let told = it.told(told);
             if it.kind != Kind::Change {
-                return Ended::Told(it.step.work, told);
+                return Ended::Told(it.step.work, Ok(told));
             }
             let requests = it.step.work.decide(told);
-            match requests.is_empty() {
-                true => Ended::Told(it.step.work, Vec::new()),
-                false => Ended::Decided(Decided {
+            match (NotDone::if_too_large(&requests), requests.is_empty()) {
+                (Some(why), _) => Ended::Told(it.step.work, Err(why)),
+                (None, true) => Ended::Told(it.step.work, Ok(Vec::new())),
+                (None, false) => Ended::Decided(Decided {
                     origin: it.origin,
                     step: it.step,
                     requests,

@@ -1,3 +1,4 @@
+use crate::size::Size;
 use crate::{Key, Range, Reply, Request};
 use durkenzo_store::Revision;
 use thiserror::Error;
@@ -44,15 +45,26 @@ impl Begin {
         matches!(self, Begin::Read(_) | Begin::Scan(_) | Begin::Count)
     }
 
-    /// Whether a shard can keep note of it: what isn't numbered always fits.
-    pub(crate) fn fits(&self) -> bool {
+    /// What it writes, whatever is there.
+    pub(crate) fn requests(&self) -> &[Request] {
         match self {
-            Begin::Numbered(numbered, requests) => {
-                numbered.number > 0
-                    && (1..=Numbered::LAST_CLIENT).contains(&numbered.client)
-                    && requests.len() <= Numbered::MOST_REQUESTS
+            Begin::Write(requests) | Begin::Numbered(_, requests) => requests,
+            _ => &[],
+        }
+    }
+
+    /// Why no shard takes it, where none does: it can't keep note of the number, or what is written is too large.
+    pub(crate) fn refused(&self) -> Option<NotDone> {
+        match self {
+            Begin::Numbered(numbered, requests) if !numbered.fits(requests.len()) => {
+                let why = format!(
+                    "clients are 1 to {}, their numbers begin with 1, and one is of {} requests at most",
+                    Numbered::LAST_CLIENT,
+                    Numbered::MOST_REQUESTS
+                );
+                Some(NotDone::NotMade(why))
             }
-            _ => true,
+            other => NotDone::if_too_large(other.requests()),
         }
     }
 }
@@ -76,6 +88,12 @@ impl Numbered {
     /// Of how many requests a shard keeps note at most.
     pub(crate) const MOST_KEPT: usize = Numbered::LAST_CLIENT as usize * Numbered::MOST_REQUESTS;
     const PLACE_BITS: u32 = 8;
+
+    /// Whether a shard can keep note of it, and of so many requests.
+    fn fits(self, requests: usize) -> bool {
+        let is_client = (1..=Numbered::LAST_CLIENT).contains(&self.client);
+        is_client && self.number > 0 && requests <= Numbered::MOST_REQUESTS
+    }
 
     /// The number that the shard keeps the client's first request by. The others follow; all are above those of
     /// processes, so none is ever forgotten.
@@ -113,6 +131,9 @@ pub enum NotDone {
     /// The store didn't make it, and won't, as it is full; what is there can be read.
     #[error("{0}")]
     Full(String),
+    /// It is larger than the store takes at once, so nothing of it is made.
+    #[error("{0}")]
+    TooLarge(String),
     /// The store didn't make it, and won't.
     #[error("the store didn't make it: {0}")]
     NotMade(String),
@@ -131,4 +152,16 @@ pub enum NotDone {
     /// The process ends.
     #[error("the process ends")]
     Stopped,
+}
+
+impl NotDone {
+    /// That these requests are more than is written at once, where they are.
+    pub(crate) fn if_too_large(requests: &[Request]) -> Option<NotDone> {
+        let Size {
+            requests: most,
+            bytes,
+        } = Size::MOST;
+        let why = format!("at once {bytes} bytes are written at most, and {most} requests");
+        (!Size::of(requests).is_within(Size::MOST)).then_some(NotDone::TooLarge(why))
+    }
 }

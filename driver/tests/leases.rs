@@ -2,8 +2,8 @@
 mod common;
 
 use common::cluster::{assign, campaign, kill, settle, Net, Node, LEASE};
-use common::{add, ask, held, Told};
-use durkenzo_driver::{Begin, Command, Control, NotDone, Reads, Reply};
+use common::{add, ask, held, step, Told};
+use durkenzo_driver::{Begin, Command, Control, Key, NotDone, Reads, Reply, Request};
 use durkenzo_store::{Embedded, Store};
 use std::sync::atomic::Ordering;
 use std::sync::Arc;
@@ -114,4 +114,19 @@ fn a_server_past_its_lease_tells_nothing() {
         matches!(told, Err(NotDone::Busy | NotDone::Unknown(_))),
         "{told:?}"
     );
+}
+
+#[test]
+fn a_read_sees_the_change_before_it_of_its_client() {
+    let (nodes, _control) = three(Reads::Lease);
+    transactions(&nodes[0], 2, 3);
+    for count in 4..54 {
+        let decide = |_: Vec<Reply>| vec![Request::Add(Key::from(&b"a"[..]), 1)];
+        let keys = || vec![Key::from(&b"a"[..])];
+        let (change, changed) = step(Begin::Change(keys()), Some(Box::new(decide)));
+        let (read, told) = step(Begin::Read(keys()), None);
+        nodes[0].durable.submit(0, vec![change, read]);
+        assert!(is_count(changed.recv().unwrap(), count));
+        assert!(is_count(told.recv().unwrap(), count), "{count}");
+    }
 }

@@ -247,6 +247,34 @@ def any_process_scans_all_keys(program):
             assert client.ask("DBSIZE") >= scans.COUNT
 
 
+def what_many_write_at_once_fits_etcd(program):
+    """To one shard, of which etcd takes less at once than any two of the large commands are."""
+    text = b"x" * 60_000
+    each = [[["MULTI"], *(["SET", f"{{big}}{it} {key}", text] for key in range(14)), ["EXEC"]] for it in range(6)]
+    each += [[["APPEND", f"{{big}}{it}", text], ["GET", f"{{big}}{it}"]] for it in range(30)]
+    each += [[["MSET", *(word for key in range(14) for word in (f"{{big}}{it} {key}", text))]] for it in range(36, 42)]
+    together = threading.Barrier(len(each))
+    refused = []
+
+    def write(client, commands):
+        together.wait(PATIENCE)
+        refused.extend(it for it in client.piped(commands) if isinstance(it, Refused))
+
+    with cluster(program) as several, contextlib.ExitStack() as stack:
+        for _ in range(3):
+            threads = [
+                threading.Thread(target=write, args=(stack.enter_context(several.client(1 + place % SERVERS)), it))
+                for place, it in enumerate(each)
+            ]
+            for it in threads:
+                it.start()
+            for it in threads:
+                it.join()
+            with several.any() as client:
+                client.ask("DEL", *(f"{{big}}{it}" for it in range(30)))
+        assert not refused, f"{len(refused)} were refused: {refused[0]}"
+
+
 def reads_by_lease_make_no_transaction(program):
     count = 500
     for reads, is_few in (("exact", False), ("lease", True)):
@@ -637,6 +665,7 @@ def restarts_are_told_when_a_process_may_end(program):
 TESTS = [
     any_process_answers_any_key,
     any_process_scans_all_keys,
+    what_many_write_at_once_fits_etcd,
     reads_by_lease_make_no_transaction,
     a_process_past_its_lease_tells_what_others_wrote,
     migrations_lose_no_addition,

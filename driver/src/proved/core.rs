@@ -1,19 +1,18 @@
 use crate::decision::{Answer, Base, Decision, Passing, Sent};
 use crate::key_index::KeyIndex;
+use crate::size::Size;
 use crate::{CoreFault, Numbered, Reply};
 use durkenzo_store::Revision;
 use durkenzo_store_sys::{self as sys, Asked, Code, Limits, Server, Told};
 
-/// How many requests go into a batch.
-const BATCH: usize = 4_096;
-/// How much a server takes: of a batch and of what waits more than a round has, so that what is given together is sent
-/// together. Of so many clients the last request is kept: those of 16 processes, of which each has as many as a round
+/// How much a server takes: of a batch as much as a round has at most, and of what waits more, so that what is given
+/// together is sent together. Of so many clients the last request is kept: those of 16 processes, of which each has as many as a round
 /// has requests, and all that clients who number their requests may have.
 const LIMITS: Limits = Limits {
-    batch_bytes: 8 << 20,
-    batch_requests: BATCH,
+    batch_bytes: Size::MOST.bytes as u64,
+    batch_requests: Size::MOST.requests,
     waiting: 8_192,
-    clients: 16 * BATCH + Numbered::MOST_KEPT,
+    clients: 16 * Size::MOST.requests + Numbered::MOST_KEPT,
 };
 
 /// A request, as a server takes it.

@@ -137,3 +137,49 @@ impl Shard {
         deeds.push(Deed::Delete(behind));
     }
 }
+
+#[cfg(test)]
+mod tests {
+    use super::*;
+    use crate::shard::At;
+    use crate::{reading, Command, Control, Durable, Standing, Tuning};
+    use durkenzo_store::{Embedded, Revision, Store};
+    use std::sync::Arc;
+
+    const LINE: &str = concat!(
+        r#"{"version":1,"bounds":[""],"servers":[{"id":1,"domain":0,"capacity":9}],"#,
+        r#""groups":[{"limit":9,"down":9}],"shards":[{"group":0,"load":1,"cap":1}],"#,
+        r#""ops":1,"kept":9,"ceiling":99,"workers":1}"#
+    );
+
+    /// A store with a shard of server 1.
+    fn written() -> Arc<dyn Store> {
+        let store: Arc<dyn Store> = Arc::new(Embedded::in_memory());
+        let open = Durable::open(store.clone(), 1, Tuning::default(), Box::new(|| {}));
+        let mut control = Control::lead(Arc::new(open.unwrap()), LINE).unwrap();
+        control.command(Command::Assign(0, 1)).unwrap();
+        store
+    }
+
+    #[test]
+    fn a_base_ends_where_its_server_reads_anew() {
+        let (store, now) = (written(), Instant::now());
+        let mut shard = Shard::new(0, 1, None, Tuning::default());
+        let read = reading::read(&*store, 1, 0, 1).unwrap();
+        let (bytes, stood) = (read.standing.bytes().to_vec(), read.standing.revision());
+        let logged = read.logged;
+        shard.seats.insert(1, Seat::Reading(1));
+        let ticket = Ticket {
+            server: 1,
+            number: 1,
+        };
+        shard.on_read(ticket, Ok(read), now, &mut Vec::new());
+        shard.base = Some((1, Basing::Writes(2)));
+        // The record changes while it isn't known what became of a transaction.
+        shard.unknown_at = Some(At { stood, logged });
+        let changed = Standing::new(bytes, Revision(stood.0 + 1));
+        shard.see(changed, now, &mut Vec::new());
+        assert!(matches!(shard.seats.get(&1), Some(Seat::Unread(_))));
+        assert_eq!(shard.base, None);
+    }
+}

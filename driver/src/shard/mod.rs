@@ -8,7 +8,7 @@ mod sending;
 
 use crate::proved::Core;
 use crate::reading::{LogSize, Read};
-use crate::round::{Decided, Origin, Round, Run};
+use crate::round::{Decided, Origin, Round, Run, MOST_BYTES};
 use crate::work::{self, NotDone, Step, Work};
 use crate::{Came, Elsewhere, Member, Standing, Tuning};
 use base_pause::BasePause;
@@ -93,8 +93,12 @@ pub(crate) struct Shard {
     /// Servers that no request reaches.
     away: BTreeSet<u16>,
     runs: VecDeque<Run>,
-    decided: Vec<Decided>,
+    decided: VecDeque<Decided>,
     round: Option<Round>,
+    /// How many bytes several steps write together at most, as far as the store takes that.
+    most_bytes: usize,
+    /// Whether the store took no writes: what writes nothing goes first then.
+    is_unwritten: bool,
     rounds: u64,
     runs_begun: u64,
     tickets: u64,
@@ -142,8 +146,10 @@ impl Shard {
             seats: BTreeMap::new(),
             away: BTreeSet::new(),
             runs: VecDeque::new(),
-            decided: Vec::new(),
+            decided: VecDeque::new(),
             round: None,
+            most_bytes: MOST_BYTES,
+            is_unwritten: false,
             rounds: 0,
             runs_begun: 0,
             tickets: 0,
@@ -283,8 +289,6 @@ impl Shard {
         let stays = |it: &u16| finds_out || standing.names(*it) && !away.contains(it);
         self.seats
             .retain(|server, seat| matches!(seat, Seat::Sent(..)) || stays(server));
-        let seats = &self.seats;
-        self.base = self.base.filter(|it| seats.contains_key(&it.0));
         let mut behind = Vec::new();
         for (server, seat) in &mut self.seats {
             if let Seat::Ready(core, at) = seat {
@@ -302,6 +306,9 @@ impl Shard {
                 }
             }
         }
+        // A server that reads anew knows nothing of the base that it made.
+        let is_unread = |it: u16| matches!(self.seats.get(&it), Some(Seat::Unread(_)) | None);
+        self.base = self.base.filter(|it| !is_unread(it.0));
         if let Some(round) = &mut self.round {
             behind.into_iter().for_each(|it| round.take_back(it));
         }

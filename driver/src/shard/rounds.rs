@@ -3,7 +3,7 @@ use super::{Deed, Seat, Shard, Ticket};
 use crate::decision::Decision;
 use crate::listing::Listing;
 use crate::proved::Item;
-use crate::round::{Asked, Ended, Round, PLACE_BITS};
+use crate::round::{Asked, Ended, Round, Takes, PLACE_BITS};
 use crate::{Came, NotDone, Reply};
 use durkenzo_store::Revision;
 use std::time::Instant;
@@ -69,8 +69,8 @@ impl Shard {
     fn end_round(&mut self, deeds: &mut Vec<Deed>) {
         for it in self.round.take().into_iter().flat_map(Round::ended) {
             match it {
-                Ended::Told(work, replies) => deeds.push(Deed::Tell(work, Ok(replies))),
-                Ended::Decided(decided) => self.decided.push(decided),
+                Ended::Told(work, outcome) => deeds.push(Deed::Tell(work, outcome)),
+                Ended::Decided(decided) => self.decided.push_back(decided),
             }
         }
     }
@@ -81,26 +81,31 @@ impl Shard {
             return false;
         }
         self.rounds += 1;
-        let mut round = Round::new(self.rounds, self.process, now);
-        // What needs no transaction doesn't wait for what does.
-        round.only_reads = self.is_leased();
-        self.fill(&mut round, now);
-        if round.only_reads && round.is_empty() {
-            round = Round::new(self.rounds, self.process, now);
-            self.fill(&mut round, now);
+        // What needs no transaction doesn't wait for what does, nor what writes nothing for what couldn't be written.
+        let first = match (self.is_leased(), std::mem::take(&mut self.is_unwritten)) {
+            (true, _) => Takes::OnlyReads,
+            (false, true) => Takes::NoWrites,
+            (false, false) => Takes::All,
+        };
+        let mut round = self.filled(first, now);
+        if first != Takes::All && round.is_empty() {
+            round = self.filled(Takes::All, now);
         }
         let is_formed = !round.is_empty();
         self.round = Some(round).filter(|_| is_formed);
         is_formed
     }
 
-    /// Gives the round what waits here, as far as it takes that.
+    /// A round with what waits here, as far as it takes that.
+    fn filled(&mut self, takes: Takes, now: Instant) -> Round {
+        let mut round = Round::new(self.rounds, self.process, self.most_bytes, now);
+        round.takes = takes;
+        round.take_decided(&mut self.decided);
+        self.fill(&mut round, now);
+        round
+    }
+
     fn fill(&mut self, round: &mut Round, now: Instant) {
-        if !round.only_reads {
-            for decided in std::mem::take(&mut self.decided) {
-                round.take_decided(decided);
-            }
-        }
         let mut runs = std::mem::take(&mut self.runs);
         let listing = self.listing();
         for run in &mut runs {

@@ -1,9 +1,10 @@
 use super::basing::Basing;
-use super::{Deed, Seat, Shard, Ticket};
+use super::{At, Deed, Seat, Shard, Ticket};
 use crate::core_fault::CoreFault;
 use crate::decision::Sent;
 use crate::keys;
 use crate::proved::Core;
+use crate::round::Round;
 use crate::work::NotDone;
 use durkenzo_store::{Outcome, Revision, Transaction, WriteError};
 use std::time::Instant;
@@ -104,14 +105,14 @@ impl Shard {
                     }
                 }
                 // It was made: a server that reads anew tells that.
-                Err(_) => self.read_again(server),
+                Err(_) => {
+                    self.note_may_be_made(at, writes);
+                    self.read_again(server);
+                }
             },
             Ok(Outcome::Lost(_)) => self.read_again(server),
             Err(WriteError::Unknown(_)) => {
-                if writes {
-                    self.unknown_at = Some(at);
-                    self.round.iter_mut().for_each(|it| it.may_be_made = true);
-                }
+                self.note_may_be_made(at, writes);
                 self.read_again(server);
             }
             Err(error) => {
@@ -149,16 +150,63 @@ impl Shard {
         self.round.iter_mut().for_each(|it| it.take_back(server));
     }
 
-    /// The store says that the transaction won't be made: nothing of the round is.
+    /// What compared so may be made, where it writes: what the server reads anew tells.
+    fn note_may_be_made(&mut self, at: At, writes: bool) {
+        if writes {
+            self.unknown_at = Some(at);
+            self.round.iter_mut().for_each(|it| it.may_be_made = true);
+        }
+    }
+
+    /// The store says that the transaction won't be made: nothing of the round is. Where it takes others, only what
+    /// was to be written ends so.
     fn refused_by_store(&mut self, error: &WriteError, deeds: &mut Vec<Deed>) {
         let told = error.to_string();
         let why = match error {
             WriteError::Full(_) => NotDone::Full(told.clone()),
+            WriteError::TooLarge(_) => NotDone::TooLarge(told.clone()),
             _ => NotDone::NotMade(told.clone()),
         };
-        self.give_up_round(&why, deeds);
+        match error {
+            WriteError::TooLarge(_) if self.may_halve() => self.part(deeds),
+            WriteError::TooLarge(_) | WriteError::Full(_) | WriteError::Denied(_) => {
+                self.end_writes(&why, deeds);
+            }
+            _ => self.give_up_round(&why, deeds),
+        }
         if matches!(error, WriteError::Stopped | WriteError::Unreachable(_)) {
             deeds.push(Deed::StoreEnded(told));
+        }
+    }
+
+    /// Has later rounds write less together, where several steps of this one did and nothing of it may be made.
+    fn may_halve(&mut self) -> bool {
+        let round = self.round.as_ref().filter(|it| !it.may_be_made);
+        let bytes = round.and_then(Round::bytes_of_several);
+        match bytes.filter(|_| !self.is_sent()) {
+            Some(bytes) => {
+                self.most_bytes = self.most_bytes.min(bytes / 2);
+                true
+            }
+            None => false,
+        }
+    }
+
+    /// Ends what was to be written of the round; all else begins anew, first of all.
+    fn end_writes(&mut self, why: &NotDone, deeds: &mut Vec<Deed>) {
+        let is_sent = self.is_sent();
+        let ends = self.round.as_mut().filter(|_| !is_sent).is_some_and(|it| {
+            it.end_writes(&match it.may_be_made {
+                true => NotDone::Unknown(why.to_string()),
+                false => why.clone(),
+            })
+        });
+        match ends {
+            true => {
+                self.is_unwritten = true;
+                self.part(deeds);
+            }
+            false => self.give_up_round(why, deeds),
         }
     }
 }

@@ -266,6 +266,7 @@ fn not_done(f: &mut fmt::Formatter<'_>, shard: u16, why: &NotDone) -> fmt::Resul
             f,
             "STOREFULL nothing has changed, and reads go on: {why}: make room"
         ),
+        NotDone::TooLarge(_) => write!(f, "TOOLARGE nothing has changed: {why}: send it in parts"),
         NotDone::NotMade(_) => write!(f, "STOREDOWN nothing has changed: {why}"),
         NotDone::Unknown(_) => write!(f, "UNKNOWN {why}: read before you try again"),
         // Another process asks again.

@@ -169,6 +169,7 @@ impl Told {
             NotDone::Moved(revision) => out.extend(revision.0.to_be_bytes()),
             NotDone::Damaged(text)
             | NotDone::Full(text)
+            | NotDone::TooLarge(text)
             | NotDone::NotMade(text)
             | NotDone::Unknown(text) => out.extend_from_slice(front(text).as_bytes()),
             NotDone::Paused
@@ -201,6 +202,7 @@ impl Told {
             10 => NotDone::Passed,
             11 => NotDone::TooManyClients,
             12 => NotDone::Stopped,
+            13 => NotDone::TooLarge(fields.text()?),
             code => return Err(WireFault::Answer(code)),
         };
         fields.end()?;
@@ -223,6 +225,7 @@ fn code_of(why: &NotDone) -> u8 {
         NotDone::Passed => 10,
         NotDone::TooManyClients => 11,
         NotDone::Stopped => 12,
+        NotDone::TooLarge(_) => 13,
     }
 }
 
@@ -263,6 +266,7 @@ mod tests {
             NotDone::Busy,
             NotDone::Damaged(text()),
             NotDone::Full(String::new()),
+            NotDone::TooLarge(text()),
             NotDone::NotMade(text()),
             NotDone::Unknown(text()),
             NotDone::Moved(Revision(1 << 50)),
