@@ -1,6 +1,8 @@
-//! Leaders that die after each of their commands in turn: whoever leads next ends what was under way.
+//! Leaders that die after each of their commands in turn, or whose store falters then: whoever leads ends what was
+//! under way.
+use super::StoredController;
 use super::{Asked, Campaigner};
-use crate::body::OnEtcd;
+use crate::body::{InFolder, OnEtcd};
 use crate::cluster::{Cluster, Configuration};
 use crate::io::ReplyTo;
 use crate::keyspace::Rule;
@@ -8,15 +10,15 @@ use crate::peers::{Identity, Peers, Terms};
 use crate::resp::OwnedCommand;
 use crate::stored;
 use durkenzo::Stand;
-use durkenzo_driver::{keys, Addresses, Durable, Member, Own};
+use durkenzo_driver::{keys, Addresses, Control, Durable, Member, Own};
 use durkenzo_store::{
-    CompactError, Done, Embedded, LeaseError, LeaseId, ReadError, Reading, Store, Transaction,
-    Watch, Watcher, WriteError,
+    CompactError, Done, Embedded, LeaseError, LeaseId, ReadError, Reading, Store, Sync as SyncTime,
+    Transaction, Watch, Watcher, WriteError,
 };
 use std::net::TcpListener;
 use std::sync::atomic::{AtomicBool, AtomicI64, Ordering};
 use std::sync::mpsc::{self, Receiver, Sender};
-use std::sync::Arc;
+use std::sync::{Arc, Mutex};
 use std::thread;
 use std::time::{Duration, Instant};
 
@@ -25,24 +27,83 @@ const SHARDS: u16 = 6;
 /// Long enough that no process of a machine that is busy with all tests loses it.
 const LEASE: Duration = Duration::from_secs(2);
 const PATIENCE: Duration = Duration::from_secs(40);
+/// How long a store that falters isn't reached.
+const OUT: Duration = Duration::from_millis(300);
+
+/// What comes after the last of so many commands.
+#[derive(Clone, Copy, PartialEq, Eq)]
+enum Then {
+    /// The process dies.
+    Dies,
+    /// The store isn't reached for a while; what became of the command is told, or isn't.
+    Falters(bool),
+    /// The command isn't made, as the store is full for a while.
+    IsFull,
+}
 
 /// A process's way to the store, which ends after so many of its commands, or when it is killed. Each takes so long.
 struct Way {
     store: Arc<dyn Store>,
     pause: Duration,
     commands: AtomicI64,
+    then: Mutex<Then>,
+    out: Mutex<Option<Instant>>,
     is_dead: Arc<AtomicBool>,
 }
 
 impl Way {
+    fn new(store: &Arc<dyn Store>, pause: Duration) -> Arc<Way> {
+        Arc::new(Way {
+            store: store.clone(),
+            pause,
+            commands: AtomicI64::new(i64::MAX),
+            then: Mutex::new(Then::Dies),
+            out: Mutex::default(),
+            is_dead: Arc::default(),
+        })
+    }
+
+    /// Has this come once so many more commands were made.
+    fn after(&self, commands: i64, then: Then) {
+        *self.then.lock().unwrap() = then;
+        self.commands.store(commands, Ordering::Release);
+    }
+
     fn is_dead(&self) -> bool {
         self.is_dead.load(Ordering::Acquire)
     }
 
+    fn is_out(&self) -> bool {
+        self.out
+            .lock()
+            .unwrap()
+            .is_some_and(|it| Instant::now() < it)
+    }
+
     fn unavailable(&self) -> Result<(), ReadError> {
-        match self.is_dead() {
+        let is_full = *self.then.lock().unwrap() == Then::IsFull;
+        match self.is_dead() || self.is_out() && !is_full {
             true => Err(ReadError::Unavailable("dead".to_owned())),
             false => Ok(()),
+        }
+    }
+
+    /// Makes the last command, or doesn't.
+    fn submit_last(&self, transaction: Transaction, done: Done) {
+        let unknown = || Err(WriteError::Unknown("dead".to_owned()));
+        let then = *self.then.lock().unwrap();
+        match then {
+            Then::Dies => self.is_dead.store(true, Ordering::Release),
+            Then::Falters(_) | Then::IsFull => {
+                *self.out.lock().unwrap() = Some(Instant::now() + OUT);
+            }
+        }
+        match then {
+            Then::Falters(true) => self.store.submit(transaction, done),
+            Then::IsFull => done(Err(WriteError::Full("a test".to_owned()))),
+            _ => self
+                .store
+                .submit(transaction, Box::new(move |_| done(unknown()))),
         }
     }
 
@@ -66,9 +127,15 @@ impl Store for Way {
             thread::sleep(self.pause);
         }
         if is_command && self.commands.fetch_sub(1, Ordering::AcqRel) == 1 {
-            self.is_dead.store(true, Ordering::Release);
-            let done = Box::new(move |_| done(unknown()));
-            return self.store.submit(transaction, done);
+            return self.submit_last(transaction, done);
+        }
+        if is_command && self.is_out() {
+            let refused = match *self.then.lock().unwrap() {
+                Then::IsFull => WriteError::Full("a test".to_owned()),
+                _ => WriteError::Unavailable("a test".to_owned()),
+            };
+            thread::spawn(move || done(Err(refused)));
+            return;
         }
         self.store.submit(transaction, done);
     }
@@ -139,12 +206,7 @@ impl Process {
         configuration: &Configuration,
         pause: Duration,
     ) -> Process {
-        let way = Arc::new(Way {
-            store: store.clone(),
-            pause,
-            commands: AtomicI64::new(i64::MAX),
-            is_dead: Arc::default(),
-        });
+        let way = Way::new(store, pause);
         let listener = TcpListener::bind("127.0.0.1:0").unwrap();
         let addresses = Addresses {
             servers: listener.local_addr().unwrap().to_string(),
@@ -198,19 +260,12 @@ impl Process {
 
     /// Has it die once it has made so many more commands.
     fn dies_after(&self, commands: i64) {
-        self.way.commands.store(commands, Ordering::Release);
+        self.way.after(commands, Then::Dies);
     }
 
     /// Asks its control, and gives where the answer comes.
     fn ask(&self, words: &[&str]) -> Receiver<Vec<u8>> {
-        let (tell, told) = mpsc::channel();
-        let reply_to = ReplyTo::process(move |answer| {
-            // Who dies isn't told.
-            let _ = tell.send(answer);
-        });
-        let command = OwnedCommand::of(words);
-        self.control.send(Asked { command, reply_to }).unwrap();
-        told
+        ask(&self.control, words)
     }
 
     fn stand(&self, shard: u16) -> Stand {
@@ -232,6 +287,18 @@ impl Drop for Process {
     fn drop(&mut self) {
         self.kill();
     }
+}
+
+/// Asks a control, and gives where the answer comes.
+fn ask(control: &Sender<Asked>, words: &[&str]) -> Receiver<Vec<u8>> {
+    let (tell, told) = mpsc::channel();
+    let reply_to = ReplyTo::process(move |answer| {
+        // Who dies isn't told.
+        let _ = tell.send(answer);
+    });
+    let command = OwnedCommand::of(words);
+    control.send(Asked { command, reply_to }).unwrap();
+    told
 }
 
 fn wait_until(what: &str, is_so: impl Fn() -> bool) {
@@ -556,4 +623,96 @@ fn shards_are_served_again_one_after_another_and_the_leader_answers_meanwhile() 
     assert!(told.unwrap().starts_with(b"+Serving 1 "));
     assert!(left() > 20, "it answers before it has gone on with all");
     wait_until("all are served again", || left() == 0);
+}
+
+/// Has the store falter after each of so many commands of the leader, whether the last one's outcome is told or not.
+fn at_each_falter(commands: i64, goes_on: impl Fn(&Three) + Sync) {
+    at_each(commands, |number| {
+        for is_told in [false, true] {
+            let three = Three::begin(false);
+            three.first.way.after(number, Then::Falters(is_told));
+            goes_on(&three);
+        }
+    });
+}
+
+#[test]
+fn a_leader_whose_store_falters_gives_the_shards_of_a_failed_server_away() {
+    at_each_falter(5, |three| {
+        three.third.kill();
+        three.stands_become(|them| them.iter().all(|it| matches!(it, Stand::Serving(1 | 2))));
+    });
+}
+
+#[test]
+fn a_leader_whose_store_falters_ends_a_migration() {
+    at_each_falter(4, |three| {
+        three.first.ask(&["SM", "MIGRATE", "0", "3"]);
+        three.stands_become(|them| them[0] == Stand::Serving(3));
+    });
+}
+
+#[test]
+fn a_leader_whose_store_falters_ends_a_drain() {
+    at_each_falter(8, |three| {
+        three.first.ask(&["SM", "DRAIN", "3"]);
+        three.stands_become(|them| them.iter().all(|it| matches!(it, Stand::Serving(1 | 2))));
+        three.nothing_is_wished();
+    });
+}
+
+#[test]
+fn a_leader_whose_store_falters_stops_the_server_of_a_restart() {
+    // Its own is the first of all, and its two shards take four steps each.
+    for words in [&["SM", "RESTART"][..], &["SM", "RESTART", "1"]] {
+        at_each_falter(11, |three| {
+            three.first.ask(words);
+            wait_until("server 1 is stopped", || three.second.durable.is_away(1));
+            three.stands_become(|them| them.iter().all(|it| matches!(it, Stand::Serving(2 | 3))));
+        });
+    }
+}
+
+/// A process that has all servers of a store, of which its control asks by this way.
+fn alone() -> (Arc<Way>, Arc<Durable>, Sender<Asked>) {
+    let store: Arc<dyn Store> = Arc::new(Embedded::in_memory());
+    let way = Way::new(&store, Duration::ZERO);
+    let configuration = Configuration {
+        servers: SERVERS,
+        ..Configuration::new(Rule::Hash(SHARDS))
+    };
+    let tuning = stored::tuning(&configuration);
+    let durable = Arc::new(Durable::open(way.clone(), SHARDS, tuning, Box::new(|| {})).unwrap());
+    let storage = Box::new(InFolder::new(durable.clone(), SyncTime::No));
+    let line = stored::line(&configuration);
+    let cluster = Arc::new(Cluster::new(configuration, storage).unwrap());
+    let control = Control::lead(durable.clone(), &line).unwrap();
+    let mut controller = StoredController::new(cluster, control).unwrap();
+    controller.begin(true).unwrap();
+    let (control, asked) = mpsc::channel();
+    thread::spawn(move || controller.run(asked));
+    (way, durable, control)
+}
+
+#[test]
+fn a_restart_within_a_process_is_ended_once_the_store_has_room() {
+    // It is asked for and approved, both shards take four steps, it is stopped and back, and they come home.
+    for words in [&["SM", "RESTART"][..], &["SM", "RESTART", "1"]] {
+        at_each(20, |number| {
+            let (way, durable, control) = alone();
+            way.after(number, Then::IsFull);
+            let told = ask(&control, words).recv_timeout(PATIENCE).unwrap();
+            assert!(told.starts_with(b"-REFUSED StoreFull"), "{told:?}");
+            wait_until("all is as it was", || {
+                let stands = (0..SHARDS).map(|it| durable.standing(it).unwrap());
+                let owners = stands.map(|it| it.record().unwrap().stand);
+                !durable.is_away(1) && owners.eq(owned())
+            });
+            // Until that one is over the next one is refused.
+            wait_until("it is restarted again", || {
+                let again = ask(&control, &["SM", "RESTART", "1"]).recv_timeout(PATIENCE);
+                again.unwrap().starts_with(b"+server 1 is back")
+            });
+        });
+    }
 }

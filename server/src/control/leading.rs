@@ -87,6 +87,8 @@ struct Watch {
     assigns: Option<Instant>,
     /// Whether others know that this process leads.
     is_known: bool,
+    /// Whether a server may have failed since it went on with the shards of those that had.
+    has_fallen: bool,
     /// Whether this process's server is back from a stop, and not up yet.
     is_back: Arc<AtomicBool>,
 }
@@ -99,6 +101,7 @@ impl Watch {
             has_begun: false,
             assigns: assigns.then_some(now + FIRST_WAIT),
             is_known: false,
+            has_fallen: false,
             is_back,
         }
     }
@@ -124,10 +127,23 @@ impl Watch {
         if self.assigns.is_some() && !self.assign(control)? {
             return Ok(());
         }
-        if have_fail(control)? {
-            go_on_with_shards(control)?;
-        }
+        self.have_fail(control)?;
         control.resume_left()
+    }
+
+    /// Has servers have failed that aren't there any more, and goes on with their shards: at the next look where the
+    /// store doesn't let it now.
+    fn have_fail(&mut self, control: &mut StoredController) -> Result<(), Refusal> {
+        while let Some(server) = control.control.fallen()? {
+            // It may be made, whatever the store says of it.
+            self.has_fallen = true;
+            control.make(Command::Fail(server))?;
+        }
+        if self.has_fallen {
+            go_on_with_shards(control)?;
+            self.has_fallen = false;
+        }
+        Ok(())
     }
 
     /// Has this process's server be up, where it was stopped before the process began.
@@ -180,10 +196,13 @@ fn live(control: &StoredController) -> BTreeSet<u16> {
 
 /// Goes on where the process that led before was.
 fn begin(control: &mut StoredController) -> Result<(), Refusal> {
+    let known: BTreeSet<u16> = control.tasks.iter().filter_map(Task::restarts).collect();
     for server in 1..=control.control.servers() {
         control.note_state(server)?;
         let standing = control.cluster.presence.standing(server);
-        if matches!(standing, Some(Standing::Asked | Standing::Approved)) {
+        if !known.contains(&server)
+            && matches!(standing, Some(Standing::Asked | Standing::Approved))
+        {
             control.tasks.push(Task::restart(server));
         }
     }
@@ -228,14 +247,4 @@ fn have_one_back(control: &mut StoredController, server: u16) -> Result<(), Refu
         }
     }
     control.make(Command::Back(server))
-}
-
-/// Has servers have failed that aren't there any more. Returns whether there were some.
-fn have_fail(control: &mut StoredController) -> Result<bool, Refusal> {
-    let mut has_fallen = false;
-    while let Some(server) = control.control.fallen()? {
-        control.make(Command::Fail(server))?;
-        has_fallen = true;
-    }
-    Ok(has_fallen)
 }

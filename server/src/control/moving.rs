@@ -22,17 +22,25 @@ pub(super) struct Moving {
     shard: u16,
     /// The server to which it is still to begin.
     to: Option<u16>,
+    /// Whether it may have begun all the same, as the store didn't say so.
+    is_doubtful: bool,
 }
 
 impl Moving {
     pub(super) fn new(shard: u16, server: u16) -> Moving {
-        let to = Some(server);
-        Moving { shard, to }
+        Moving {
+            to: Some(server),
+            ..Moving::going_on(shard)
+        }
     }
 
     /// One that has begun.
     pub(super) fn going_on(shard: u16) -> Moving {
-        Moving { shard, to: None }
+        Moving {
+            shard,
+            to: None,
+            is_doubtful: false,
+        }
     }
 
     /// The shard.
@@ -47,15 +55,25 @@ impl Moving {
 
     pub(super) fn advance(&mut self, control: &mut StoredController) -> Result<Advance, Refusal> {
         if let Some(server) = self.to {
-            control.make(Command::PrepareAddShard(self.shard, server))?;
-            self.to = None;
-            return Ok(Advance::Again);
+            return self.begin(server, control);
         }
         match control.control.next_of_shard(self.shard)? {
             Next::Nothing => Ok(Advance::Done(Answer::Done)),
             Next::Waits => Ok(Advance::Later),
             Next::Command(command) => control.step(command),
         }
+    }
+
+    fn begin(&mut self, server: u16, control: &mut StoredController) -> Result<Advance, Refusal> {
+        let has_begun =
+            self.is_doubtful && control.control.next_of_shard(self.shard)? != Next::Nothing;
+        if !has_begun {
+            let made = control.make(Command::PrepareAddShard(self.shard, server));
+            self.is_doubtful = made.as_ref().is_err_and(Refusal::is_of_store);
+            made?;
+        }
+        self.to = None;
+        Ok(Advance::Again)
     }
 }
 
@@ -138,12 +156,8 @@ impl Draining {
             }
             Next::Command(command) => {
                 self.wish(control, command)?;
-                if let later @ Advance::Later = control.step(command)? {
+                if let later @ Advance::Later = self.step(control, command)? {
                     return Ok(later);
-                }
-                if let Command::PrepareAddShard(shard, to) = command {
-                    self.moved.push((shard, to));
-                    self.current = Some(Moving::going_on(shard));
                 }
             }
         }
@@ -154,6 +168,28 @@ impl Draining {
             .progress
             .set(self.server, Doing::Draining(share));
         Ok(Advance::Again)
+    }
+
+    /// Makes the command; goes on with the migration that it begins, also where the store doesn't say that it did.
+    fn step(
+        &mut self,
+        control: &mut StoredController,
+        command: Command,
+    ) -> Result<Advance, Refusal> {
+        let stepped = control.step(command);
+        let may_be_made = match &stepped {
+            Ok(advance) => !matches!(advance, Advance::Later),
+            Err(refusal) => refusal.is_of_store(),
+        };
+        if let Command::PrepareAddShard(shard, to) = command {
+            if may_be_made {
+                self.current = Some(Moving::going_on(shard));
+            }
+            if may_be_made && stepped.is_ok() {
+                self.moved.push((shard, to));
+            }
+        }
+        stepped
     }
 
     /// Has it lie in the store, before its command, what is to be gone on with.

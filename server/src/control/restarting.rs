@@ -61,6 +61,11 @@ impl Restarting {
         }
     }
 
+    /// The server.
+    pub(super) fn server(&self) -> u16 {
+        self.server
+    }
+
     /// Whether whoever leads goes on with it.
     pub(super) fn is_wished(&self) -> bool {
         self.stage != Stage::Asks
@@ -69,9 +74,12 @@ impl Restarting {
     pub(super) fn advance(&mut self, control: &mut StoredController) -> Result<Advance, Refusal> {
         match self.stage {
             Stage::Asks => {
-                control.make(Command::Ask(self.server))?;
-                self.stage = Stage::Leaves;
-                Ok(Advance::Again)
+                let made = control.make(Command::Ask(self.server));
+                // The store may have made it, whatever it says.
+                if made.as_ref().err().is_none_or(Refusal::is_of_store) {
+                    self.stage = Stage::Leaves;
+                }
+                made.map(|()| Advance::Again)
             }
             Stage::Leaves => self.leave(control),
             Stage::Away => self.await_process(control),
@@ -119,8 +127,13 @@ impl Restarting {
         }
     }
 
-    /// Waits until the server is up again, as it is once another process runs it.
+    /// Waits until the server is up again, as it is once another process runs it; where this one runs all, at once.
     fn await_process(&mut self, control: &mut StoredController) -> Result<Advance, Refusal> {
+        let is_of_this = control.peers.is_none();
+        if is_of_this && control.control.state_of(self.server)? == STOPPED {
+            self.come_back(control)?;
+            return Ok(Advance::Again);
+        }
         if let Some(advance) = self.unless_up(control)? {
             return Ok(advance);
         }
@@ -232,6 +245,11 @@ impl Rolling {
             current: None,
             told: Vec::new(),
         }
+    }
+
+    /// The restart that it is at, where that has begun.
+    pub(super) fn left(self) -> Option<Restarting> {
+        self.current.filter(Restarting::is_wished)
     }
 
     pub(super) fn advance(&mut self, control: &mut StoredController) -> Result<Advance, Refusal> {

@@ -13,7 +13,7 @@ use crate::resp::Command as Words;
 use crate::snapshot::ShardRow;
 use durkenzo::PassFault;
 use durkenzo_driver::{Command, Control, Next};
-use std::collections::{BTreeMap, VecDeque};
+use std::collections::{BTreeMap, BTreeSet, VecDeque};
 use std::fmt;
 use std::sync::mpsc::{Receiver, RecvTimeoutError};
 use std::sync::Arc;
@@ -38,6 +38,8 @@ pub struct StoredController {
     pub(super) peers: Option<Arc<Peers>>,
     /// Whether another process leads, as far as a command told.
     pub(super) is_lost: bool,
+    /// The servers of which a step may be made that nobody noted, as the store didn't say so.
+    unnoted: BTreeSet<u16>,
 }
 
 /// Why this process leads no further.
@@ -95,6 +97,14 @@ impl Task {
         }
     }
 
+    /// The server that it restarts.
+    pub(super) fn restarts(&self) -> Option<u16> {
+        match &self.work {
+            Work::Restarting(restarting) => Some(restarting.server()),
+            _ => None,
+        }
+    }
+
     /// The shard with which it goes on, where nobody asked for that.
     pub(super) fn shard_going_on(&self) -> Option<u16> {
         match &self.work {
@@ -131,6 +141,15 @@ impl Work {
             Work::Rolling(_) => false,
         }
     }
+
+    /// What goes on of it where the store ended it: a migration that it may have begun, and the restart that it was at.
+    fn left(self) -> Option<Work> {
+        match self {
+            Work::Moving(it) => Some(Work::Moving(Moving::going_on(it.shard()))),
+            Work::Rolling(it) => it.left().map(Work::Restarting),
+            Work::Draining(_) | Work::Restarting(_) => None,
+        }
+    }
 }
 
 impl StoredController {
@@ -144,6 +163,7 @@ impl StoredController {
             homes: BTreeMap::new(),
             peers: None,
             is_lost: false,
+            unnoted: BTreeSet::new(),
         })
     }
 
@@ -208,13 +228,19 @@ impl StoredController {
     pub(super) fn make(&mut self, command: Command) -> Result<(), Refusal> {
         let made = self.control.command(command);
         self.is_lost |= matches!(made, Err(durkenzo_driver::Refused::NotLeader));
-        let mut named = |shard| self.observer.shard(shard);
-        made.map_err(|refused| match command {
+        match command {
             Command::Ask(server)
             | Command::Approve(server)
             | Command::Stopped(server)
             | Command::Back(server)
-            | Command::Fail(server) => Refusal::of_stored_step(&refused, server),
+            | Command::Fail(server) => {
+                let made = made.map_err(|refused| Refusal::of_stored_step(&refused, server));
+                if made.as_ref().is_err_and(Refusal::is_of_store) {
+                    self.unnoted.insert(server);
+                }
+                made?;
+                self.note_state(server)
+            }
             Command::Assign(shard, _)
             | Command::PrepareAddShard(shard, _)
             | Command::Reassign(shard, _)
@@ -223,18 +249,22 @@ impl StoredController {
             | Command::DropShard(shard)
             | Command::Cancel(shard)
             | Command::Pause(shard)
-            | Command::Resume(shard) => Refusal::of_stored(&refused, named(shard).as_ref()),
-        })?;
-        match command {
-            Command::Ask(server)
-            | Command::Approve(server)
-            | Command::Stopped(server)
-            | Command::Back(server)
-            | Command::Fail(server) => self.note_state(server),
-            command => {
+            | Command::Resume(shard) => {
+                let mut named = || self.observer.shard(shard);
+                made.map_err(|refused| Refusal::of_stored(&refused, named().as_ref()))?;
                 self.cluster.changes_made.add(word_of(command));
                 Ok(())
             }
+        }
+    }
+
+    /// Notes how servers stand of which a step may be made, as far as the store can be read.
+    fn note_steps(&mut self) {
+        while let Some(server) = self.unnoted.first().copied() {
+            if self.note_state(server).is_err() {
+                return;
+            }
+            self.unnoted.remove(&server);
         }
     }
 
@@ -360,6 +390,7 @@ impl StoredController {
 
     /// Makes steps of work that is due, for a while: of what had no turn then first the next time.
     pub(super) fn run_tasks(&mut self) {
+        self.note_steps();
         let end = Instant::now() + TURN;
         let mut waiting = VecDeque::from(std::mem::take(&mut self.tasks));
         while let Some(task) = waiting.pop_front() {
@@ -406,8 +437,13 @@ impl StoredController {
                 return None;
             }
             Err(refusal) => {
+                let left = task.work.left().filter(|_| refusal.is_of_store());
                 answer(task.reply_to, Err(refusal));
-                return None;
+                let due = now + STORE_PAUSE;
+                return left.map(|it| Task {
+                    due,
+                    ..Task::of(it)
+                });
             }
         }
         Some(task)
