@@ -93,8 +93,8 @@ fn found(reading: &Reading, key: &[u8], never: &[u8]) -> (Vec<u8>, Revision) {
 }
 
 /// Gives what lies at the keys from this one on and before the end, in their order, at first so many at once; returns
-/// how many bytes that were. Where one isn't there, the server tells so when it reads. A page that doesn't come is asked
-/// for again as a small one, as what it has may be large.
+/// how many bytes that were. Where one isn't there, the server tells so when it reads. A page that doesn't come is
+/// asked for again as a small one, as what it has may be large.
 fn each(
     store: &dyn Store,
     mut from: Vec<u8>,

@@ -37,8 +37,8 @@ impl<'a> Scanner<'a> {
         }
     }
 
-    /// SCAN: goes on from its cursor over all keys, shard after shard, for the connection with these cursors. A key that
-    /// holds something from the first call to the last is given once.
+    /// SCAN: goes on from its cursor over all keys, shard after shard, for the connection with these cursors. A key
+    /// that holds something from the first call to the last is given once.
     pub fn scan(
         &mut self,
         command: Command<'_>,

@@ -1,5 +1,5 @@
-/// A sum of all bytes in their order, by which files that were cut or changed by chance are told from whole ones: FNV-1a
-/// of 64 bits.
+/// A sum of all bytes in their order, by which files that were cut or changed by chance are told from whole ones:
+/// FNV-1a of 64 bits.
 #[derive(Clone, Copy, Debug)]
 pub(super) struct Checksum(u64);
 

@@ -31,8 +31,8 @@ impl Head {
         }
     }
 
-    /// Refused where a server that is as this one tells can't take the other's shards: it has fewer servers, or gives keys
-    /// to other shards.
+    /// Refused where a server that is as this one tells can't take the other's shards: it has fewer servers, or gives
+    /// keys to other shards.
     pub fn takes(&self, other: &Head) -> Result<(), DumpFault> {
         if other.servers <= self.servers
             && (other.shards, &other.bounds) == (self.shards, &self.bounds)
