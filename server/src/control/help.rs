@@ -1,11 +1,12 @@
 /// Each word behind SM: how it is written, and what it does.
-pub const WORDS: [(&str, &str); 32] = [
+pub const WORDS: [(&str, &str); 33] = [
     ("SHARDS", "each shard: number, stand, owner, next or previous owner, idle or admitted, generation, keys"),
     ("SERVERS", "each server: number, standing, domain, shards that it owns, admissions, what a restart does now; \
       before that with --etcd the number of its process, whether that leads, up to which revision it follows records, \
       and where processes and clients reach it"),
     ("SETTINGS", "how the server runs"),
     ("LOOK k", "how shard k stands"),
+    ("KEY key", "the number of the key's shard"),
     ("ASSIGN k a", "the vacant shard k gets the owner a"),
     ("PREPARE_ADD k b", "a migration of shard k from its owner to server b begins"),
     ("PREPARE_DROP k", "the owner stops executing, and forwards to b, which executes that alone"),
@@ -17,8 +18,8 @@ pub const WORDS: [(&str, &str); 32] = [
     ("REASSIGN k b", "the paused shard k gets the owner b"),
     ("MIGRATE k b", "moves shard k to server b by a whole migration, under load"),
     ("DRAIN a", "migrates all shards of server a to other servers, as planned by the library"),
-    ("PLAN", "where PLACE would have shards go; nothing is moved"),
-    ("PLAN a", "where DRAIN a would"),
+    ("PLAN a", "where DRAIN a would have shards go; nothing is moved"),
+    ("PLAN", "where PLACE would"),
     ("PLACE", "gives each vacant shard an owner, as planned by the library"),
     ("ASK a", "asks for a restart of server a"),
     ("APPROVE a", "approves it, within the caps; a takes no further shards"),
