@@ -26,8 +26,9 @@ pub const WORDS: [(&str, &str); 33] = [
     ("STOPPED a", "server a is stopped: no request reaches it, and no thread has a pass of it"),
     ("BACK a", "server a is up again"),
     ("FAIL a", "server a has failed: no request reaches it"),
-    ("RESTART a", "restarts server a: ASK, APPROVE, DRAIN, STOPPED, BACK, and its shards come home"),
-    ("RESTART", "restarts all servers in turn"),
+    ("RESTART a", "restarts server a: ASK, APPROVE, DRAIN, STOPPED, BACK, and its shards come home; with --etcd its \
+      process is to be ended and begun again once it is stopped"),
+    ("RESTART", "without --etcd: restarts all servers in turn"),
     ("DUMP FILE", "writes all shards, with their stands and generations, into the file in --folder"),
     ("LOAD FILE", "has all shards hold and stand as in that file, in place of what they hold now"),
     ("ROUTES", "with --etcd: the latest record's revision, and for each shard its owner, and where clients reach that"),

@@ -49,6 +49,14 @@ impl Refusal {
         Refusal::new("NotThere", reason, "SM HELP lists all words")
     }
 
+    /// That servers which are processes aren't restarted all at once, as somebody is to begin each again.
+    pub fn one_by_one() -> Refusal {
+        let reason = "each process of a cluster is to be ended and begun again by hand";
+        let advice = "SM RESTART a, and once that says that server a is stopped end its process and start it again; \
+                      then so with the next one";
+        Refusal::new("OneByOne", reason, advice)
+    }
+
     /// That there is no such server.
     pub fn unknown_server() -> Refusal {
         Refusal::new(
