@@ -528,7 +528,7 @@ def who_does_not_wait_is_told(program):
             del several.processes[gone]
             time.sleep(LEASE + 1)
         names = {it.split()[0] for it in load.errors}
-        known = {"UNKNOWN", "PEERDOWN", "SHARDPAUSED", "SERVERDOWN", "SHARDBUSY"}
+        known = {"UNKNOWN", "PEERDOWN", "SHARDPAUSED", "SERVERDOWN", "SHARDBUSY", "STOREDOWN"}
         assert {"UNKNOWN", "PEERDOWN"} <= names <= known, names
         with several.any() as client:
             total = load.checked(client)
