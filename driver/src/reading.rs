@@ -19,7 +19,7 @@ impl From<ReadError> for NotRead {
     fn from(error: ReadError) -> NotRead {
         match error {
             ReadError::Stopped => NotRead::Ended(error.to_string()),
-            _ => NotRead::Later,
+            _ => NotRead::Unanswered(error.to_string()),
         }
     }
 }

@@ -122,7 +122,7 @@ pub enum NotDone {
     /// The server that owns the shard is away.
     #[error("server {0}, which owns the shard, is away")]
     Away(u16),
-    /// Servers of the shard haven't read it, or one left it to the other, all the time.
+    /// One server of the shard left it to the other, all the time.
     #[error("no server had the shard ready")]
     Busy,
     /// What lies in the store is wrong.
@@ -134,7 +134,7 @@ pub enum NotDone {
     /// It is larger than the store takes at once, so nothing of it is made.
     #[error("{0}")]
     TooLarge(String),
-    /// The store didn't make it, and won't.
+    /// The store didn't make it, and won't, or never gave the shard.
     #[error("the store didn't make it: {0}")]
     NotMade(String),
     /// It may have been made.

@@ -8,7 +8,7 @@ use crate::run::Fault;
 use crate::safety::Safety;
 use crate::stored;
 use durkenzo_driver::{Durable, Member, Own};
-use durkenzo_store::{Etcd, Store};
+use durkenzo_store::{Etcd, Store, WriteError};
 use std::net::{SocketAddr, TcpListener};
 use std::sync::mpsc::Sender;
 use std::sync::Arc;
@@ -38,7 +38,8 @@ impl Joined {
     ) -> Result<Joined, Fault> {
         is_named(server, configuration.servers)?;
         let store: Arc<dyn Store> = Arc::new(Etcd::new(options.access()?)?);
-        let settings = settings(&*store, configuration)?;
+        let named = |fault| at_etcd(fault, &options.etcd);
+        let settings = settings(&*store, configuration).map_err(named)?;
         may_listen(&configuration.safety, options.listen)?;
         let listener = TcpListener::bind(options.listen);
         let listener = listener.map_err(|error| format!("{}: {error}", options.listen))?;
@@ -94,6 +95,14 @@ fn is_named(server: u16, most: u16) -> Result<(), Fault> {
         false => {
             Err(format!("--name {server}: there are servers 1 to {most}, by --servers").into())
         }
+    }
+}
+
+/// The fault, with where etcd was asked, if that is what it is about.
+fn at_etcd(fault: Fault, members: &[String]) -> Fault {
+    match fault.is::<WriteError>() {
+        true => format!("etcd at {}: {fault}", members.join(",")).into(),
+        false => fault,
     }
 }
 

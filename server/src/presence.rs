@@ -98,6 +98,13 @@ impl Presence {
         !is_closed && self.standing(server).is_some_and(Standing::is_reached)
     }
 
+    /// The first server but this one that is away, or may go, and how it stands.
+    pub fn away(&self, but: u16) -> Option<(u16, Standing)> {
+        let others = (1..=self.servers()).filter(|it| *it != but);
+        let mut standings = others.filter_map(|it| Some((it, self.standing(it)?)));
+        standings.find(|it| !matches!(it.1, Standing::Up | Standing::Asked))
+    }
+
     /// Sets the standing of a server that there is, and returns the version since then.
     pub fn set(&self, server: u16, standing: Standing) -> u64 {
         self.standings[usize::from(server) - 1].store(standing as u8, Ordering::Release);

@@ -1,4 +1,5 @@
 //! How far servers' restarts have come.
+use crate::presence::Standing;
 use std::collections::BTreeMap;
 use std::fmt;
 use std::sync::{Mutex, MutexGuard, PoisonError};
@@ -6,12 +7,14 @@ use std::sync::{Mutex, MutexGuard, PoisonError};
 /// What a restart, or a drain, of a server is about.
 #[derive(Clone, Copy, Debug, PartialEq, Eq)]
 pub enum Doing {
-    /// It waits until the caps let the server go.
-    Waiting,
+    /// It waits until the caps let the server go: for this one, which stands so, if one is away.
+    Waiting(Option<(u16, Standing)>),
     /// Shards of the server go to others.
     Draining(Share),
     /// No thread is to have a pass of the server.
     Stopping,
+    /// Its process is to be ended, and begun again.
+    Ended,
     /// The server's shards come home.
     Returning(Share),
 }
@@ -34,9 +37,13 @@ impl fmt::Display for Share {
 impl fmt::Display for Doing {
     fn fmt(&self, f: &mut fmt::Formatter<'_>) -> fmt::Result {
         match self {
-            Doing::Waiting => f.write_str("waiting"),
+            Doing::Waiting(None) => f.write_str("waiting"),
+            Doing::Waiting(Some((server, standing))) => {
+                write!(f, "waiting for server {server}, {}", standing.name())
+            }
             Doing::Draining(share) => write!(f, "draining {share}"),
             Doing::Stopping => f.write_str("stopping"),
+            Doing::Ended => f.write_str("waiting for its process to be ended and begun again"),
             Doing::Returning(share) => write!(f, "returning {share}"),
         }
     }
@@ -66,5 +73,24 @@ impl Progress {
 
     fn rows(&self) -> MutexGuard<'_, BTreeMap<u16, Doing>> {
         self.rows.lock().unwrap_or_else(PoisonError::into_inner)
+    }
+}
+
+#[cfg(test)]
+mod tests {
+    use super::*;
+    use crate::presence::Presence;
+
+    #[test]
+    fn who_waits_is_told_for_whom() {
+        let presence = Presence::new(3);
+        presence.set(1, Standing::Asked);
+        assert_eq!(Doing::Waiting(presence.away(1)).to_string(), "waiting");
+        presence.set(2, Standing::Failed);
+        assert_eq!(
+            Doing::Waiting(presence.away(1)).to_string(),
+            "waiting for server 2, failed"
+        );
+        assert_eq!(presence.away(2), None);
     }
 }

@@ -528,7 +528,7 @@ def who_does_not_wait_is_told(program):
             del several.processes[gone]
             time.sleep(LEASE + 1)
         names = {it.split()[0] for it in load.errors}
-        known = {"UNKNOWN", "PEERDOWN", "SHARDPAUSED", "SERVERDOWN", "SHARDBUSY"}
+        known = {"UNKNOWN", "PEERDOWN", "SHARDPAUSED", "SERVERDOWN", "SHARDBUSY", "STOREDOWN"}
         assert {"UNKNOWN", "PEERDOWN"} <= names <= known, names
         with several.any() as client:
             total = load.checked(client)
@@ -651,6 +651,9 @@ def restarts_are_told_when_a_process_may_end(program):
         assert "is stopped" in told, told
         owned = [owner for _, owner in shards(client)]
         assert str(server) not in owned, owned
+        eventually(lambda: rows(client)[server - 1][-4:] == ["ended", "and", "begun", "again"])
+        client.send("SM", "RESTART")
+        assert str(client.read()).startswith("REFUSED OneByOne"), "nobody ends and begins all"
         assert several.processes[server].kill(signal.SIGTERM) == 0
         several.begin(server)
         eventually(lambda: rows(client)[server - 1][1] == "up")

@@ -294,6 +294,28 @@ def redis_cli_speaks_with_it(program):
         assert "Sampled 2 keys" in said("--bigkeys")
 
 
+def words_of_sm_say_how_they_are_written(program):
+    with served(program, "--shards", 8) as server, server.client() as client:
+        for words, wanted in [
+            (("SM",), "ERR wrong number of arguments for 'sm' command: SM HELP lists its words"),
+            (("SM", "AT", 1), "REFUSED BadLine: it is written SM AT a COMMAND .., with numbers for a;"),
+            (("SM", "MIGRATE", "x", 2), "REFUSED BadLine: it is written SM MIGRATE k b, with numbers for k and b;"),
+            (("SM", "PLAN", "x"), "REFUSED BadLine: it is written SM PLAN a, with numbers for a;"),
+            (("SM", "KEY"), "REFUSED BadLine: it is written SM KEY key;"),
+            (("SM", "KEY", ""), "BADKEY"),
+            (("SM", "ROUTES"), "REFUSED NotThere: SM ROUTES is there with --etcd alone;"),
+            (("SM", "CALL", 1, 1, "DEL", "a"), "REFUSED NotThere: SM CALL is there with --data or --etcd alone;"),
+        ]:
+            client.send(*words)
+            found = client.read()
+            assert isinstance(found, Refused) and str(found).startswith(wanted), (words, found)
+        found = [client.ask("SM", "KEY", it) for it in ("a", "{a}b", *map(str, range(99)))]
+        assert found[0] == found[1] and set(found) == set(range(8)), found
+        for key in ("a", "7"):
+            owner = client.ask("SM", "LOOK", client.ask("SM", "KEY", key)).split()[1]
+            assert client.ask("SM", "AT", owner, "SET", key, 1) == "OK"
+
+
 # Lines for the shell, and what each is answered.
 SHELL = """
 look 0                  Serving 1 0 idle 1
@@ -331,6 +353,7 @@ TESTS = [
     scans_give_each_key_once_in_order,
     passwords_are_asked_for,
     redis_cli_speaks_with_it,
+    words_of_sm_say_how_they_are_written,
     the_shell_speaks_with_it,
 ]
 

@@ -90,6 +90,8 @@ pub(crate) struct Shard {
     unknown_at: Option<At>,
     standing: Standing,
     seats: BTreeMap<u16, Seat>,
+    /// What the store told when a server read the shard last, where it gave nothing.
+    unanswered: Option<String>,
     /// Servers that no request reaches.
     away: BTreeSet<u16>,
     runs: VecDeque<Run>,
@@ -121,6 +123,8 @@ pub(crate) struct Shard {
 
 /// How long a shard isn't read again after that failed.
 const READ_AGAIN: Duration = Duration::from_millis(100);
+/// What is told where the store doesn't answer at all.
+const UNREAD: &str = "the store hasn't given the shard so far";
 /// How many times longer work waits while its shard is read.
 const READING_WAITS: u32 = 4;
 /// How long steps wait that came back before they are handed over again.
@@ -144,6 +148,7 @@ impl Shard {
             unknown_at: None,
             standing: Standing::vacant(),
             seats: BTreeMap::new(),
+            unanswered: None,
             away: BTreeSet::new(),
             runs: VecDeque::new(),
             decided: VecDeque::new(),
@@ -328,7 +333,10 @@ impl Shard {
         }
         match read {
             Ok(read) => self.seat(server, read),
-            Err(NotRead::Later) => {
+            Err(later @ (NotRead::Later | NotRead::Unanswered(_))) => {
+                if let NotRead::Unanswered(told) = later {
+                    self.unanswered = Some(told);
+                }
                 let again = Seat::Unread(Some(now + READ_AGAIN));
                 self.seats.insert(server, again);
             }
@@ -354,6 +362,7 @@ impl Shard {
             log,
         } = read;
         self.log = log;
+        self.unanswered = None;
         let stood = standing.revision();
         let at = At { stood, logged };
         self.seats.insert(server, Seat::Ready(core, at));
@@ -378,8 +387,9 @@ impl Shard {
         }
         let is_reading = self.seats.values().any(|it| matches!(it, Seat::Reading(_)));
         let why = self.why_not();
+        let may_soon = matches!(why, NotDone::Busy | NotDone::NotMade(_));
         // Whoever reads the shard will soon execute.
-        let wait = match is_reading && why == NotDone::Busy {
+        let wait = match is_reading && may_soon {
             true => READING_WAITS * wait,
             false => wait,
         };
@@ -417,10 +427,20 @@ impl Shard {
             Some(durkenzo::Stand::Vacant) => NotDone::Vacant,
             Some(_) => match owner.filter(|it| !self.is_reached(*it)) {
                 Some(owner) => NotDone::Away(owner),
+                None if self.is_unread() => {
+                    let told = self.unanswered.as_deref().unwrap_or(UNREAD);
+                    NotDone::NotMade(told.to_owned())
+                }
                 None => NotDone::Busy,
             },
             None => NotDone::Damaged(format!("the record of shard {}", self.number)),
         }
+    }
+
+    /// Whether a server is still to read the shard.
+    fn is_unread(&self) -> bool {
+        let mut seats = self.seats.values();
+        seats.any(|it| matches!(it, Seat::Unread(_) | Seat::Reading(_)))
     }
 
     /// Refuses all that waits.
@@ -449,6 +469,7 @@ impl Shard {
         }
         let why = match (may_be_made, why) {
             (true, NotDone::Unknown(_)) | (false, _) => why.clone(),
+            (true, NotDone::NotMade(told)) => NotDone::Unknown(told.clone()),
             (true, _) => NotDone::Unknown(why.to_string()),
         };
         for (work, outcome) in round.given_up(&why) {
@@ -468,6 +489,8 @@ impl Shard {
 pub(crate) enum NotRead {
     /// It may be later.
     Later,
+    /// It may be once the store answers, which told this.
+    Unanswered(String),
     /// What lies there is wrong.
     Damaged(String),
     /// The store has ended.

@@ -1,7 +1,7 @@
 //! Finds the proved library, or builds it by `rt lib`, and says what is missing.
 use std::env;
 use std::path::{Path, PathBuf};
-use std::process::{exit, Command};
+use std::process::{exit, Command, Output};
 
 const PROVED: &str = "libsm_c.a";
 const OF_THE_KIT: &str = "liblibc_c.a";
@@ -23,12 +23,26 @@ fn kit() -> Option<PathBuf> {
     folder.join(OF_THE_KIT).is_file().then_some(folder)
 }
 
+/// What a run says, but for its counts of statements.
+fn said(run: &Output) -> String {
+    let text = [&run.stdout[..], &run.stderr[..]].map(String::from_utf8_lossy);
+    let lines = text.iter().flat_map(|it| it.lines());
+    let told = lines.filter(|it| !it.contains(": modules loaded="));
+    told.map(|it| format!("{it}\n")).collect()
+}
+
 /// Builds the library, which proves it first.
 fn build(folder: &Path) {
-    println!("cargo:warning=proving and building {PROVED} by `rt lib`, which takes some minutes");
-    match Command::new("rt").arg("lib").current_dir(folder).status() {
-        Ok(status) if status.success() => {}
-        Ok(status) => fail(&format!("`rt lib` in {} failed: {status}", folder.display())),
+    println!(
+        "cargo:warning=`rt lib` proves and builds {PROVED}, which takes long; `tools/unproved --library` makes \
+         one without proof in a minute, in the folder that it prints, which DURKENZO_LIB may name"
+    );
+    match Command::new("rt").arg("lib").current_dir(folder).output() {
+        Ok(run) if run.status.success() => {}
+        Ok(run) => {
+            let (said, status) = (said(&run), run.status);
+            fail(&format!("{said}`rt lib` in {} failed: {status}", folder.display()))
+        }
         Err(error) => fail(&format!(
             "there is no {PROVED}, and `rt` can't be run to build it ({error}): put the toolchain's bin/ on the PATH, \
              or set DURKENZO_LIB to a folder with {PROVED} and {OF_THE_KIT}"

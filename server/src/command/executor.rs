@@ -4,7 +4,7 @@ use super::durable::gather;
 use super::reader::Reader;
 use super::scan::Scanner;
 use super::session::Session;
-use super::spec::{Spec, Word};
+use super::spec::{shard_of, Spec, Word};
 use super::step::{Keyed, Step};
 use super::stop::Stop;
 use super::talk;
@@ -302,10 +302,7 @@ impl Executor {
             (Word::Discard, Some(_)) => session.transaction = None,
             (Word::Discard, None) => return Err(Fault::NoMulti("DISCARD").into()),
             (_, Some(_)) => return Err(Fault::NotQueued.into()),
-            (Word::Control, None) if command.is(1, "AT") => {
-                return self.at_server(command, replies)
-            }
-            (Word::Control, None) => return Err(Unanswered::Control),
+            (Word::Control, None) => return self.control(command, replies),
             (Word::Scan, None) => {
                 self.scanner().scan(command, session.cursors(), replies)?;
                 return Err(Unanswered::Long);
@@ -322,6 +319,19 @@ impl Executor {
 
     fn scanner(&mut self) -> Scanner<'_> {
         Scanner::new(&mut self.admission, &self.keyspace, &self.cluster.cursors)
+    }
+
+    /// Does what asks a server, or for a key's shard; all else is the control's.
+    fn control(&mut self, command: Command<'_>, replies: &mut Replies) -> Result<(), Unanswered> {
+        if command.is(1, "AT") && command.len() > 3 {
+            return self.at_server(command, replies);
+        }
+        if command.is(1, "KEY") && command.len() == 3 {
+            let shard = shard_of(command.get(2), &self.keyspace).map_err(Fault::from)?;
+            replies.number(shard.into());
+            return Ok(());
+        }
+        Err(Unanswered::Control)
     }
 
     /// Does the command behind `SM AT server` at that server, as for a client that has this route.
@@ -680,11 +690,11 @@ mod tests {
         let (_, mut executor) = begun();
         let mut session = Session::new(1, true);
         session.may_control = false;
-        let lines = "SM PAUSE 0\nsm at 1 get a\nMULTI\nSM DROP 0\nEXEC\nSM LOOK 0\n";
+        let lines = "SM PAUSE 0\nsm at 1 get a\nsm key z\nMULTI\nSM DROP 0\nEXEC\nSM LOOK 0\n";
         let (text, stop) = told(&mut executor, &mut session, lines);
         assert_eq!(
             text,
-            "-NOPERM this user has no permissions to run the 'sm|pause' command $-1 \
+            "-NOPERM this user has no permissions to run the 'sm|pause' command $-1 :1 \
              +OK -NOPERM this user has no permissions to run the 'sm|drop' command \
              -EXECABORT Transaction discarded because of previous errors."
         );

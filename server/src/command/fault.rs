@@ -242,7 +242,15 @@ fn bad_number(f: &mut fmt::Formatter<'_>) -> fmt::Result {
 }
 
 fn wrong_arity(f: &mut fmt::Formatter<'_>, name: &str) -> fmt::Result {
-    write!(f, "ERR wrong number of arguments for '{name}' command")
+    let hint = if name == "sm" {
+        ": SM HELP lists its words"
+    } else {
+        ""
+    };
+    write!(
+        f,
+        "ERR wrong number of arguments for '{name}' command{hint}"
+    )
 }
 
 fn no_permission(f: &mut fmt::Formatter<'_>, name: &str) -> fmt::Result {
@@ -282,7 +290,9 @@ fn not_admitted(f: &mut fmt::Formatter<'_>, fault: AdmitFault) -> fmt::Result {
     let advice = match fault {
         AdmitFault::Vacant(_) => "SM PLACE gives the shard an owner",
         AdmitFault::Paused(_) => "SM RESUME k",
-        AdmitFault::NotExecutor(_) | AdmitFault::NotYet(_) => "SM LOOK k tells the owner",
+        AdmitFault::NotExecutor(_) | AdmitFault::NotYet(_) => {
+            "SM LOOK k tells the owner, of the shard k that SM KEY key tells"
+        }
         AdmitFault::Admitted(_) | AdmitFault::Raced(_) | AdmitFault::Holding => "try again",
         AdmitFault::Spent(_) => "start anew with a greater ceiling",
         AdmitFault::UnknownShard => "SM SHARDS lists them",

@@ -3,8 +3,8 @@ use crate::safety::Safety;
 use crate::secret::Secret;
 
 /// Words of SM that change nothing, or are done as a client: every role may send them.
-const OF_ALL: [&str; 8] = [
-    "HELP", "SHARDS", "SERVERS", "LOOK", "SETTINGS", "ROUTES", "AT", "CALL",
+const OF_ALL: [&str; 9] = [
+    "HELP", "SHARDS", "SERVERS", "LOOK", "KEY", "SETTINGS", "ROUTES", "AT", "CALL",
 ];
 
 /// Whether every role may send this command of SM.

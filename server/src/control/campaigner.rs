@@ -146,6 +146,10 @@ impl Campaigner {
         let reply_to = ReplyTo::process(move |told| {
             let is_undecided = UNDECIDED.iter().any(|it| told.starts_with(it));
             is_back.store(is_undecided, Ordering::Release);
+            // Whoever leads may have it up before it asks.
+            if told.starts_with(b"-REFUSED AlreadyUp") {
+                return tracing::info!("this server is up");
+            }
             let told = String::from_utf8_lossy(&told);
             tracing::info!(told = told.trim_end(), "asked for this server to be up");
         });

@@ -497,6 +497,14 @@ fn who_drains_a_server_is_told_where_its_shards_went() {
 }
 
 #[test]
+fn all_processes_are_not_restarted_at_once() {
+    let three = Three::begin(false);
+    let told = three.first.ask(&["SM", "RESTART"]).recv_timeout(PATIENCE);
+    assert!(told.unwrap().starts_with(b"-REFUSED OneByOne: "));
+    three.nothing_is_wished();
+}
+
+#[test]
 fn a_shard_that_somebody_moves_stays_there() {
     // It left for a restart, and would come home else.
     let three = Three::begin(false);

@@ -31,10 +31,30 @@ impl Refusal {
     /// That there is no such word, or that what follows it isn't as it has to be, which is written so.
     pub fn usage(wanted: Option<&str>) -> Refusal {
         let advice = "SM HELP lists all words";
-        match wanted {
-            Some(wanted) => Refusal::new("BadLine", format!("it is written SM {wanted}"), advice),
-            None => Refusal::new("UnknownWord", "SM has no such word", advice),
-        }
+        let Some(wanted) = wanted else {
+            return Refusal::new("UnknownWord", "SM has no such word", advice);
+        };
+        // Shards, servers, clients and their requests are named by a letter.
+        let numbers: Vec<&str> = wanted.split(' ').filter(|it| it.len() == 1).collect();
+        let of = match numbers.is_empty() {
+            true => String::new(),
+            false => format!(", with numbers for {}", numbers.join(" and ")),
+        };
+        Refusal::new("BadLine", format!("it is written SM {wanted}{of}"), advice)
+    }
+
+    /// That the word is there in this case alone.
+    pub fn there_alone(word: &str, case: &str) -> Refusal {
+        let reason = format!("SM {word} is there {case} alone");
+        Refusal::new("NotThere", reason, "SM HELP lists all words")
+    }
+
+    /// That servers which are processes aren't restarted all at once, as somebody is to begin each again.
+    pub fn one_by_one() -> Refusal {
+        let reason = "each process of a cluster is to be ended and begun again by hand";
+        let advice = "SM RESTART a, and once that says that server a is stopped end its process and start it again; \
+                      then so with the next one";
+        Refusal::new("OneByOne", reason, advice)
     }
 
     /// That there is no such server.

@@ -100,7 +100,9 @@ impl Restart {
         match control.approve(self.server) {
             Ok(_) => self.stage = Stage::Drain(Drain::new(self.server, true)),
             Err(fault) if is_of_caps(fault) && control.approved_restarts > 0 => {
-                control.cluster.progress.set(self.server, Doing::Waiting);
+                let away = control.cluster.presence.away(self.server);
+                let progress = &control.cluster.progress;
+                progress.set(self.server, Doing::Waiting(away));
                 return Ok(Next::At(Instant::now() + PAUSE));
             }
             Err(fault) => self.give_up(Refusal::of_restart(fault, self.server)),

@@ -115,8 +115,9 @@ impl Restarting {
             Next::Waits => {
                 let standing = control.cluster.presence.standing(self.server);
                 if standing != Some(Standing::Approved) {
+                    let away = control.cluster.presence.away(self.server);
                     let progress = &control.cluster.progress;
-                    progress.set(self.server, Doing::Waiting);
+                    progress.set(self.server, Doing::Waiting(away));
                     return Ok(Advance::Later);
                 }
                 match self.draining.advance(control)? {
@@ -145,7 +146,12 @@ impl Restarting {
     fn unless_up(&self, control: &mut StoredController) -> Result<Option<Advance>, Refusal> {
         match control.control.state_of(self.server)? {
             UP => return Ok(None),
-            STOPPED => return Ok(Some(Advance::Later)),
+            STOPPED => {
+                if control.peers.is_some() {
+                    control.cluster.progress.set(self.server, Doing::Ended);
+                }
+                return Ok(Some(Advance::Later));
+            }
             FAILED => control.forget_homes(self.server)?,
             // A restart was asked for anew: at its end they come home.
             _ => {}

@@ -360,7 +360,11 @@ impl StoredController {
             ("RESTART", 3, Some(server), _) => {
                 Begun::Work(Work::Restarting(Restarting::new(server)))
             }
+            ("RESTART", 2, ..) if self.peers.is_some() => return Err(Refusal::one_by_one()),
             ("RESTART", 2, ..) => Begun::Work(Work::Rolling(Rolling::new(self.control.servers()))),
+            ("ROUTES" | "COMPACT", 2, ..) => {
+                return Err(Refusal::there_alone(&word, "with --etcd"))
+            }
             (word, length, Some(number), server) => {
                 let command = command_of(word, length, number, server).ok_or_else(usage)?;
                 self.make(command)?;
