@@ -159,6 +159,17 @@ pub struct Part {
     count: usize,
 }
 
+impl Part {
+    /// Whether a key was written by then, so that nobody is told that nothing has changed.
+    pub fn has_written(self, word: DataWord) -> bool {
+        match word {
+            DataWord::MSet => self.done > 0,
+            DataWord::Del => self.count > 0,
+            _ => false,
+        }
+    }
+}
+
 /// The key that comes next of such a command, unless all are done.
 pub fn next_key<'a>(word: DataWord, command: Command<'a>, part: Part) -> Option<&'a [u8]> {
     let index = 1 + part.done * if word == DataWord::MSet { 2 } else { 1 };

@@ -87,12 +87,17 @@ impl Executor {
         replies: &mut Replies,
     ) -> usize {
         let mut reader = Reader::new(input, &mut self.arguments);
-        if reader.peek().is_ok_and(|it| it.is(0, "EXEC")) {
+        let named = reader.peek().ok().and_then(|it| Spec::named(it.get(0)));
+        let word = named.map(|it| it.word);
+        if word == Some(Word::Exec) {
             session.transaction = None;
         }
-        session.part = Part::default();
+        let part = std::mem::take(&mut session.part);
         reader.advance();
-        replies.error(wait);
+        match word {
+            Some(Word::Data(word)) if part.has_written(word) => replies.error(Fault::InPart),
+            _ => replies.error(wait),
+        }
         self.admission.stats().refused.add(1);
         self.admission.stats().commands.add(1);
         reader.at()
@@ -269,13 +274,22 @@ impl Executor {
             match self.admission.admit(self.keyspace.shard_of(key), next) {
                 Ok(done) => {
                     self.admission.note_done(1, u64::from(done.is_err()));
-                    done?;
+                    done.map_err(|it| match part.has_written(word) {
+                        true => Fault::InPart,
+                        false => it,
+                    })?;
                 }
-                Err(refused) => {
-                    let waits = matches!(refused, NotAdmitted::Wait(_)) && word != DataWord::MGet;
-                    session.part = if waits { part } else { Part::default() };
-                    return Err(refused.into());
+                Err(NotAdmitted::Wait(wait)) => {
+                    session.part = match word {
+                        DataWord::MGet => Part::default(),
+                        _ => part,
+                    };
+                    return Err(Unanswered::Wait(wait));
                 }
+                Err(NotAdmitted::Refused(_)) if part.has_written(word) => {
+                    return Err(Fault::InPart.into());
+                }
+                Err(refused) => return Err(refused.into()),
             }
             if replies.is_too_large(mark) {
                 return Err(Fault::ReplyTooLarge.into());
@@ -607,6 +621,21 @@ mod tests {
         assert_eq!(text, ":0 +OK");
         cluster.board().control().resume(1).unwrap();
         assert_eq!(told(&mut executor, &mut session, "DEL a z\n").0, ":2");
+        cluster.board().control().pause(1).unwrap();
+        for (line, answer) in [
+            ("MSET z 1 a 1\n", "-SHARDPAUSED"),
+            ("MSET a 3 z 1\n", "-UNKNOWN some of these keys"),
+            ("DEL a z\n", "-UNKNOWN some of these keys"),
+            ("EXISTS a z\n", "-SHARDPAUSED"),
+            ("DEL a z\n", "-SHARDPAUSED"),
+        ] {
+            told(&mut executor, &mut session, line);
+            let mut replies = Replies::default();
+            executor.refuse(&mut session, line.as_bytes(), Wait::Paused(1), &mut replies);
+            assert!(replies.unsent().starts_with(answer.as_bytes()), "{line}");
+        }
+        cluster.board().control().resume(1).unwrap();
+        answers(&mut executor, "SET a 2\n");
         assert_eq!(answers(&mut executor, "MGET a z\n"), "*2 $1 2 $-1");
     }
 

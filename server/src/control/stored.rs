@@ -367,17 +367,22 @@ impl StoredController {
             }
             (word, length, Some(number), server) => {
                 let command = command_of(word, length, number, server).ok_or_else(usage)?;
-                self.make(command)?;
-                if let Command::Assign(shard, _)
-                | Command::PrepareAddShard(shard, _)
-                | Command::Reassign(shard, _) = command
-                {
-                    self.forget_home(shard)?;
-                }
-                Answer::Done.into()
+                self.make_asked(command)?.into()
             }
             _ => return Err(usage()),
         })
+    }
+
+    /// Makes a command that somebody asked for: a shard that it moves stays there.
+    fn make_asked(&mut self, command: Command) -> Result<Answer, Refusal> {
+        self.make(command)?;
+        if let Command::Assign(shard, _)
+        | Command::PrepareAddShard(shard, _)
+        | Command::Reassign(shard, _) = command
+        {
+            self.forget_home(shard)?;
+        }
+        Ok(Answer::Done)
     }
 
     /// Gives each vacant shard the owner of the proved plan.
