@@ -3,6 +3,7 @@ use durkenzo_store::{
     LeaseError, LeaseId, Outcome, Revision, Seen, Store, Transaction, Watch, WriteError,
 };
 use std::fmt;
+use std::sync::mpsc::{sync_channel, RecvTimeoutError};
 use std::sync::{Arc, Condvar, Mutex, MutexGuard, PoisonError, Weak};
 use std::thread::{self, JoinHandle};
 use std::time::{Duration, Instant};
@@ -215,19 +216,21 @@ impl Inner {
         let end = Instant::now() + self.length + LATE;
         loop {
             let live = self.live(Revision::NEVER);
-            match self.write(lease, &live, Revision::NEVER)? {
-                Ok(revision) => {
+            match self.write(lease, &live, Revision::NEVER, self.length + LATE) {
+                Ok(Ok(revision)) => {
                     let mut state = self.state();
                     (state.lease, state.written) = (Some(lease), revision);
                     state.kept = kept;
                     return Ok(());
                 }
-                Err((other, _)) if Instant::now() >= end => {
+                Ok(Err((other, _))) if Instant::now() >= end => {
                     // Its own lease holds nothing.
                     let _ = self.store.revoke(lease);
                     return Err(JoinFault::Running(self.server, other));
                 }
-                Err(_) => thread::sleep(PAUSE),
+                // Whether it was made is found when it is tried again.
+                Ok(Err(_)) | Err(JoinFault::Write(WriteError::Unknown(_))) => thread::sleep(PAUSE),
+                Err(fault) => return Err(fault),
             }
             kept = Instant::now();
             self.store.keep(lease)?;
@@ -248,24 +251,37 @@ impl Inner {
         }
     }
 
-    /// Writes the server's key that was written at this revision; or says where the process is that has it, and where
-    /// that isn't another one, by which revision it may be written.
+    /// Makes the transaction; where the store hasn't answered in this time, it may still be made later.
+    fn make(&self, transaction: Transaction, patience: Duration) -> Result<Outcome, WriteError> {
+        let (tell, told) = sync_channel(1);
+        let done = move |outcome| {
+            // Nobody waits any more where it comes late.
+            let _ = tell.send(outcome);
+        };
+        self.store.submit(transaction, Box::new(done));
+        told.recv_timeout(patience).unwrap_or_else(|why| match why {
+            RecvTimeoutError::Timeout => Err(WriteError::Unknown("it came late".to_owned())),
+            RecvTimeoutError::Disconnected => Err(WriteError::Stopped),
+        })
+    }
+
+    /// Writes the server's key that was written at this revision, with this patience; or says where the process is that
+    /// has it, and where that isn't another one, by which revision it may be written.
     fn write(
         &self,
         lease: LeaseId,
         live: &Live,
         before: Revision,
+        patience: Duration,
     ) -> Result<Result<Revision, (String, Option<Revision>)>, JoinFault> {
         let key = keys::server(self.server);
         let transaction = Transaction::new()
             .compare(key.clone(), before)
             .put_under(key.clone(), live.bytes(), Some(lease))
             .or_read(key.clone());
-        let found = match self.store.make(transaction) {
-            Ok(Outcome::Made(revision)) => return Ok(Ok(revision)),
-            Ok(Outcome::Lost(reading)) => reading,
-            Err(WriteError::Unknown(_)) => self.store.read(&[&key])?,
-            Err(error) => return Err(error.into()),
+        let found = match self.make(transaction, patience)? {
+            Outcome::Made(revision) => return Ok(Ok(revision)),
+            Outcome::Lost(reading) => reading,
         };
         let Some(pair) = found.get(&key) else {
             let why = "an address that it doesn't tell".to_owned();
@@ -353,7 +369,8 @@ impl Inner {
             }
             (state.followed, state.written)
         };
-        let written = self.write(lease, &self.live(followed), before);
+        // A store that hangs doesn't keep the lease from being kept. What it makes late is found at the next write.
+        let written = self.write(lease, &self.live(followed), before, self.length / PARTS);
         let mut state = self.state();
         match written {
             Ok(Ok(revision)) => {

@@ -2,12 +2,13 @@
 //! processes die, and the control passes on.
 mod common;
 
-use common::cluster::{append, assign, campaign, kill, settle, Dice, Net, Node, LEASE};
+use common::cluster::{append, assign, campaign, kill, settle, Dice, Line, Net, Node, LEASE};
+use common::handing::{Handed, Handing};
 use common::{add, ask, held, write, Uncertain};
 use durkenzo_driver::{
     Addresses, Begin, Command, Durable, JoinFault, Member, Next, NotDone, Numbered, Reply, Request,
 };
-use durkenzo_store::{Embedded, Store};
+use durkenzo_store::{Done, Embedded, Put, Store, Transaction};
 use std::collections::HashSet;
 use std::sync::atomic::{AtomicBool, Ordering};
 use std::sync::{Arc, Mutex};
@@ -323,6 +324,53 @@ fn a_server_runs_once() {
     drop(node);
     let third = Member::join(store, 1, addresses, LEASE, Box::new(|| {}));
     assert!(third.is_ok());
+}
+
+/// A store that doesn't answer what servers tell, where it hangs.
+struct Hanging {
+    store: Handed<Line>,
+    hangs: Arc<AtomicBool>,
+    unanswered: Mutex<Vec<Done>>,
+}
+
+impl Handing for Hanging {
+    fn store(&self) -> &dyn Store {
+        &self.store
+    }
+
+    fn submit(&self, transaction: Transaction, done: Done) {
+        let tells = |it: &Put| it.key.starts_with(b"server/");
+        match self.hangs.load(Ordering::Acquire) && transaction.puts.iter().any(tells) {
+            true => self.unanswered.lock().unwrap().push(done),
+            false => self.store.submit(transaction, done),
+        }
+    }
+}
+
+#[test]
+fn a_server_is_there_though_the_store_hangs_when_it_tells_something() {
+    let store = in_memory();
+    let hangs = Arc::new(AtomicBool::new(false));
+    let node = Arc::new(Net::default()).start(&store, 1, 1, |store| {
+        Arc::new(Handed(Hanging {
+            store,
+            hangs: hangs.clone(),
+            unanswered: Mutex::default(),
+        }))
+    });
+    let lies = || store.read(&[b"server/00001"]).unwrap().pairs;
+    let (mut control, before) = (campaign(&node), lies());
+    hangs.store(true, Ordering::Release);
+    // It would tell that it has seen this.
+    assign(&mut control, 1);
+    thread::sleep(3 * LEASE);
+    assert_eq!(lies(), before);
+    hangs.store(false, Ordering::Release);
+    let end = Instant::now() + 5 * LEASE;
+    while lies() == before {
+        assert!(Instant::now() < end, "it tells nothing");
+        thread::sleep(Duration::from_millis(10));
+    }
 }
 
 /// Moves shards about as long as it is let.
