@@ -168,11 +168,13 @@ impl Work for Remote {
             let why = NotDone::Unknown("the other process is gone".to_owned());
             return step.work.end(Err(why));
         }
-        match (outcome, self.sender.upgrade()) {
-            (Err(NotDone::Moved(revision)), Some(sender)) => {
-                sender.submit_again(self.elsewhere.clone(), vec![step], revision);
-            }
-            (outcome, _) => step.work.end(outcome),
+        let Err(NotDone::Moved(revision)) = outcome else {
+            // The store's thread holds the sender no more once it is told: it would wait for itself to drop it.
+            return step.work.end(outcome);
+        };
+        match self.sender.upgrade() {
+            Some(sender) => sender.submit_again(self.elsewhere.clone(), vec![step], revision),
+            None => step.work.end(outcome),
         }
     }
 }
