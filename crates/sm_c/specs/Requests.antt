@@ -1,5 +1,6 @@
 -- Requests of the sample service by their parts.
-use Rattle.std.specs.Prelude.{ℕ, ℤ, pos, ◌≡◌, ◌⊎◌, ◌^◌, ◌-◌, List, Option, min}
+use Rattle.std.specs.Prelude.{ℕ, ℤ, pos, ◌≡◌, ◌<◌, ◌⊎◌, ◌^◌, ◌-◌, List, Option, length, min}
+use Rattle.sm_ranges.specs.declared.limits.TheConstants.{MAX_KEY}
 use Rattle.sm_server.specs.declared.refusal.Refusal.{Refusal}
 use Rattle.sm_service.specs.declared.request.Request.{Request}
 use Rattle.sm_service.specs.declared.request.Request.TheVariants.{Get, Put, Append, Inc, Del, Scan}
@@ -23,6 +24,10 @@ HasParts kind key other amount (Inc named added) = (kind ≡ 4) × (named ≡ ke
 HasParts kind key other amount (Del named) = (kind ≡ 5) × (named ≡ key)
 HasParts kind key other amount (Scan low high most) =
     (kind ≡ 6) × (low ≡ key) × (high ≡ other) × (pos most ≡ amount)
+
+-- the bytes are no key: there are none, or too many
+abbrev pub IsNoKey : List ℕ → Type 0
+IsNoKey bytes = (length bytes ≡ 0) ⊎ (MAX_KEY < length bytes)
 
 -- so many keys of the map hold something, or more than a word counts
 abbrev pub CountsKeys : Option HandleState → ℕ → Type 0

@@ -1,7 +1,7 @@
 //! Maps of the sample service.
-ghost use Rattle.std.specs.Prelude.{◌≡◌, ◌≢◌};
-ghost use Rattle.sm_handle.specs.Maps.{IsEmptyMap, Replied, WritesHeld};
-ghost use Rattle.sm_c.specs.Requests.{AsksMap, CountsKeys};
+ghost use Rattle.std.specs.Prelude.{◌≡◌, ◌≢◌, ◌⊎◌};
+ghost use Rattle.sm_handle.specs.Maps.{IsEmptyMap, KeepsNoMap, Replied, WritesHeld};
+ghost use Rattle.sm_c.specs.Requests.{AsksMap, CountsKeys, IsNoKey};
 
 use crate::codes::{NO_MEMORY, code_of_act, code_of_request};
 use crate::requests::{lent_key_of, lent_request_of};
@@ -45,6 +45,7 @@ pub extern "C" fn durkenzo_get(
     parts: &mut ReplyParts,
 ) -> u32
     ensures held { result ≡ 0 → WritesHeld map.old.owned.state key.now into.new parts.new }
+    ensures refused { result ≢ 0 → KeepsNoMap map.old.owned.state ⊎ IsNoKey key.now }
     ensures unwritten { result ≢ 0 → (into.new ≡ into.old) × (parts.new ≡ parts.old) }
     ensures unchanged { map.new.owned.state ≡ map.old.owned.state }
 {

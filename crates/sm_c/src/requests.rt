@@ -1,6 +1,6 @@
 //! Requests of the sample service by their parts.
-ghost use Rattle.std.specs.Prelude.{◌≡◌, IfOk};
-ghost use Rattle.sm_c.specs.Requests.{HasParts};
+ghost use Rattle.std.specs.Prelude.{◌≡◌, IfErr, IfOk};
+ghost use Rattle.sm_c.specs.Requests.{HasParts, IsNoKey};
 ghost use Rattle.sm_service.specs.LentRequest.{request_lent};
 
 use sm_ranges::key::{Key, KeyFault};
@@ -71,7 +71,8 @@ pub(crate) fn lent_request_of<'a>(
 
 /// The bytes, where they are a key.
 pub(crate) fn lent_key_of(bytes: &[u8]) -> Result<&[u8], RequestFault>
-    ensures { IfOk result (λ key. key.now ≡ bytes.now) }
+    ensures key { IfOk result (λ key. key.now ≡ bytes.now) }
+    ensures refused { IfErr result (λ fault. IsNoKey bytes.now) }
 {
     match Key::fault_of(bytes) {
         None => Ok(bytes),

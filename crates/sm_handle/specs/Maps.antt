@@ -1,5 +1,5 @@
 -- Maps of the sample service, and their replies, that handles keep.
-use Rattle.std.specs.Prelude.{ℕ, ◌≡◌, ◌≤◌, List, [], length, slice_get, take, Option, Some, None}
+use Rattle.std.specs.Prelude.{ℕ, ◌≡◌, ◌≤◌, ⊤, List, [], length, slice_get, take, Option, Some, None}
 use Rattle.sm_map.specs.KeyMap.{KeyPair, KeyValue, Text as HeldText, Count as HeldCount, held_at}
 use Rattle.sm_service.specs.Service.{reply as reply_of, after as map_after}
 use Rattle.sm_service.specs.declared.reply.Reply.{Reply as ReplyValue}
@@ -38,6 +38,11 @@ IsHeldIn (Some (HeldText text)) written parts =
 abbrev pub WritesHeld : Option HandleState → List ℕ → List ℕ → ReplyParts → Type 0
 WritesHeld (Some (Map map)) key written parts = IsHeldIn (held_at map.value key) written parts
 WritesHeld state key written parts = ⊥
+
+-- the handle keeps no map
+abbrev pub KeepsNoMap : Option HandleState → Type 0
+KeepsNoMap (Some (Map map)) = ⊥
+KeepsNoMap state = ⊤
 
 -- the handle keeps a map in which so many keys hold something
 abbrev pub HoldsKeys : Option HandleState → ℕ → Type 0

@@ -2,7 +2,7 @@
 ghost use Rattle.std.specs.Prelude.{◌≡◌, IfErr, IfOk, OnOk, Some, option_map};
 ghost use Rattle.sm_map.specs.Val.{held_of};
 ghost use Rattle.sm_handle.specs.declared.handle_state.HandleState.TheVariants.{Reply as Replies};
-ghost use Rattle.sm_handle.specs.Maps.{HoldsKeys, IsEmptyMap, IsHeldIn, MakesReply, Replied, WritesHeld};
+ghost use Rattle.sm_handle.specs.Maps.{HoldsKeys, IsEmptyMap, IsHeldIn, KeepsNoMap, MakesReply, Replied, WritesHeld};
 ghost use Rattle.sm_service.specs.LentRequest.{request_lent};
 
 use crate::act_fault::ActFault;
@@ -40,6 +40,7 @@ impl Handle {
     /// room, where it has room for all of them.
     pub fn get(&mut self, key: &[u8], into: &mut [u8]) -> Result<ReplyParts, ActFault>
         ensures held { IfOk result (WritesHeld self.old.owned.state key.now into.new) }
+        ensures refused { IfErr result (λ fault. KeepsNoMap self.old.owned.state) }
         ensures unwritten { IfErr result (λ fault. into.new ≡ into.old) }
         ensures unchanged { self.new.owned.state ≡ self.old.owned.state }
     {
@@ -96,6 +97,7 @@ fn len_of(state: &HandleState) -> Result<u128, ActFault>
 // What the key of the state's map holds.
 fn value_in(state: &HandleState, key: &[u8], into: &mut [u8]) -> Result<ReplyParts, ActFault>
     ensures held { IfOk result (WritesHeld (Some state.now) key.now into.new) }
+    ensures refused { IfErr result (λ fault. KeepsNoMap (Some state.now)) }
     ensures unwritten { IfErr result (λ fault. into.new ≡ into.old) }
 {
     let HandleState::Map(map) = state else {
