@@ -1,7 +1,7 @@
 use super::{Pair, Range, Refusal, Reply, Request, ShardBody, Value, MAX_KEY, MAX_PAIRS, MAX_TEXT};
 use crate::resp::number::Digits;
 use durkenzo::{
-    Held as HeldIn, LentReply, LentText, Map, MapFault, Request as Asked, Value as Held,
+    Held as HeldIn, LentReply, LentText, Map, MapFault, Measure, Request as Asked, Value as Held,
 };
 use std::ops::Bound;
 
@@ -88,9 +88,9 @@ impl ProvedBody {
 
     /// How many bytes the key's text has.
     fn length(&mut self, key: &[u8]) -> Result<usize, Refusal> {
-        match lent(&mut self.map, &Asked::Get(key))? {
-            LentReply::Text(text) => Ok(text.len()),
-            other => unreachable!("a text was appended to, and Get replied {other:?}"),
+        match self.map.measure(key).map_err(refusal_of)? {
+            Some(Measure::Text(length)) => Ok(length),
+            other => unreachable!("a text was appended to, and the key holds {other:?}"),
         }
     }
 
@@ -209,11 +209,11 @@ impl ShardBody for ProvedBody {
     }
 
     fn measure(&mut self, key: &[u8]) -> Result<Option<usize>, Refusal> {
-        Ok(match lent(&mut self.map, &Asked::Get(key))? {
-            LentReply::Text(text) => Some(text.len()),
-            LentReply::Count(count) => Some(Digits::new(count).as_bytes().len()),
-            _ => None,
-        })
+        let held = self.map.measure(key).map_err(refusal_of)?;
+        Ok(held.map(|it| match it {
+            Measure::Text(length) => length,
+            Measure::Count(count) => Digits::new(count).as_bytes().len(),
+        }))
     }
 
     fn keys(&mut self) -> usize {

@@ -106,7 +106,7 @@ pub use note::Note;
 pub use pass::{Front, Mode, Pass, Permit};
 pub use plan::{Move, Plan};
 pub use record::{Record, Stand};
-pub use reply::{Held, LentReply, LentText, Reply, Value};
+pub use reply::{Held, LentReply, LentText, Measure, Reply, Value};
 pub use request::Request;
 pub use restore_fault::RestoreFault;
 pub use routes::{Route, Routes};

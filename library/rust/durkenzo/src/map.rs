@@ -15,7 +15,7 @@
 //! ```
 use crate::fault::MapFault;
 use crate::raw::{self, Handle, ReplyParts};
-use crate::reply::{Held, LentReply, Reply, Value};
+use crate::reply::{Held, LentReply, Measure, Reply, Value};
 use crate::request::Request;
 use std::fmt;
 
@@ -112,6 +112,19 @@ impl Map {
             0 => None,
             2 => Some(Held::Text(&room[..parts.length])),
             3 => Some(Held::Count(parts.count)),
+            other => unreachable!("a key holds a value of kind {other}"),
+        })
+    }
+
+    /// What the key holds, if anything, where a text is told by its length alone and none of it is copied; or `EmptyKey`
+    /// or `KeyTooLong`.
+    #[inline]
+    pub fn measure(&mut self, key: impl AsRef<[u8]>) -> Result<Option<Measure>, MapFault> {
+        let parts = self.parts_in(key.as_ref(), &mut [])?;
+        Ok(match parts.kind {
+            0 => None,
+            2 => Some(Measure::Text(parts.length)),
+            3 => Some(Measure::Count(parts.count)),
             other => unreachable!("a key holds a value of kind {other}"),
         })
     }

@@ -23,6 +23,15 @@ pub enum Held<'a> {
     Count(i64),
 }
 
+/// What a key holds, without the bytes of a text.
+#[derive(Clone, Copy, Debug, PartialEq, Eq)]
+pub enum Measure {
+    /// How many bytes the text has.
+    Text(usize),
+    /// A count.
+    Count(i64),
+}
+
 /// What the sample service replies to a request.
 #[derive(Clone, Debug, PartialEq, Eq)]
 pub enum Reply {

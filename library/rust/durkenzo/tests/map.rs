@@ -1,5 +1,5 @@
 //! A map beside one of the standard library.
-use durkenzo::{Board, Held, LentReply, Map, MapFault, Mode, Reply, Request, Value};
+use durkenzo::{Board, Held, LentReply, Map, MapFault, Measure, Mode, Reply, Request, Value};
 use std::collections::BTreeMap;
 
 /// A generator of numbers that are the same in each run.
@@ -87,6 +87,8 @@ fn refused_requests_change_nothing() {
         map.get_in([b'k'; 256], &mut room),
         Err(MapFault::KeyTooLong)
     );
+    assert_eq!(map.measure(""), Err(MapFault::EmptyKey));
+    assert_eq!(map.measure("long"), Ok(Some(Measure::Text(65_535))));
     assert_eq!(map.get("text"), Ok(text("a")));
     assert_eq!(map.get("count"), Ok(Some(Value::Count(i64::MAX))));
 }
@@ -149,6 +151,14 @@ fn expected(map: &mut BTreeMap<Vec<u8>, Value>, request: &Request<'_>) -> Reply 
     }
 }
 
+/// What a key that holds this is told to hold without the bytes of a text.
+fn measure(value: &Value) -> Measure {
+    match value {
+        Value::Text(text) => Measure::Text(text.len()),
+        Value::Count(count) => Measure::Count(*count),
+    }
+}
+
 fn owned(held: Held<'_>) -> Value {
     match held {
         Held::Text(text) => Value::Text(text.to_vec()),
@@ -179,6 +189,8 @@ fn random_requests_beside_the_standard_library() {
         );
         let held = map.get_in(&other, &mut room).unwrap().map(owned);
         assert_eq!(held.as_ref(), beside.get(&other), "in round {round}");
+        let measured = map.measure(&other).unwrap();
+        assert_eq!(measured, held.as_ref().map(measure), "in round {round}");
     }
 }
 
