@@ -2,9 +2,9 @@ use crate::{Caller, KEYS};
 use durkenzo_store::{Access, Etcd, Outcome, Revision, Store, Transaction};
 use std::sync::Arc;
 
-/// A client of etcd that compares its key's revision and puts it.
+/// A client of etcd that compares its key's revision and puts it, by each member in turn, as servers have one each.
 pub(crate) struct Transactions {
-    store: Arc<Etcd>,
+    members: Vec<Arc<Etcd>>,
     name: u64,
     revisions: Vec<Revision>,
 }
@@ -22,7 +22,7 @@ impl Transactions {
             .map_err(|error| error.to_string())?;
         let made = |it: u64| -> Box<dyn Caller> {
             Box::new(Transactions {
-                store: stores[it as usize % stores.len()].clone(),
+                members: stores.clone(),
                 name: it,
                 revisions: vec![Revision::NEVER; KEYS as usize],
             })
@@ -44,7 +44,8 @@ impl Caller for Transactions {
         let transaction = Transaction::new()
             .compare(key.as_str(), self.revisions[at])
             .put(key.as_str(), format!("{number:032}"));
-        match self.store.make(transaction) {
+        let member = &self.members[(self.name + number) as usize % self.members.len()];
+        match member.make(transaction) {
             Ok(Outcome::Made(revision)) => {
                 self.revisions[at] = revision;
                 Ok(())
