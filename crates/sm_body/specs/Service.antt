@@ -2,14 +2,14 @@
 use Rattle.std.specs.Prelude.{ℕ, List, fold}
 
 -- what a service means: the reply to a request after those of a list, and the bytes that choose its shard
-pub record Service (Q R : Type 0) : Type 0 where
+pub record Meaning (Q R : Type 0) : Type 0 where
   pub reply_of : List Q → Q → R
   pub key_of : Q → List ℕ
 
 -- the meaning of a state machine: from the initial state on, each request leads to the next state and is answered in
 -- its own
 abbrev pub meaning_of : {State Q R : Type 0} → State → (State → Q → State) → (State → Q → R) → (Q → List ℕ)
-    → Service Q R
+    → Meaning Q R
 meaning_of initial next answer key_of =
     record { reply_of = λ list request. answer (fold next initial list) request; key_of = key_of }
 

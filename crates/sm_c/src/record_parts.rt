@@ -6,18 +6,7 @@ ghost use Rattle.sm_c.specs.Words.{ArePartsOf};
 use sm_ownership::record::{MAX_GENERATION, Record};
 use sm_ranges::server_id::ServerId;
 use sm_ranges::stand::Stand;
-
-// Where the parts of a word begin.
-const PHASE: u64 = 1 << 61;
-
-const ADMITTED: u64 = 1 << 60;
-
-const OWNER: u64 = 1 << 48;
-
-const OTHER: u64 = 1 << 36;
-
-// How many numbers of servers a part has room for.
-const SERVERS: u64 = 1 << 12;
+use sm_word::word::{ADMITTED, OTHER, OWNER, PHASE, SERVERS};
 
 /// A shard's record as C sees it: servers by their numbers, 0 for none; `other` is the next or the previous server.
 /// The phase is 0 vacant, 1 serving, 2 prepared, 3 forwarding, 4 taken, 5 paused.
@@ -61,8 +50,8 @@ impl RecordParts {
     /// The word that a record with these parts has, if there is one.
     pub(crate) fn word(&self) -> Option<u64> {
         if self.phase > 5
-            || self.owner > 4095
-            || self.other > 4095
+            || u64::from(self.owner) >= SERVERS
+            || u64::from(self.other) >= SERVERS
             || self.generation > MAX_GENERATION
         {
             return None;

@@ -2,7 +2,7 @@
 use Rattle.std.proofs.Common.{◌≡◌, ◌+◌, ℕ, zero, suc, Bool, true, false, add-one, arith, refl, sym, ◌∙◌, subst}
 use Rattle.std.specs.Prelude.{ℤ, MatchBool, Option, Some, None, Ok, Err}
 use Rattle.std.specs.Option.{is_some}
-use Rattle.sm_body.specs.Service.{Service}
+use Rattle.sm_body.specs.Service.{Meaning}
 use Rattle.sm_ranges.specs.Ranges.{shard_of}
 use Rattle.sm_rule.specs.lemmas.Passing.{begins_begins}
 use Rattle.sm_server.specs.Answers.{AnswerValue, IsAnswer}
@@ -15,7 +15,7 @@ use Rattle.sm_cluster.specs.Loads.{HasLearned, HasLearnedCount, HasLearnedCounts
 use Rattle.sm_cluster.specs.lemmas.Since.{since_looks, since_same, since_since}
 
 -- a client whose call at a server ended so has seen no less
-module _ {Q R : Type 0} (service : Service Q R) (number : ℕ) (request : Q) where
+module _ {Q R : Type 0} (service : Meaning Q R) (number : ℕ) (request : Q) where
   since_fault : (before after : ClientValue Q) (fault : CallFault)
       → FaultAt service before after number request fault → IsClientSince before after
   since_fault before after NoRoute never = absurd never
@@ -33,7 +33,7 @@ module _ {Q R : Type 0} (service : Service Q R) (number : ℕ) (request : Q) whe
       subst (λ (client : ClientValue Q). IsClientSince before client) (sym called.1) (since_same before)
   since_called before after (Err refused) called = since_fault before after refused.fault called.1
 
-module _ {Q R : Type 0} (service : Service Q R) (request : Q) where
+module _ {Q R : Type 0} (service : Meaning Q R) (request : Q) where
   -- what was learned stays so
   pub learned_later : (a b c : ClientValue Q) (answer : AnswerValue Q R) → IsClientSince b c
       → HasLearned service request a b answer → HasLearned service request a c answer
@@ -69,7 +69,7 @@ module _ {Q R : Type 0} (service : Service Q R) (request : Q) where
       → HasLearnedReply service request a c reply
   reply_before a b c reply since was = (was.0, learned_before a b c was.0 since was.1, was.2)
 
-module _ {Q R : Type 0} (service : Service Q R) (count : R → Option ℤ) (request : Q) where
+module _ {Q R : Type 0} (service : Meaning Q R) (count : R → Option ℤ) (request : Q) where
   -- an answer that tells a count, where the client has seen more since
   counted_later : (a b c : ClientValue Q) → IsClientSince b c → HasLearnedCount service count request a b
       → HasLearnedCount service count request a c

@@ -1,7 +1,7 @@
 -- What a reply to a call is to its caller.
 use Rattle.std.proofs.Common.{◌≡◌, ℕ, List, ◌∙◌, ap, refl, subst}
 use Rattle.std.specs.Prelude.{Some, Result, Ok, Err, IfOk}
-use Rattle.sm_body.specs.Service.{Service}
+use Rattle.sm_body.specs.Service.{Meaning}
 use Rattle.sm_ownership.specs.declared.entry.Entry.{Entry}
 use Rattle.sm_rule.specs.Boards.{BoardValue}
 use Rattle.sm_rule.specs.Passes.{PassValue}
@@ -23,7 +23,7 @@ use Rattle.sm_cluster.specs.Exchanging.{IsCallOf, IsLeftAfter, IsLeftBy, SendsBa
 use Rattle.sm_cluster.specs.Replies.{CallValue, ComesBackFor, Fits, IsAnswerTo, IsRefusalTo}
 use Rattle.sm_cluster.proofs.Travelling.{new_told}
 
-answers_for : {Q R : Type 0} (service : Service Q R) (caller : PassValue Q) (shard number : ℕ) (request : Q)
+answers_for : {Q R : Type 0} (service : Meaning Q R) (caller : PassValue Q) (shard number : ℕ) (request : Q)
     (sent : Sent Q) (answer : AnswerValue Q R) → IsEnvelopeOf caller shard number request sent
     → IsAnswerTo service sent answer → IsAnswerFor service caller shard number request answer
 answers_for {Q} service caller shard number request sent answer of to = record {
@@ -38,7 +38,7 @@ answers_for {Q} service caller shard number request sent answer of to = record {
 
 -- an envelope that comes back has the request
 request_back :
-    {Q R : Type 0} (service : Service Q R) (asked : CallValue Q) (back : Sent Q) (fault : CallFault) (request : Q)
+    {Q R : Type 0} (service : Meaning Q R) (asked : CallValue Q) (back : Sent Q) (fault : CallFault) (request : Q)
     → back.request ≡ request → ComesBackFor service asked fault back → Some back.request ≡ handed_back fault request
 request_back service asked back NoRoute request is never = absurd never
 request_back service asked back Unreachable request is why = ap Some is
@@ -47,7 +47,7 @@ request_back service asked back NoMemory request is why = ap Some is
 request_back service asked back Closed request is never = absurd never
 
 -- an envelope that comes back has a note of the call's board
-pub sent_back : {Q R E : Type 0} (service : Service Q R) (asked : CallValue Q) (board : BoardValue)
+pub sent_back : {Q R E : Type 0} (service : Meaning Q R) (asked : CallValue Q) (board : BoardValue)
     (reply : Result (CallReply (AnswerValue Q R) (Sent Q)) E) → asked.sent.note.board ≡ board
     → IfOk reply (Fits service (Some asked)) → IfOk reply (SendsBackOn board)
 sent_back service asked board (Ok (reply.Answered answer)) is fits = tt
@@ -55,7 +55,7 @@ sent_back service asked board (Ok (reply.Refused fault back)) is fits = fits.0.b
 sent_back service asked board (Err none) is fits = tt
 
 -- a call of a client
-module _ {Q R : Type 0} (service : Service Q R) (before : ClientValue Q) (number : ℕ) (request : Q)
+module _ {Q R : Type 0} (service : Meaning Q R) (before : ClientValue Q) (number : ℕ) (request : Q)
     (asked : CallValue Q) (of : IsCallOf service before number request asked) where
   -- a refusal to the call is one of the client's, and what was told then is so later
   refused_for : (refusal : Refusal) (told seen : List (Entry Q)) → IsRefusalTo service asked refusal told

@@ -7,7 +7,7 @@ use Rattle.std.proofs.lemmas.Bool.{cases_lt}
 use Rattle.std.proofs.lemmas.List.{append-nil, take-append-le, take_at}
 use Rattle.std.proofs.lemmas.List.Elements.{All-head, All-tail}
 use Rattle.std.proofs.lemmas.Option.{slice_get_within}
-use Rattle.sm_body.specs.Service.{Service}
+use Rattle.sm_body.specs.Service.{Meaning}
 use Rattle.sm_ownership.specs.declared.entry.Ending.TheVariants.{Request}
 use Rattle.sm_ownership.specs.declared.entry.Entry.{Entry}
 use Rattle.sm_ownership.specs.declared.entry.Kind.TheVariants.{Done}
@@ -44,7 +44,7 @@ all_begins history later shard begins =
     ap (λ entries. all_of entries shard) begins.1 ∙ all_of-append history begins.0 shard
 
 -- an answer
-module _ {Q R : Type 0} (service : Service Q R) (shard : ℕ) (mode : Mode) (request : Q) (answer : AnswerValue Q R)
+module _ {Q R : Type 0} (service : Meaning Q R) (shard : ℕ) (mode : Mode) (request : Q) (answer : AnswerValue Q R)
     (is : IsAnswer service shard mode request answer) where
   -- all requests of the shard up to the answer
   all_is : all_of answer.note.seen shard ≡ all_of is.last.0 shard ++ request ∷ []
@@ -99,7 +99,7 @@ module _ {Q R : Type 0} (service : Service Q R) (shard : ℕ) (mode : Mode) (req
         replies_there ∙ ap (λ list. service.reply_of list request) (sym same)
 
 -- two answers at one place in one history
-pub agree : {Q R : Type 0} (service : Service Q R) (shard : ℕ) (mode other_mode : Mode) (request other_request : Q)
+pub agree : {Q R : Type 0} (service : Meaning Q R) (shard : ℕ) (mode other_mode : Mode) (request other_request : Q)
     (answer other : AnswerValue Q R) (history : List (Entry Q)) → IsAnswer service shard mode request answer
     → IsAnswer service shard other_mode other_request other → Begins answer.note.seen history
     → Begins other.note.seen history → answer.place ≡ other.place
@@ -148,7 +148,7 @@ begins_front number seen front entry own none begins = by_more begins.0 begins.1
     by_more (one ∷ more) is (inl long) = let n = count (one ∷ more) is in absurd (omega (arith, n))
 
 -- an answer that extends what a caller had seen, who had learned another of the shard
-pub in_order : {Q R : Type 0} (service : Service Q R) (shard : ℕ) (mode next_mode : Mode) (request next : Q)
+pub in_order : {Q R : Type 0} (service : Meaning Q R) (shard : ℕ) (mode next_mode : Mode) (request next : Q)
     (learned answer : AnswerValue Q R) (seen : List (Entry Q)) → IsAnswer service shard mode request learned
     → IsAnswer service shard next_mode next answer → Begins learned.note.seen seen → Begins seen answer.note.seen
     → NoneBy answer.note.number seen → (learned.place < answer.place)

@@ -7,7 +7,7 @@ use lib.ListN.{get_elem?}
 use Rattle.std.proofs.lemmas.List.{length-set}
 use Rattle.crossbeam_channel.specs.Fifo.{Pushes, Pops, Forks}
 use Rattle.atomic_table.proofs.Lists.{at_set}
-use Rattle.sm_body.specs.Service.{Service}
+use Rattle.sm_body.specs.Service.{Meaning}
 use Rattle.sm_server.specs.Answers.{AnswerValue}
 use Rattle.sm_server.specs.Serving.{Sent}
 use Rattle.sm_cluster.specs.declared.reply.CallReply.{CallReply}
@@ -18,7 +18,7 @@ fit_append : {T : Type 0} (Fit : T → Type 0) (replies : List T) (reply : T) �
 fit_append Fit [] reply fit last = (last, tt)
 fit_append Fit (one ∷ replies) reply fit last = (fit.0, fit_append Fit replies reply fit.1 last)
 
-module _ {Q R : Type 0} (service : Service Q R) where
+module _ {Q R : Type 0} (service : Meaning Q R) where
   no_fit : (asked : Option (CallValue Q)) (replies : List (CallReply (AnswerValue Q R) (Sent Q)))
       → AllFit (Fits service None) replies → AllFit (Fits service asked) replies
   no_fit asked [] fit = tt

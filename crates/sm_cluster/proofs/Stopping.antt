@@ -5,7 +5,7 @@ use mathlib.Core.Option.{some}
 use lib.ListN.{get_elem?}
 use Rattle.std.proofs.lemmas.List.Elements.{All-weaker}
 use Rattle.std.proofs.lemmas.Option.{get_or_from_slice_get, slice_get_within}
-use Rattle.sm_body.specs.Service.{Service}
+use Rattle.sm_body.specs.Service.{Meaning}
 use Rattle.sm_ownership.specs.declared.entry.Entry.{Entry}
 use Rattle.sm_ownership.specs.declared.mode.Mode.{Mode}
 use Rattle.sm_ownership.specs.declared.record.Record.{Record}
@@ -56,7 +56,7 @@ closed_stopped {S} {Q} keeps limit cluster told closer clients rows closed all m
     )
 
 -- what a client that came back had learned is among the requests on which the body of its shard rests
-pub lasts : {S Q R : Type 0} (service : Service Q R) (keeps : S → ℕ → List Q → Type 0) (limit : S → ℕ)
+pub lasts : {S Q R : Type 0} (service : Meaning Q R) (keeps : S → ℕ → List Q → Type 0) (limit : S → ℕ)
     (cluster : ClusterValue Q) (clients : List (ClientValue Q)) (rows : List (Record × Option S))
     (client : ClientValue Q) (at shard : ℕ) (mode : Mode) (request : Q) (answer : AnswerValue Q R)
     (row : Record × Option S) → WasStopped keeps limit cluster clients rows → slice_get clients at ≡ Some client

@@ -2,7 +2,7 @@
 use Rattle.std.proofs.Common.{◌≡◌, ℕ, List, [], refl, sym, ap, ◌∙◌, subst}
 use Rattle.std.specs.Prelude.{Some}
 use Rattle.std.proofs.lemmas.List.{append-nil}
-use Rattle.sm_body.specs.Service.{Service}
+use Rattle.sm_body.specs.Service.{Meaning}
 use Rattle.sm_envelope.specs.Envelope.{ShellView, shell_of, whole}
 use Rattle.sm_ownership.specs.declared.entry.Entry.{Entry}
 use Rattle.sm_rule.specs.Boards.{BoardValue}
@@ -42,7 +42,7 @@ way_on sent envelope back way handed number shard = record {
 }
 
 -- an answer to the envelope is one to its call
-answers : {Q R : Type 0} (service : Service Q R) (before : PassValue Q) (envelope sent : Sent Q)
+answers : {Q R : Type 0} (service : Meaning Q R) (before : PassValue Q) (envelope sent : Sent Q)
     (answer : AnswerValue Q R) → envelope.note.board ≡ before.board → IsOnTheWay sent envelope
     → IsAnswered service before envelope answer → IsAnswerTo service sent answer
 answers {Q} service before envelope sent answer board way answered = record {
@@ -96,7 +96,7 @@ new_told board other server told earlier pass board_is begins new = record {
 }
 
 -- a server's step on an envelope, by a new pass that was told what its note had seen
-module _ {Q R : Type 0} (service : Service Q R) (stepped asked : CallValue Q) (board : BoardValue) (server : ℕ)
+module _ {Q R : Type 0} (service : Meaning Q R) (stepped asked : CallValue Q) (board : BoardValue) (server : ℕ)
     (before : PassValue Q) (envelope : Sent Q)
     (board_is : stepped.sent.note.board ≡ board) (new : IsNewPass board server stepped.sent.note.seen before)
     (noted : IsNotedAgain stepped.sent envelope)
@@ -150,7 +150,7 @@ module _ {Q R : Type 0} (service : Service Q R) (stepped asked : CallValue Q) (b
   told (Refused refusal back) served = refuses refusal back served
 
 -- what holds a message up on its way sends its envelope back
-pub comes_back : {Q R : Type 0} (service : Service Q R) (asked : CallValue Q) (fault : CallFault) (back : Sent Q)
+pub comes_back : {Q R : Type 0} (service : Meaning Q R) (asked : CallValue Q) (fault : CallFault) (back : Sent Q)
     → IsOfTheWay fault → ComesBackFor service asked fault back
 comes_back service asked call.NoRoute back never = never
 comes_back service asked call.Unreachable back way = way
@@ -159,6 +159,6 @@ comes_back service asked call.NoMemory back way = way
 comes_back service asked call.Closed back never = never
 
 -- what holds a message up on its way is a reply that fits its call
-pub held_up : {Q R : Type 0} (service : Service Q R) (asked : CallValue Q) (fault : CallFault) (envelope : Sent Q)
+pub held_up : {Q R : Type 0} (service : Meaning Q R) (asked : CallValue Q) (fault : CallFault) (envelope : Sent Q)
     → IsOnTheWay asked.sent envelope → IsOfTheWay fault → Fits service (Some asked) (reply.Refused fault envelope)
 held_up service asked fault envelope on way = (on, comes_back service asked fault envelope way)

@@ -1,6 +1,6 @@
 -- Clients as contracts see them, and what a call gives.
 use Rattle.std.specs.Prelude.{ℕ, ◌≡◌, ◌⊎◌, List, Option, Some, None, Result, Ok, Err}
-use Rattle.sm_body.specs.Service.{Service}
+use Rattle.sm_body.specs.Service.{Meaning}
 use Rattle.sm_ownership.specs.declared.entry.Entry.{Entry}
 use Rattle.sm_ownership.specs.declared.mode.Mode.{Mode}
 use Rattle.sm_ownership.specs.declared.record.Record.{Record}
@@ -56,7 +56,7 @@ HasReadRoute before shard route after =
 
 -- an answer for a caller: to the request of this number for the shard, in a history that extends all that the caller
 -- had seen, by the entries by which the request was executed among others
-pub record IsAnswerFor {Q R : Type 0} (service : Service Q R) (caller : PassValue Q) (shard number : ℕ) (request : Q)
+pub record IsAnswerFor {Q R : Type 0} (service : Meaning Q R) (caller : PassValue Q) (shard number : ℕ) (request : Q)
     (answer : AnswerValue Q R) : Type 0 where
   pub number_is : answer.number ≡ number
   pub board : answer.note.board ≡ caller.board
@@ -66,11 +66,11 @@ pub record IsAnswerFor {Q R : Type 0} (service : Service Q R) (caller : PassValu
   pub executed : IsAnswer service shard mode request answer
 
 -- the shard of a request's key by the client's bounds
-abbrev pub shard_asked : {Q R : Type 0} → Service Q R → ClientValue Q → Q → ℕ
+abbrev pub shard_asked : {Q R : Type 0} → Meaning Q R → ClientValue Q → Q → ℕ
 shard_asked service client request = shard_of client.bounds (service.key_of request)
 
 -- what a call of a client gives: an answer for its pass, from the shard of the request's key
-abbrev pub Gives : {Q R : Type 0} → Service Q R → ClientValue Q → ℕ → Q → AnswerValue Q R → Type 0
+abbrev pub Gives : {Q R : Type 0} → Meaning Q R → ClientValue Q → ℕ → Q → AnswerValue Q R → Type 0
 Gives service client number request answer =
     IsAnswerFor service client.pass (shard_asked service client request) number request answer
 
@@ -95,7 +95,7 @@ pub record IsEnvelopeOf {Q : Type 0} (caller : PassValue Q) (shard number : ℕ)
 
 -- a server's step on an envelope of the client's call refused it for this reason: by a new pass of the server, which
 -- had seen what the client had. What the pass then has seen, and the note that the step gave back, is told
-pub record WasRefused {Q R : Type 0} (service : Service Q R) (client : ClientValue Q) (number : ℕ) (request : Q)
+pub record WasRefused {Q R : Type 0} (service : Meaning Q R) (client : ClientValue Q) (number : ℕ) (request : Q)
     (refusal : Refusal) (told : List (Entry Q)) : Type 0 where
   pub envelope : Sent Q
   pub back : Sent Q
@@ -109,7 +109,7 @@ pub record WasRefused {Q R : Type 0} (service : Service Q R) (client : ClientVal
 
 -- why a call at a server isn't answered, and the client that this leaves: it asks for no route; where a server refused
 -- it, the client has then seen all by which it was refused; and else nothing has changed
-abbrev pub FaultAt : {Q R : Type 0} → Service Q R → ClientValue Q → ClientValue Q → ℕ → Q → CallFault → Type 0
+abbrev pub FaultAt : {Q R : Type 0} → Meaning Q R → ClientValue Q → ClientValue Q → ℕ → Q → CallFault → Type 0
 FaultAt service before after number request NoRoute = ⊥
 FaultAt service before after number request (Refused refusal) =
     PassLooks before.pass after.pass × (after ≡ client_seeing before after.pass)
@@ -121,21 +121,21 @@ abbrev pub CallResult : Type 0 → Type 0 → Type 0
 CallResult Q R = Result (AnswerValue Q R) (CallRefused Q)
 
 -- what a call at a server gives, and the client that this leaves
-abbrev pub CalledAt : {Q R : Type 0} → Service Q R → ClientValue Q → ℕ → Q → CallResult Q R → ClientValue Q → Type 0
+abbrev pub CalledAt : {Q R : Type 0} → Meaning Q R → ClientValue Q → ℕ → Q → CallResult Q R → ClientValue Q → Type 0
 CalledAt service before number request (Ok answer) after =
     Gives service before number request answer × (after ≡ before)
 CalledAt service before number request (Err refused) after =
     HandsBack request refused × FaultAt service before after number request refused.fault
 
 -- what a call by this route gives: where there is none, it is refused for that
-abbrev pub CalledBy : {Q R : Type 0} → Service Q R → ClientValue Q → ℕ → Q → Option Route → CallResult Q R
+abbrev pub CalledBy : {Q R : Type 0} → Meaning Q R → ClientValue Q → ℕ → Q → Option Route → CallResult Q R
     → ClientValue Q → Type 0
 CalledBy service before number request None result after =
     (result ≡ Err (record { fault = NoRoute; back = Some request })) × (after ≡ before)
 CalledBy service before number request (Some route) result after = CalledAt service before number request result after
 
 -- what a call gives, and the client that this leaves: it goes by the route that the router then reads of the shard
-abbrev pub Called : {Q R : Type 0} → Service Q R → ClientValue Q → ℕ → Q → CallResult Q R → ClientValue Q → Type 0
+abbrev pub Called : {Q R : Type 0} → Meaning Q R → ClientValue Q → ℕ → Q → CallResult Q R → ClientValue Q → Type 0
 Called {Q} service before number request result after =
     (route : Option Route) × (read : ClientValue Q)
     × HasReadRoute before (shard_asked service before request) route read

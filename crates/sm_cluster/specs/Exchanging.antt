@@ -1,6 +1,6 @@
 -- What comes of a message that was sent for its reply.
 use Rattle.std.specs.Prelude.{ℕ, ◌≡◌, Some, None, Result, Ok, Err}
-use Rattle.sm_body.specs.Service.{Service}
+use Rattle.sm_body.specs.Service.{Meaning}
 use Rattle.sm_rule.specs.Boards.{BoardValue}
 use Rattle.sm_rule.specs.Passes.{PassLooks, PassValue}
 use Rattle.sm_rule.specs.Views.{Begins}
@@ -14,7 +14,7 @@ use Rattle.sm_cluster.specs.Calls.{ClientValue, IsEnvelopeOf, client_seeing, sha
 use Rattle.sm_cluster.specs.Replies.{CallValue}
 
 -- a call of the client: by its bounds, and with an envelope of its number and request
-pub record IsCallOf {Q R : Type 0} (service : Service Q R) (client : ClientValue Q) (number : ℕ) (request : Q)
+pub record IsCallOf {Q R : Type 0} (service : Meaning Q R) (client : ClientValue Q) (number : ℕ) (request : Q)
     (asked : CallValue Q) : Type 0 where
   pub bounds : asked.bounds ≡ client.bounds
   pub sent : IsEnvelopeOf client.pass (shard_asked service client request) number request asked.sent

@@ -2,7 +2,7 @@
 use Rattle.std.specs.Prelude.{ℕ, ◌≡◌, List, [], ◌∷◌, Option, Some, None, length}
 use mathlib.Core.Option.{some}
 use lib.ListN.{get_elem?}
-use Rattle.sm_body.specs.Service.{Service}
+use Rattle.sm_body.specs.Service.{Meaning}
 use Rattle.sm_ownership.specs.declared.mode.Mode.{Mode}
 use Rattle.sm_ownership.specs.declared.entry.Entry.{Entry}
 use Rattle.sm_ownership.specs.History.{NoneBy}
@@ -25,7 +25,7 @@ pub record CallValue (Q : Type 0) : Type 0 where
 
 -- an answer to the call whose envelope was first sent so: its history extends what the envelope's note had seen, by
 -- the entries by which the request was executed among others
-pub record IsAnswerTo {Q R : Type 0} (service : Service Q R) (sent : Sent Q) (answer : AnswerValue Q R) : Type 0 where
+pub record IsAnswerTo {Q R : Type 0} (service : Meaning Q R) (sent : Sent Q) (answer : AnswerValue Q R) : Type 0 where
   pub number : answer.number ≡ sent.number
   pub board : answer.note.board ≡ sent.note.board
   pub told : Begins sent.note.seen answer.note.seen
@@ -45,7 +45,7 @@ pub record IsOnTheWay {Q : Type 0} (sent envelope : Sent Q) : Type 0 where
 -- a server's step on the envelope of that call, on its way, refused it for this reason: by a new pass of the server,
 -- which had seen what the call's first note had. What the pass then has seen, and the note that the step gave back, is
 -- told
-pub record IsRefusalTo {Q R : Type 0} (service : Service Q R) (asked : CallValue Q) (refusal : Refusal)
+pub record IsRefusalTo {Q R : Type 0} (service : Meaning Q R) (asked : CallValue Q) (refusal : Refusal)
     (told : List (Entry Q)) : Type 0 where
   pub envelope : Sent Q
   pub back : Sent Q
@@ -64,12 +64,12 @@ IsOfTheWay call.NoMemory = Unit {0}
 IsOfTheWay fault = ⊥
 
 -- why the envelope of that call comes back: a server's refusal comes with a note of all by which it was decided
-abbrev pub ComesBackFor : {Q R : Type 0} → Service Q R → CallValue Q → CallFault → Sent Q → Type 0
+abbrev pub ComesBackFor : {Q R : Type 0} → Meaning Q R → CallValue Q → CallFault → Sent Q → Type 0
 ComesBackFor service asked (call.Refused refusal) back = IsRefusalTo service asked refusal back.note.seen
 ComesBackFor service asked fault back = IsOfTheWay fault
 
 -- what may be sent as the reply to a call: nothing before it is known
-abbrev pub Fits : {Q R : Type 0} → Service Q R → Option (CallValue Q) → CallReply (AnswerValue Q R) (Sent Q) → Type 0
+abbrev pub Fits : {Q R : Type 0} → Meaning Q R → Option (CallValue Q) → CallReply (AnswerValue Q R) (Sent Q) → Type 0
 Fits service None reply = ⊥
 Fits service (Some asked) (Answered answer) = IsAnswerTo service asked.sent answer
 Fits service (Some asked) (Refused fault envelope) =
@@ -81,7 +81,7 @@ AllFit Fit (reply ∷ replies) = Fit reply × AllFit Fit replies
 
 -- the rule of a reply's channel: each pass knows the same call, and each reply fits it; before the call is known there
 -- is one pass
-pub record HoldsReplies {Q R : Type 0} (service : Service Q R) (replies : List (CallReply (AnswerValue Q R) (Sent Q)))
+pub record HoldsReplies {Q R : Type 0} (service : Meaning Q R) (replies : List (CallReply (AnswerValue Q R) (Sent Q)))
     (views : List (Option (CallValue Q))) : Type 0 where
   pub asked : Option (CallValue Q)
   pub agree : (pass : ℕ) (view : Option (CallValue Q)) → get_elem? views pass ≡ some view → view ≡ asked

@@ -2,7 +2,7 @@
 ghost use Rattle.std.specs.Prelude.{◌≡◌, ◌<◌, ℕ, List, Option, Some, false, slice_get, take};
 ghost use mathlib.Core.Option.{some};
 ghost use lib.ListN.{get_elem?};
-ghost use Rattle.sm_body.specs.Service.{Service as Meaning, meaning_of};
+ghost use Rattle.sm_body.specs.Service.{Meaning, meaning_of};
 ghost use Rattle.sm_ownership.specs.declared.entry.Entry.{Entry};
 ghost use Rattle.sm_ownership.specs.declared.mode.Mode.{Mode};
 ghost use Rattle.sm_ownership.specs.declared.record.Record.{Record};

@@ -16,7 +16,7 @@ use Rattle.sm_rule.specs.Views.{record_in}
 use Rattle.sm_desk.specs.declared.command.Command.{Command}
 use Rattle.sm_desk.specs.declared.command.Command.TheVariants.{Change as ChangeOf}
 use Rattle.sm_desk.specs.declared.command.CommandFault.{CommandFault}
-use Rattle.sm_desk.specs.declared.command.CommandFault.TheVariants.{Change as ChangeRefused, Raced as Overtaken}
+use Rattle.sm_desk.specs.declared.command.CommandFault.TheVariants.{Change as ChangeRefused, Raced as CommandRaced}
 use Rattle.sm_desk.specs.Desk.{DeskView, commanded}
 
 -- the chair of a board, and the desk that its changes are checked against
@@ -49,7 +49,7 @@ AdmitsUnstopped books entry =
 abbrev pub fault_of : ChangeRefusal → CommandFault
 fault_of (Spent state) = ChangeRefused (SpentRecord state)
 fault_of (Busy state) = ChangeRefused (BusyRecord state)
-fault_of (Raced read found) = Overtaken read found
+fault_of (Raced read found) = CommandRaced read found
 
 -- what the control answers and is then, where the desk refuses the command
 abbrev pub CommandIsRefused : {Q : Type 0} → CommandFault → ControlValue Q → ControlValue Q

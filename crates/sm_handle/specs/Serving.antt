@@ -1,11 +1,11 @@
 -- Boards of the sample service, their passes, and envelopes, that handles keep.
 use Rattle.std.specs.Prelude.{ℕ, ◌≡◌, [], replicate, Option, Some}
-use Rattle.sm_body.specs.Service.{Service, meaning_of}
+use Rattle.sm_body.specs.Service.{Meaning, meaning_of}
 use Rattle.sm_rule.specs.Passes.{PassLooks, record_of}
 use Rattle.sm_rule.specs.Views.{Begins}
 use Rattle.sm_server.specs.Answers.{AnswerValue}
 use Rattle.sm_server.specs.Basing.{CheckpointRefused, HasMadeCheckpoint}
-use Rattle.sm_server.specs.Serving.{Sent, Served as IsServed, is_here}
+use Rattle.sm_server.specs.Serving.{Sent, Served, is_here}
 use Rattle.sm_server.specs.declared.outcome.Outcome.{Outcome}
 use Rattle.sm_server.specs.declared.outcome.Outcome.TheVariants.{Answered as AnswersIt, Forward as ForwardsIt}
 use Rattle.sm_server.specs.declared.outcome.Outcome.TheVariants.{Refused as RefusesIt}
@@ -22,7 +22,7 @@ use Rattle.sm_handle.specs.declared.served_as.ServedAs.{ServedAs}
 use Rattle.sm_handle.specs.declared.served_as.ServedAs.TheVariants.{Answered, Forward, Refused}
 
 -- the meaning of the sample service
-abbrev pub sample : Service Request ReplyValue
+abbrev pub sample : Meaning Request ReplyValue
 sample = meaning_of [] after reply key_of_request
 
 -- the handle keeps the control of a board of so many empty bodies that keep so many requests each, under this cap of
@@ -63,7 +63,7 @@ abbrev pub Serves :
     → Type 0
 Serves (Some (TextPass before)) (Some (TextPass after)) (Some (Layout bounds)) (Some (Envelope envelope)) kept served =
     (outcome : Outcome (AnswerValue Request ReplyValue) (Sent Request)) × PassLooks before after
-    × IsServed sample (is_here sample bounds before.board.limits.count envelope) before envelope outcome
+    × Served sample (is_here sample bounds before.board.limits.count envelope) before envelope outcome
     × KeepsOutcome kept outcome served
 Serves before after layout envelope kept served = ⊥
 

@@ -48,7 +48,7 @@ use Rattle.sm_rule.specs.Boards.{limit_at}
 use Rattle.sm_rule.specs.Bodies.{all_after, first_after}
 use Rattle.sm_rule.specs.Passes.{IsHeldOf, PassValue, pass_value, slots_of}
 use Rattle.sm_rule.specs.Rule.{AreHome, AreHeard, IsTrueView, RuleHolds, IsHolding, IsCut, Rule, IsHeard, table_in}
-use Rattle.sm_rule.specs.Steps.{Entered, Exchanged, IsFree, IsWordOf, Loaded, MayAdd, Stored, TakesBody, is_end}
+use Rattle.sm_rule.specs.Steps.{Entered, Exchanged, IsFree, IsWordAt, Loaded, MayAdd, Stored, TakesBody, is_end}
 use Rattle.sm_rule.specs.Views.{Adds, EndsWith, Looks, adding, all_held, entry_of, first_held, held_after, left_behind}
 use Rattle.sm_rule.specs.Views.{newcomer, record_in, seeing}
 use Rattle.sm_rule.proofs.Bodies.{held_bounds, rests_after, rests_at}
@@ -660,7 +660,7 @@ module _ {S Q : Type 0} (rests : S → ℕ → List Q → Type 0) (limit : S →
   Tells found after = Exchanged rests limit kind (step {S = Option S} slots word old new none) me found after
 
   won_tells : (found : ℕ) (after : Me (Option S) (View Q)) → found ≡ old → Adds me.0 word kind after.0
-      × IsWordOf new after.0 word × TakesBody rests limit kind word me.1 after.0 after.1 → Tells found after
+      × IsWordAt new after.0 word × TakesBody rests limit kind word me.1 after.0 after.1 → Tells found after
   won_tells found later hit won = ((λ _. won), (λ miss. absurd (miss hit)))
 
   lost_tells : (found : ℕ) (after : Me (Option S) (View Q)) → found ≢ old
@@ -734,7 +734,7 @@ module _ {S Q : Type 0} (rests : S → ℕ → List Q → Type 0) (limit : S →
       made : new ≡ word_of (after_kind here kind)
       made = written ∙ ap (λ (state : Record). word_of (after_kind state kind)) (sym same)
 
-      word_made : IsWordOf new (adding me.0 word kind (reverse (entry ∷ history))) word
+      word_made : IsWordAt new (adding me.0 word kind (reverse (entry ∷ history))) word
       word_made =
           word_seen limits (entry ∷ history) me.0.limits word new (sees_own limits id word me.0 history fit within kind)
           (made ∙ ap word_of (sym (record_adds limits entry history fitting))) low legal known

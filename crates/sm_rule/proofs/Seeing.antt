@@ -31,14 +31,14 @@ use Rattle.sm_word.specs.Known.{NewlyNamesServer}
 use Rattle.sm_word.specs.Word.{IsWellFormed, word_of}
 use Rattle.sm_rule.specs.declared.limits.Limits.{Limits}
 use Rattle.sm_rule.specs.declared.view.View.{View}
-use Rattle.sm_rule.specs.declared.admit_refusal.AdmitRefusal.TheVariants.{Raced as Overtaken}
+use Rattle.sm_rule.specs.declared.admit_refusal.AdmitRefusal.TheVariants.{Raced as AdmitRaced}
 use Rattle.sm_rule.specs.Admissions.{PassAdmitted, Races, RefusedBy, fault_for}
 use Rattle.sm_rule.specs.Boards.{BoardValue, limit_at}
 use Rattle.sm_rule.specs.declared.change_refusal.ChangeRefusal.TheVariants.{Raced}
 use Rattle.sm_rule.specs.Changes.{ChairAdds, ChairLooks, ChairValue, IsChairView, NotMade, chair_value, record_at_chair}
 use Rattle.sm_rule.specs.Passes.{IsHeldOf, IsPassView, PassAdds, PassLooks, PassValue, pass_value, slots_of}
 use Rattle.sm_rule.specs.lemmas.Passing.{grows_on}
-use Rattle.sm_rule.specs.Steps.{IsWordOf, MayAdd, TakesBody}
+use Rattle.sm_rule.specs.Steps.{IsWordAt, MayAdd, TakesBody}
 use Rattle.sm_rule.specs.Views.{Adds, Grows, Looks, adding, all_held, entry_of, first_held, held_after, record_in}
 use Rattle.sm_rule.specs.Views.{seeing}
 use Rattle.sm_rule.proofs.Keeping.{same_some}
@@ -60,7 +60,7 @@ module _ (id : TableId) (limits : Limits) (value : BoardValue) (view : board_wit
       subst (λ (its : Limits). shard < its.count) (sym (is ∙ ap (λ (board : BoardValue). board.limits) view)) within
 
 -- the record of a word that a view has found
-pub record_found : {Q : Type 0} (view : View Q) (shard word : ℕ) → IsWordOf word view shard
+pub record_found : {Q : Type 0} (view : View Q) (shard word : ℕ) → IsWordAt word view shard
     → (state : Record) × IsWellFormed state × (word_of state ≡ word)
 record_found view shard word is = (record_in view.limits view.seen shard, is.1, sym is.0)
 
@@ -581,7 +581,7 @@ module _ {Q : Type 0} (u : View Q) (server : Option ℕ) (value : PassValue Q) (
   -- the pass has looked, and was then overtaken
   pub pass_raced : (v w : View Q) (later : TableId) (shard : ℕ) (found : Record) → later ≡ id → Looks u v → Looks v w
       → state ≡ record_in v.limits v.seen shard → found ≡ record_in w.limits w.seen shard → found ≢ state
-      → PassLooks value (pass_value later w) × RefusedBy value (pass_value later w) shard mode (Overtaken state found)
+      → PassLooks value (pass_value later w) × RefusedBy value (pass_value later w) shard mode (AdmitRaced state found)
   pass_raced v w later shard found same looked lost read_is found_is differs = (
     looks_of_pass value id later u w of_pass same (looks_looks u v w looked lost),
     (

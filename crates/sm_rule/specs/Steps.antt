@@ -16,13 +16,13 @@ use Rattle.sm_rule.specs.Rule.{IsTrueView}
 use Rattle.sm_rule.specs.Views.{Adds, Begins, IsMet, Looks, all_held, first_held, newcomer, record_in}
 
 -- the word is that of the shard's record in all that the view has seen
-abbrev pub IsWordOf : {Q : Type 0} → ℕ → View Q → ℕ → Type 0
-IsWordOf word view shard =
+abbrev pub IsWordAt : {Q : Type 0} → ℕ → View Q → ℕ → Type 0
+IsWordAt word view shard =
     (word ≡ word_of (record_in view.limits view.seen shard)) × IsWellFormed (record_in view.limits view.seen shard)
 
 -- a load: more was seen, and the word found is that of the shard's record
 abbrev pub Loaded : {S Q : Type 0} → Step S → Me S (View Q) → ℕ → Me S (View Q) → Type 0
-Loaded step before found after = Looks before.0 after.0 × IsWordOf found after.0 step.word × (after.1 ≡ before.1)
+Loaded step before found after = Looks before.0 after.0 × IsWordAt found after.0 step.word × (after.1 ≡ before.1)
 
 -- a new seat with its first load: a number that isn't the control's and has no entries, and this server
 abbrev pub Entered : {S Q : Type 0} → Option ℕ → Step S → Me S (View Q) → ℕ → Me S (View Q) → Type 0
@@ -67,7 +67,7 @@ TakesBody keeps limit _ shard before view after = after ≡ before
 abbrev pub Exchanged : {S Q : Type 0} → (S → ℕ → List Q → Type 0) → (S → ℕ) → Kind Q → Step (Option S)
     → Me (Option S) (View Q) → ℕ → Me (Option S) (View Q) → Type 0
 Exchanged keeps limit kind step before found after =
-    (found ≡ step.first → Adds before.0 step.word kind after.0 × IsWordOf step.second after.0 step.word
+    (found ≡ step.first → Adds before.0 step.word kind after.0 × IsWordAt step.second after.0 step.word
     × TakesBody keeps limit kind step.word before.1 after.0 after.1)
     × (found ≢ step.first → Loaded step before found after)
 
@@ -76,7 +76,7 @@ Exchanged keeps limit kind step before found after =
 abbrev pub Stored : {S Q : Type 0} → Kind Q → Step S → Me S (View Q) → ℕ → Me S (View Q) → Type 0
 Stored kind step before found after =
     Adds before.0 step.word kind after.0
-    × IsWordOf found after.0 step.word
+    × IsWordAt found after.0 step.word
     × (all_of after.0.seen step.word ≡ all_after (all_held before.0.held) (ending_of kind))
     × (first_of after.0.seen step.word
     ≡ first_after (first_held before.0.held) (all_held before.0.held) (ending_of kind))

@@ -14,7 +14,7 @@ use Rattle.sm_lines.specs.Writing.{Writing, Sends, Wrote, WroteShort}
 use Rattle.sm_lines.specs.declared.TheConstants.{PIECE}
 use Rattle.sm_lines.specs.declared.watch.TheConstants.{COUNT_LIMIT}
 use Rattle.sm_lines.specs.lemmas.Answering.{AnswersAll-more, sends_none}
-use Rattle.sm_lines.specs.lemmas.Taking.{no_lines, reads_last, reads_more, lines_given, took_more, took_none}
+use Rattle.sm_lines.specs.lemmas.Taking.{no_lines, reads_last, reads_more, took_more, took_none}
 use Rattle.sm_run.specs.declared.opening.Opening.{Opening}
 use Rattle.sm_run.specs.declared.opening.Opening.TheVariants.{Kept, Refused}
 use Rattle.sm_settings.specs.declared.settings_fault.SettingsFault.{SettingsFault}

@@ -7,7 +7,7 @@ use Rattle.std.specs.Option.{option_map}
 use Rattle.std.proofs.lemmas.Bool.{eq-eqb}
 use Rattle.std.proofs.lemmas.List.{append-nil, length-drop, take_at}
 use Rattle.std.proofs.lemmas.List.Elements.{All-append}
-use Rattle.sm_body.specs.Service.{Service}
+use Rattle.sm_body.specs.Service.{Meaning}
 use Rattle.sm_body.specs.declared.service.ApplyFault.{ApplyFault}
 use Rattle.sm_body.specs.declared.service.ApplyFault.TheVariants as apply
 use Rattle.sm_envelope.specs.Envelope.{ShellView, shell_of, whole}
@@ -114,7 +114,7 @@ said_last reply_of all before request is =
     rw is (rw (slice_get-middle before request, take_at before (request ∷ []) (length before) refl) refl)
 
 -- the helper's note is that of an answer
-pub is_answer : {Q R : Type 0} (service : Service Q R) (helper : PassValue Q) (shard : ℕ) (mode : Mode) (request : Q)
+pub is_answer : {Q R : Type 0} (service : Meaning Q R) (helper : PassValue Q) (shard : ℕ) (mode : Mode) (request : Q)
     (answer : AnswerValue Q R) (before : List Q) → HasBegun helper shard answer.server mode
     → PassAdds helper shard (Done (Request request)) answer.note
     → all_of answer.note.seen shard ≡ before ++ request ∷ [] → answer.place ≡ length before
@@ -130,7 +130,7 @@ is_answer {Q} {R} service helper shard mode request answer before begun adds all
 }
 
 -- a helper executed the request
-executed : {Q R : Type 0} (service : Service Q R) (helper after : PassValue Q) (shell : ShellView) (request : Q)
+executed : {Q R : Type 0} (service : Meaning Q R) (helper after : PassValue Q) (shell : ShellView) (request : Q)
     (answer : AnswerValue Q R) (shard : ℕ) (before : List Q) → answer.note ≡ after → shard ≡ shell.shard
     → answer.number ≡ shell.number → HasBegun helper shell.shard answer.server shell.mode → PassAdds helper shard
     (Done (Request request)) after → all_of after.seen shard ≡ before ++ request ∷ [] → answer.place ≡ length before
@@ -154,7 +154,7 @@ executed {Q}
     }
 
 -- the body applied the request
-pub answered : {Q R E : Type 0} (service : Service Q R) (helper after note : PassValue Q) (shell : ShellView)
+pub answered : {Q R E : Type 0} (service : Meaning Q R) (helper after note : PassValue Q) (shell : ShellView)
     (request : Q) (server shard number place : ℕ) (result : Result R E) (reply : R) → result ≡ Ok reply → note ≡ after
     → shard ≡ shell.shard → number ≡ shell.number → HasBegun helper shell.shard server shell.mode
     → OnOk result (PassAdds helper shard (Done (Request request)) after)

@@ -4,7 +4,7 @@ use Rattle.std.proofs.Common.{arith}
 use Rattle.std.specs.Prelude.{Option, Some, None, nat_lt}
 use Rattle.std.proofs.lemmas.Bool.{cond_both}
 use Rattle.std.proofs.lemmas.Bool.Decides.{nat_tests}
-use Rattle.sm_body.specs.Service.{Service}
+use Rattle.sm_body.specs.Service.{Meaning}
 use Rattle.sm_envelope.specs.Envelope.{ShellView, shell_of, whole}
 use Rattle.sm_envelope.specs.declared.envelope.TheConstants.{MOST_HOPS}
 use Rattle.sm_ownership.specs.declared.admit_fault.AdmitFault.{AdmitFault}
@@ -37,7 +37,7 @@ abbrev pub with_note : {Q : Type 0} → Sent Q → PassValue Q → Sent Q
 with_note envelope note = whole (shell_of envelope) envelope.request note
 
 -- the admission of a server was refused, by what the note then has
-module _ {Q R : Type 0} (service : Service Q R) (before : PassValue Q) (envelope back : Sent Q) (server : ℕ)
+module _ {Q R : Type 0} (service : Meaning Q R) (before : PassValue Q) (envelope back : Sent Q) (server : ℕ)
     (own_server : before.server ≡ Some server) (shell : shell_of back ≡ shell_of envelope)
     (handed : IsHandedBack envelope back) (seen : Begins before.seen back.note.seen) where
   hops_same : back.hops ≡ envelope.hops
@@ -99,7 +99,7 @@ module _ {Q R : Type 0} (service : Service Q R) (before : PassValue Q) (envelope
       (subst (λ (some : Option ℕ). NotForwarding some (admission.Raced read found)) (sym own_server) tt)
   turned (admission.Refused fault state) refused = turned_to fault state (forward_to state server) refused refl
 
-module _ {Q R : Type 0} (service : Service Q R) (before helper : PassValue Q) (envelope : Sent Q)
+module _ {Q R : Type 0} (service : Meaning Q R) (before helper : PassValue Q) (envelope : Sent Q)
     (board : envelope.note.board ≡ before.board) (is : IsHelper before envelope.note helper) where
   refused_before : (point : PassValue Q) (mode : Mode) (refusal : AdmitRefusal)
       → RefusedBy helper point envelope.shard mode refusal → RefusedBy before point envelope.shard mode refusal
@@ -213,14 +213,14 @@ module _ {Q R : Type 0} (service : Service Q R) (before helper : PassValue Q) (e
     )
 
 -- what is told of an envelope that is here
-pub is_told : {Q R : Type 0} (service : Service Q R) (tested here : Bool) (before : PassValue Q)
+pub is_told : {Q R : Type 0} (service : Meaning Q R) (tested here : Bool) (before : PassValue Q)
     (envelope : Sent Q) (outcome : Outcome (AnswerValue Q R) (Sent Q)) → tested ≡ here → tested ≡ true
     → Served service true before envelope outcome → Served service here before envelope outcome
 is_told service tested here before envelope outcome is_here is told =
     subst (λ (b : Bool). Served service b before envelope outcome) (sym is ∙ is_here) told
 
 -- an envelope that was taken apart, and a helper of a pass, which met its note
-module _ {Q R : Type 0} (service : Service Q R) (pass helper note : PassValue Q) (envelope : Sent Q)
+module _ {Q R : Type 0} (service : Meaning Q R) (pass helper note : PassValue Q) (envelope : Sent Q)
     (shell : ShellView) (request : Q) (shard server : ℕ) (mode : Mode) (board : BoardValue)
     (server_is : pass.server ≡ Some server) (of_pass : pass.board ≡ board) (of_note : envelope.note.board ≡ board)
     (shell_is : shell ≡ shell_of envelope) (request_is : request ≡ envelope.request) (note_is : note ≡ envelope.note)

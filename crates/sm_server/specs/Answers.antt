@@ -1,6 +1,6 @@
 -- Answers: what executing a request leaves in the history of its note.
 use Rattle.std.specs.Prelude.{ℕ, ◌≡◌, ◌+◌, List, [], ◌∷◌, ◌++◌, Some, length}
-use Rattle.sm_body.specs.Service.{Service}
+use Rattle.sm_body.specs.Service.{Meaning}
 use Rattle.sm_ownership.specs.declared.entry.Ending.{Ending}
 use Rattle.sm_ownership.specs.declared.entry.Ending.TheVariants.{Request}
 use Rattle.sm_ownership.specs.declared.entry.Entry.{Entry}
@@ -25,7 +25,7 @@ run_of number shard server mode ending =
 
 -- an answer to this request: all that its note did is one admission of the shard and the end with the request, which is
 -- the last entry that it has seen; place and reply are those of the last request of the shard in that history
-pub record IsAnswer {Q R : Type 0} (service : Service Q R) (shard : ℕ) (mode : Mode) (request : Q)
+pub record IsAnswer {Q R : Type 0} (service : Meaning Q R) (shard : ℕ) (mode : Mode) (request : Q)
     (answer : AnswerValue Q R) : Type 0 where
   pub server : answer.note.server ≡ Some answer.server
   pub ran :
@@ -36,6 +36,6 @@ pub record IsAnswer {Q R : Type 0} (service : Service Q R) (shard : ℕ) (mode :
   pub reply : said service.reply_of answer.note.seen shard answer.place ≡ Some answer.reply
 
 -- an answer to some request
-abbrev pub IsSomeAnswer : {Q R : Type 0} → Service Q R → AnswerValue Q R → Type 0
+abbrev pub IsSomeAnswer : {Q R : Type 0} → Meaning Q R → AnswerValue Q R → Type 0
 IsSomeAnswer {Q} service answer =
     (shard : ℕ) × (mode : Mode) × (request : Q) × IsAnswer service shard mode request answer

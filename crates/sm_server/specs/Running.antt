@@ -1,6 +1,6 @@
 -- The steps of a server on an envelope, which no public clause names.
 use Rattle.std.specs.Prelude.{ℕ, ◌≡◌, ◌≤◌, ◌<◌, nat_lt, [], ◌∷◌, Option, Some, None, if◌then◌else◌, length}
-use Rattle.sm_body.specs.Service.{Service}
+use Rattle.sm_body.specs.Service.{Meaning}
 use Rattle.sm_body.specs.declared.service.ApplyFault.{ApplyFault}
 use Rattle.sm_body.specs.declared.service.ApplyFault.TheVariants as apply
 use Rattle.sm_envelope.specs.Envelope.{EnvelopeView, ShellView, one_hop_more, shell_of}
@@ -49,7 +49,7 @@ refusal_of apply.KeptFull = KeptFull
 refusal_of apply.NoMemory = NoMemory
 
 -- a helper executed the request of a shell
-pub record HasRun {Q R : Type 0} (service : Service Q R) (helper : PassValue Q) (shell : ShellView) (request : Q)
+pub record HasRun {Q R : Type 0} (service : Meaning Q R) (helper : PassValue Q) (shell : ShellView) (request : Q)
     (answer : AnswerValue Q R) : Type 0 where
   pub number : answer.number ≡ shell.number
   pub server : helper.server ≡ Some answer.server
@@ -71,7 +71,7 @@ pub record HasRefused {Q : Type 0} (helper : PassValue Q) (shell : ShellView) (r
   pub room : WantsRoom refusal (limit_of helper shell.shard) (length (kept back.note.seen shell.shard))
 
 -- what came of a request under a permit that the helper was given
-abbrev pub Ran : {Q R : Type 0} → Service Q R → PassValue Q → ShellView → Q → Outcome (AnswerValue Q R) (Sent Q)
+abbrev pub Ran : {Q R : Type 0} → Meaning Q R → PassValue Q → ShellView → Q → Outcome (AnswerValue Q R) (Sent Q)
     → Type 0
 Ran service helper shell request (Answered answer) = HasRun service helper shell request answer
 Ran service helper shell request (Forward to back) = ⊥

@@ -2,7 +2,7 @@
 use Rattle.std.specs.Prelude.{ℕ, Bool, true, false, ◌≡◌, ◌≤◌, ◌<◌, ◌⊎◌, ◌==◌, ◌&&◌, nat_lt, List, [], Option, Some}
 use Rattle.std.specs.Prelude.{None, length}
 use Rattle.std.specs.List.{filter_map}
-use Rattle.sm_body.specs.Service.{Service}
+use Rattle.sm_body.specs.Service.{Meaning}
 use Rattle.sm_envelope.specs.Envelope.{EnvelopeView, one_hop_more, shell_of}
 use Rattle.sm_envelope.specs.declared.envelope.TheConstants.{MOST_HOPS}
 use Rattle.sm_ownership.specs.declared.entry.Ending.TheVariants.{Nothing}
@@ -28,7 +28,7 @@ abbrev pub Sent : Type 0 → Type 0
 Sent Q = EnvelopeView Q (PassValue Q)
 
 -- the envelope's shard is one of so many, and the one whose range covers the request's key
-abbrev pub is_here : {Q R N : Type 0} → Service Q R → List (List ℕ) → ℕ → EnvelopeView Q N → Bool
+abbrev pub is_here : {Q R N : Type 0} → Meaning Q R → List (List ℕ) → ℕ → EnvelopeView Q N → Bool
 is_here service bounds count envelope =
     nat_lt envelope.shard count && (shard_of bounds (service.key_of envelope.request) == envelope.shard)
 
@@ -38,7 +38,7 @@ requests_in entries = filter_map (λ entry. request_of (ending_of entry.kind)) e
 
 -- the request was executed once: the answer's history extends what the pass and the envelope's note had seen, and the
 -- entries by which it was executed come after all of that
-pub record IsAnswered {Q R : Type 0} (service : Service Q R) (before : PassValue Q) (envelope : Sent Q)
+pub record IsAnswered {Q R : Type 0} (service : Meaning Q R) (before : PassValue Q) (envelope : Sent Q)
     (answer : AnswerValue Q R) : Type 0 where
   pub number : answer.number ≡ envelope.number
   pub server : before.server ≡ Some answer.server
@@ -114,7 +114,7 @@ is_of_shard WrongShard = false
 is_of_shard _ = true
 
 -- what a server tells of an envelope that is here or not, by what its pass had seen before
-abbrev pub Served : {Q R : Type 0} → Service Q R → Bool → PassValue Q → Sent Q
+abbrev pub Served : {Q R : Type 0} → Meaning Q R → Bool → PassValue Q → Sent Q
     → Outcome (AnswerValue Q R) (Sent Q) → Type 0
 Served service here before envelope (Answered answer) = (here ≡ true) × IsAnswered service before envelope answer
 Served service here before envelope (Forward to back) =

@@ -1,9 +1,9 @@
 -- The sample service.
-use Rattle.sm_body.specs.Service.{Service}
+use Rattle.sm_body.specs.Service.{Meaning}
 use Rattle.sm_service.specs.Service.{reply_after, key_of_request}
 use Rattle.sm_service.specs.declared.reply.Reply.{Reply}
 use Rattle.sm_service.specs.declared.request.Request.{Request}
 
 -- what the sample service means
-abbrev pub counter_text : Service Request Reply
+abbrev pub counter_text : Meaning Request Reply
 counter_text = record { reply_of = reply_after; key_of = key_of_request }

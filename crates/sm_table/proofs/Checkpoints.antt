@@ -24,7 +24,7 @@ use Rattle.sm_table.specs.declared.step.Step.TheVariants.{Checkpoint as Checkpoi
 use Rattle.sm_table.specs.declared.world_answer.WorldAnswer.TheVariants.{Made}
 use Rattle.sm_table.specs.declared.world_fault.WorldFault.TheVariants.{NoMemory, UnknownShard}
 use Rattle.sm_desk.specs.Desk.{is_known, DeskView}
-use Rattle.sm_body.specs.Service.{Service}
+use Rattle.sm_body.specs.Service.{Meaning}
 use Rattle.sm_table.specs.World.{WorldState, Plain, Unmade, count_of, is_there, outcome, with_entry, world_record}
 use Rattle.sm_table.specs.Standing.{IsSound, WorldView, view_of, StandsFor, Follows, world_table}
 use Rattle.sm_table.specs.Bodies.{BodiesView, Past, kept_in, no_past, past_after, past_at, past_of}
@@ -80,7 +80,7 @@ module _ {Q : Type 0} (w : WorldState Q) (server shard : ℕ) where
   past_else other differs =
       past_of-push_other between end other differs ∙ past_of-push_none w.history admission other refl
 
-module _ {Q R : Type 0} (service : Service Q R) {bounds : List (List ℕ)} {desk_was : DeskView} {table_was : TableView}
+module _ {Q R : Type 0} (service : Meaning Q R) {bounds : List (List ℕ)} {desk_was : DeskView} {table_was : TableView}
     {bodies_was : BodiesView Q} {routes_was : List (Option Route)} {flights_was : List (Flight Q)}
     {hands_was : List (Option (InHand Q))} (now : WorldView Q)
     (same : view_of bounds desk_was table_was bodies_was routes_was flights_was hands_was ≡ now) (w : WorldState Q)
@@ -193,7 +193,7 @@ idle_admits ceiling state server none =
     (sym (admit_fault-none ceiling state server Direct) ∙ ap is_none (sym none))).0
 
 -- there is no such shard
-pub no_base_there : {Q R : Type 0} (service : Service Q R) {bounds : List (List ℕ)} {desk_was : DeskView}
+pub no_base_there : {Q R : Type 0} (service : Meaning Q R) {bounds : List (List ℕ)} {desk_was : DeskView}
     {table_was : TableView} {bodies_was : BodiesView Q} {routes_was : List (Option Route)}
     {flights_was : List (Flight Q)} {hands_was : List (Option (InHand Q))} (now : WorldView Q)
     → view_of bounds desk_was table_was bodies_was routes_was flights_was hands_was ≡ now → (w : WorldState Q)

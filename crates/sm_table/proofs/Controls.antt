@@ -16,7 +16,7 @@ use Rattle.sm_table.specs.declared.world_fault.WorldFault.TheVariants.{Command a
 use Rattle.sm_ownership.specs.History.{record_at}
 use Rattle.sm_desk.specs.Desk.{DeskView, commanded, desk_fault}
 use Rattle.sm_ownership.specs.Tables.{TableView, record_fault, table_changed}
-use Rattle.sm_body.specs.Service.{Service}
+use Rattle.sm_body.specs.Service.{Meaning}
 use Rattle.sm_table.specs.World.{WorldState, Plain, count_of, world_record, table_fault, with_entry}
 use Rattle.sm_table.specs.World.{outcome}
 use Rattle.sm_table.specs.Standing.{IsSound, WorldView, view_of, StandsFor, Follows}
@@ -48,7 +48,7 @@ module _ {Q : Type 0} (w : WorldState Q) (shard : ℕ) (change : Change) where
       ap (λ records. record (parts_of w pasts) { desk = commanded w.desk (ChangeOf shard change); records = records })
       (sym grown)
 
-module _ {Q R : Type 0} (service : Service Q R) {bounds : List (List ℕ)} {desk_was : DeskView} {table_was : TableView}
+module _ {Q R : Type 0} (service : Meaning Q R) {bounds : List (List ℕ)} {desk_was : DeskView} {table_was : TableView}
     {bodies_was : BodiesView Q} {routes_was : List (Option Route)} {flights_was : List (Flight Q)}
     {hands_was : List (Option (InHand Q))} (now : WorldView Q)
     (same : view_of bounds desk_was table_was bodies_was routes_was flights_was hands_was ≡ now) (w : WorldState Q)

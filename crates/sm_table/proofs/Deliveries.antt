@@ -16,7 +16,7 @@ use Rattle.sm_table.specs.declared.world_answer.WorldAnswer.{WorldAnswer}
 use Rattle.sm_table.specs.declared.world_answer.WorldAnswer.TheVariants.{Began, Refused}
 use Rattle.sm_table.specs.declared.world_fault.WorldFault.TheVariants.{NoEnvelope}
 use Rattle.sm_envelope.specs.Envelope.{EnvelopeView, forwarded, sent_on}
-use Rattle.sm_body.specs.Service.{Service}
+use Rattle.sm_body.specs.Service.{Meaning}
 use Rattle.sm_table.specs.World.{WorldState, Plain, world_record, hand_of, reached, after_hop, without_flight, mark_of}
 use Rattle.sm_table.specs.World.{outcome}
 use Rattle.sm_table.specs.Standing.{WorldView, view_of, StandsFor, Follows, with_admission}
@@ -46,7 +46,7 @@ pub bounds_begun : {Q : Type 0} {bounds : List (List ℕ)} {desk_was : DeskView}
 bounds_begun {Q = Q} now same in_flight shard server number request after admitted =
     ap (λ (v : WorldView Q). v.bounds) admitted ∙ ap (λ (v : WorldView Q). v.bounds) same
 
-module _ {Q R : Type 0} (service : Service Q R) {bounds : List (List ℕ)} {desk_was : DeskView} {table_was : TableView}
+module _ {Q R : Type 0} (service : Meaning Q R) {bounds : List (List ℕ)} {desk_was : DeskView} {table_was : TableView}
     {bodies_was : BodiesView Q} {routes_was : List (Option Route)} {flights_was : List (Flight Q)}
     {hands_was : List (Option (InHand Q))} (now : WorldView Q)
     (same : view_of bounds desk_was table_was bodies_was routes_was flights_was hands_was ≡ now) (w : WorldState Q)
@@ -69,7 +69,7 @@ plain_hop {Q = Q} R desk in_flight (Ok hop) = cond_both (is_reached desk hop.0) 
     (λ (one : WorldAnswer R × List (Flight Q)). mark_of (Ok one.0) ≡ Plain) (λ _. refl) (λ _. refl)
 plain_hop R desk in_flight (Err envelope) = refl
 
-module _ {Q R : Type 0} (service : Service Q R) {bounds : List (List ℕ)} {desk_was : DeskView} {table_was : TableView}
+module _ {Q R : Type 0} (service : Meaning Q R) {bounds : List (List ℕ)} {desk_was : DeskView} {table_was : TableView}
     {bodies_was : BodiesView Q} {routes_was : List (Option Route)} {flights_was : List (Flight Q)}
     {hands_was : List (Option (InHand Q))} (now : WorldView Q)
     (same : view_of bounds desk_was table_was bodies_was routes_was flights_was hands_was ≡ now) (w : WorldState Q)

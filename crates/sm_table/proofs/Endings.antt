@@ -21,7 +21,7 @@ use Rattle.sm_table.specs.declared.world_fault.WorldFault.TheVariants.{NotHeld}
 use Rattle.sm_ownership.specs.History.{record_at, after_done, all_of, kept}
 use Rattle.sm_table.specs.Bodies.{BodiesView, Past, kept_in, no_past, past_after, past_at, past_of}
 use Rattle.sm_ownership.specs.Tables.{TableView, table_done}
-use Rattle.sm_body.specs.Service.{Service}
+use Rattle.sm_body.specs.Service.{Meaning}
 use Rattle.sm_table.specs.World.{WorldState, Mark, Plain, Unserved, count_of, ended, outcome}
 use Rattle.sm_table.specs.Standing.{IsSound, WorldView, view_of, StandsFor, Follows}
 use Rattle.sm_ownership.specs.lemmas.Growth.{fits-push, table_of-push}
@@ -72,17 +72,17 @@ module _ {Q : Type 0} (w : WorldState Q) (shard : ℕ) (server : ℕ) (ending : 
       ap (λ records. record (done_parts pasts (parts_of w before)) { records = records }) (sym grown)
 
 worked-none :
-    {Q R : Type 0} (service : Service Q R) (w : WorldState Q) (mark : Mark) (shard server : ℕ) (work : Option (Work Q))
+    {Q R : Type 0} (service : Meaning Q R) (w : WorldState Q) (mark : Mark) (shard server : ℕ) (work : Option (Work Q))
     → None ≡ option_map (begun server) work → worked service w mark shard server work ≡ (Err NotHeld, w)
 worked-none service w mark shard server None none = refl
 worked-none service w mark shard server (Some work) none = absurd cc
 
-served-none : {Q R : Type 0} (service : Service Q R) (w : WorldState Q) (mark : Mark) (shard : ℕ)
+served-none : {Q R : Type 0} (service : Meaning Q R) (w : WorldState Q) (mark : Mark) (shard : ℕ)
     (hand : Option (InHand Q)) → None ≡ work_of hand → served service w mark shard hand ≡ (Err NotHeld, w)
 served-none service w mark shard None none = refl
 served-none service w mark shard (Some hand) none = worked-none service w mark shard hand.server hand.work none
 
-module _ {Q R : Type 0} (service : Service Q R) {bounds : List (List ℕ)} {desk_was : DeskView} {table_was : TableView}
+module _ {Q R : Type 0} (service : Meaning Q R) {bounds : List (List ℕ)} {desk_was : DeskView} {table_was : TableView}
     {bodies_was : BodiesView Q} {routes_was : List (Option Route)} {flights_was : List (Flight Q)}
     {hands_was : List (Option (InHand Q))} (now : WorldView Q)
     (same : view_of bounds desk_was table_was bodies_was routes_was flights_was hands_was ≡ now) (w : WorldState Q)
@@ -100,7 +100,7 @@ module _ {Q R : Type 0} (service : Service Q R) {bounds : List (List ℕ)} {desk
       (served-none service w Plain shard (slice_index_or w.in_hand shard None) nothing)
       (ap (λ all. before all) stays)
 
-module _ {Q R : Type 0} (service : Service Q R) {bounds : List (List ℕ)} {desk_was : DeskView} {table_was : TableView}
+module _ {Q R : Type 0} (service : Meaning Q R) {bounds : List (List ℕ)} {desk_was : DeskView} {table_was : TableView}
     {bodies_was : BodiesView Q} {routes_was : List (Option Route)} {flights_was : List (Flight Q)}
     {hands_was : List (Option (InHand Q))} (now : WorldView Q)
     (same : view_of bounds desk_was table_was bodies_was routes_was flights_was hands_was ≡ now) (w : WorldState Q)

@@ -19,7 +19,7 @@ use Rattle.sm_desk.specs.Desk.{DeskView, commanded, is_reached}
 use Rattle.sm_envelope.specs.Envelope.{EnvelopeView}
 use Rattle.sm_ownership.specs.History.{kept}
 use Rattle.sm_ownership.specs.Routes.{is_old, routes_of}
-use Rattle.sm_body.specs.Service.{Service}
+use Rattle.sm_body.specs.Service.{Meaning}
 use Rattle.sm_table.specs.World.{WorldState, Mark, Plain, Unmade, Unserved, StepOutcome, count_of, is_there}
 use Rattle.sm_table.specs.World.{reached, arrived, without_flight, with_room}
 use Rattle.sm_table.specs.World.{after_admission, after_hold, after_checkpoint}
@@ -105,7 +105,7 @@ module _ {Q : Type 0} (R : Type 0) (w : WorldState Q) where
   extends_delivered place None = extends_itself w
   extends_delivered place (Some flight) = extends_arrived place flight.to flight.envelope _
 
-  extends_with_room : (service : Service Q R) (mark : Mark) (shard server : ℕ) (work : Work Q)
+  extends_with_room : (service : Meaning Q R) (mark : Mark) (shard server : ℕ) (work : Work Q)
       → LeavesExtended (with_room service w mark shard server work)
   extends_with_room service Unserved shard server work =
       record { frame = refl; added = _; history = refl; more = []; publications = sym (append-nil w.publications) }
@@ -114,7 +114,7 @@ module _ {Q : Type 0} (R : Type 0) (w : WorldState Q) where
   extends_with_room service Unmade shard server work =
       record { frame = refl; added = _; history = refl; more = []; publications = sym (append-nil w.publications) }
 
-  extends_worked : (service : Service Q R) (mark : Mark) (shard server : ℕ) (work : Option (Work Q))
+  extends_worked : (service : Meaning Q R) (mark : Mark) (shard server : ℕ) (work : Option (Work Q))
       → LeavesExtended (worked service w mark shard server work)
   extends_worked service mark shard server None = extends_itself w
   extends_worked service mark shard server (Some work) =
@@ -128,7 +128,7 @@ module _ {Q : Type 0} (R : Type 0) (w : WorldState Q) where
         publications = sym (append-nil w.publications);
       })
 
-  extends_served : (service : Service Q R) (mark : Mark) (shard : ℕ) (hand : Option (InHand Q))
+  extends_served : (service : Meaning Q R) (mark : Mark) (shard : ℕ) (hand : Option (InHand Q))
       → LeavesExtended (served service w mark shard hand)
   extends_served service mark shard None = extends_itself w
   extends_served service mark shard (Some hand) = extends_worked service mark shard hand.server hand.work
@@ -179,7 +179,7 @@ module _ {Q : Type 0} (R : Type 0) (w : WorldState Q) where
         publications = refl;
       })
 
-pub extends_next : {Q R : Type 0} (service : Service Q R) (w : WorldState Q) (mark : Mark) (step : Step Q)
+pub extends_next : {Q R : Type 0} (service : Meaning Q R) (w : WorldState Q) (mark : Mark) (step : Step Q)
     → GrowsInto w (next service w mark step)
 extends_next service w Unmade step = extends_itself w
 extends_next {R = R} service w mark (Control command) = extends_controlled R w command _
@@ -201,7 +201,7 @@ extends_next {R = R} service w mark (Publish shard) = cond_both (nat_lt shard (c
     (λ _. extends_published R w _) (λ _. extends_itself w)
 extends_next service w mark (RouteOf key) = extends_itself w
 
-pub extends_after : {Q R : Type 0} (service : Service Q R) (w : WorldState Q) (steps : List (Mark × Step Q))
+pub extends_after : {Q R : Type 0} (service : Meaning Q R) (w : WorldState Q) (steps : List (Mark × Step Q))
     → GrowsInto w (world_after service w steps)
 extends_after service w [] = extends_itself w
 extends_after service w (step ∷ steps) =

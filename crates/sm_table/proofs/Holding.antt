@@ -18,7 +18,7 @@ use Rattle.sm_table.specs.declared.world_answer.WorldAnswer.TheVariants.{Made}
 use Rattle.sm_table.specs.declared.world_fault.WorldFault.TheVariants.{NotHeld, UnknownShard}
 use Rattle.sm_desk.specs.Desk.{is_known, DeskView}
 use Rattle.sm_table.specs.Hands.{is_alone}
-use Rattle.sm_body.specs.Service.{Service}
+use Rattle.sm_body.specs.Service.{Meaning}
 use Rattle.sm_table.specs.World.{WorldState, Plain, count_of, is_there, world_record, ended}
 use Rattle.sm_table.specs.World.{outcome}
 use Rattle.sm_table.specs.Standing.{WorldView, view_of, StandsFor, Follows, with_admission, world_table}
@@ -63,7 +63,7 @@ past_shards {Q = Q} {table_was = table_was} now same w given shard past =
     let as_long : length table_was.records ≡ length (world_table w) = ap length shown in
     grind (arith, nat_tests)
 
-pub not_a_shard : {Q R : Type 0} (service : Service Q R) {bounds : List (List ℕ)} {desk_was : DeskView}
+pub not_a_shard : {Q R : Type 0} (service : Meaning Q R) {bounds : List (List ℕ)} {desk_was : DeskView}
     {table_was : TableView} {bodies_was : BodiesView Q} {routes_was : List (Option Route)}
     {flights_was : List (Flight Q)} {hands_was : List (Option (InHand Q))} (now : WorldView Q)
     → view_of bounds desk_was table_was bodies_was routes_was flights_was hands_was ≡ now → (w : WorldState Q)
@@ -73,7 +73,7 @@ not_a_shard service now same w given shard server past =
     Follows-unchanged service w Plain (Hold shard server) now now (Err UnknownShard) given
     (rw (past_shards now same w given shard past) refl) refl
 
-module _ {Q R : Type 0} (service : Service Q R) {bounds : List (List ℕ)} {desk_was : DeskView} {table_was : TableView}
+module _ {Q R : Type 0} (service : Meaning Q R) {bounds : List (List ℕ)} {desk_was : DeskView} {table_was : TableView}
     {bodies_was : BodiesView Q} {routes_was : List (Option Route)} {flights_was : List (Flight Q)}
     {hands_was : List (Option (InHand Q))} (now : WorldView Q)
     (same : view_of bounds desk_was table_was bodies_was routes_was flights_was hands_was ≡ now) (w : WorldState Q)

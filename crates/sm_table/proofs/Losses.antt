@@ -6,7 +6,7 @@ use Rattle.sm_ownership.specs.declared.route.Route.{Route}
 use Rattle.sm_table.specs.declared.world.Flight.{Flight}
 use Rattle.sm_table.specs.declared.step.Step.TheVariants.{Lose}
 use Rattle.sm_table.specs.declared.world_answer.WorldAnswer.TheVariants.{Made}
-use Rattle.sm_body.specs.Service.{Service}
+use Rattle.sm_body.specs.Service.{Meaning}
 use Rattle.sm_table.specs.World.{WorldState, Plain, without_flight, outcome}
 use Rattle.sm_table.specs.Standing.{WorldView, view_of, StandsFor, Follows}
 use Rattle.sm_desk.specs.Desk.{DeskView}
@@ -15,7 +15,7 @@ use Rattle.sm_table.specs.Bodies.{BodiesView}
 use Rattle.sm_table.specs.declared.hands.InHand.{InHand}
 use Rattle.sm_table.proofs.Parts.{parts-from_StandsFor, Follows-changed}
 
-module _ {Q R : Type 0} (service : Service Q R) {bounds : List (List ℕ)} {desk_was : DeskView} {table_was : TableView}
+module _ {Q R : Type 0} (service : Meaning Q R) {bounds : List (List ℕ)} {desk_was : DeskView} {table_was : TableView}
     {bodies_was : BodiesView Q} {routes_was : List (Option Route)} {flights_was : List (Flight Q)}
     {hands_was : List (Option (InHand Q))} (now : WorldView Q)
     (same : view_of bounds desk_was table_was bodies_was routes_was flights_was hands_was ≡ now) (w : WorldState Q)

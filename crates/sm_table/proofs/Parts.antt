@@ -11,7 +11,7 @@ use Rattle.sm_table.specs.declared.world_fault.WorldFault.{WorldFault}
 use Rattle.sm_desk.specs.Desk.{DeskView}
 use Rattle.sm_ownership.specs.Tables.{TableView}
 use Rattle.sm_table.specs.Bodies.{BodiesView, Past, past_at, past_of}
-use Rattle.sm_body.specs.Service.{Service}
+use Rattle.sm_body.specs.Service.{Meaning}
 use Rattle.sm_table.specs.World.{WorldState, Mark, StepOutcome, count_of, last_routes, outcome}
 use Rattle.sm_table.specs.Standing.{IsSound, WorldView, view_of, StandsFor, Follows, world_table}
 use Rattle.sm_table.specs.lemmas.Soundness.{sound_next}
@@ -122,7 +122,7 @@ parts-from_StandsFor v w stands = same_view v w.frame.bounds w.desk (world_table
     stands.routes stands.in_flight stands.in_hand
 
 -- a step that leaves the world leaves the parts
-pub Follows-unchanged : {Q R : Type 0} (service : Service Q R) (w : WorldState Q) (mark : Mark) (step : Step Q)
+pub Follows-unchanged : {Q R : Type 0} (service : Meaning Q R) (w : WorldState Q) (mark : Mark) (step : Step Q)
     (view now : WorldView Q) (answer : Result (WorldAnswer R) WorldFault) → StandsFor now w
     → outcome service w mark step ≡ (answer, w) → view ≡ now → Follows view answer (outcome service w mark step)
 Follows-unchanged service w mark step view now answer stands out same = record {
@@ -131,7 +131,7 @@ Follows-unchanged service w mark step view now answer stands out same = record {
 }
 
 -- a step that leads to another world leads to its parts, where they are those parts if that world is sound
-pub Follows-changed : {Q R : Type 0} (service : Service Q R) (w : WorldState Q) (mark : Mark) (step : Step Q)
+pub Follows-changed : {Q R : Type 0} (service : Meaning Q R) (w : WorldState Q) (mark : Mark) (step : Step Q)
     (view : WorldView Q) (answer : Result (WorldAnswer R) WorldFault) (after : WorldState Q) (pasts : List (Past Q))
     → IsSound w → outcome service w mark step ≡ (answer, after) → (IsSound after → view ≡ parts_of after pasts)
     → (IsSound after → Keeps after pasts) → Follows view answer (outcome service w mark step)

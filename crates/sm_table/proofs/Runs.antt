@@ -24,7 +24,7 @@ use Rattle.sm_ownership.specs.Rules.{forward_to}
 use Rattle.sm_desk.specs.Desk.{DeskView, is_reached}
 use Rattle.sm_envelope.specs.Envelope.{EnvelopeView}
 use Rattle.sm_ownership.specs.History.{all_of, kept, said}
-use Rattle.sm_body.specs.Service.{Service}
+use Rattle.sm_body.specs.Service.{Meaning}
 use Rattle.sm_table.specs.World.{Frame, WorldState, Mark, Plain, Unmade, Unserved, StepOutcome, count_of, world_record}
 use Rattle.sm_table.specs.World.{is_there, reached, after_hop, arrived, without_flight}
 use Rattle.sm_table.specs.World.{with_room, after_admission}
@@ -45,7 +45,7 @@ said_middle reply_of all before request after is =
     rw is (rw (slice_get-middle before request after, take_at before (request ∷ after) (length before) refl) refl)
 
 -- a step that replied executed a request after all those of the shard, and that is in the history
-record HasRun {Q R : Type 0} (service : Service Q R) (w : WorldState Q) (outcome : StepOutcome Q R) (shard : ℕ)
+record HasRun {Q R : Type 0} (service : Meaning Q R) (w : WorldState Q) (outcome : StepOutcome Q R) (shard : ℕ)
     (reply : R) (place : ℕ) : Type 0 where
   server : ℕ
   request : Q
@@ -54,7 +54,7 @@ record HasRun {Q R : Type 0} (service : Service Q R) (w : WorldState Q) (outcome
   written :
       outcome.1.history ≡ w.history ++ record { actor = server; shard = shard; kind = Done (Request request) } ∷ []
 
-module _ {Q R : Type 0} (service : Service Q R) (w : WorldState Q) (number server : ℕ) (reply : R) (place : ℕ) where
+module _ {Q R : Type 0} (service : Meaning Q R) (w : WorldState Q) (number server : ℕ) (reply : R) (place : ℕ) where
   abbrev RunsAt : ℕ → StepOutcome Q R → Type 0
   RunsAt shard outcome = outcome.0 ≡ Ok (Replied number server reply place) → HasRun service w outcome shard reply place
 
@@ -150,14 +150,14 @@ module _ {Q R : Type 0} (service : Service Q R) (w : WorldState Q) (number serve
       absurd (cond_both (nat_lt shard (count_of w)) _ _ NeverReplied (λ _. never_published _) (λ _ at. cc) answered)
   runs_step mark (RouteOf key) answered = absurd cc
 
-world_after-append : {Q R : Type 0} (service : Service Q R) (w : WorldState Q) (steps later : List (Mark × Step Q))
+world_after-append : {Q R : Type 0} (service : Meaning Q R) (w : WorldState Q) (steps later : List (Mark × Step Q))
     → world_after service w (steps ++ later) ≡ world_after service (world_after service w steps) later
 world_after-append service w [] later = refl
 world_after-append service w (step ∷ steps) later =
     world_after-append service (next service w step.0 step.1) steps later
 
 -- further steps only add to the history
-pub history_grows : {Q R : Type 0} (service : Service Q R) (frame : Frame) (steps later : List (Mark × Step Q))
+pub history_grows : {Q R : Type 0} (service : Meaning Q R) (frame : Frame) (steps later : List (Mark × Step Q))
     → (added : List (Entry Q))
     × ((world_of service frame (steps ++ later)).history ≡ (world_of service frame steps).history ++ added)
 history_grows service frame steps later =
@@ -165,7 +165,7 @@ history_grows service frame steps later =
     (after.added, ap (λ w. w.history) (world_after-append service (empty_world frame) steps later) ∙ after.history)
 
 -- and to what was published
-pub publications_grow : {Q R : Type 0} (service : Service Q R) (frame : Frame) (steps later : List (Mark × Step Q))
+pub publications_grow : {Q R : Type 0} (service : Meaning Q R) (frame : Frame) (steps later : List (Mark × Step Q))
     → (more : List Route)
     × ((world_of service frame (steps ++ later)).publications ≡ (world_of service frame steps).publications ++ more)
 publications_grow service frame steps later =
@@ -174,7 +174,7 @@ publications_grow service frame steps later =
       ap (λ w. w.publications) (world_after-append service (empty_world frame) steps later) ∙ after.publications,
     )
 
-module _ {Q R : Type 0} (service : Service Q R) (w : WorldState Q) (mark : Mark) (step : Step Q) (shard : ℕ) (reply : R)
+module _ {Q R : Type 0} (service : Meaning Q R) (w : WorldState Q) (mark : Mark) (step : Step Q) (shard : ℕ) (reply : R)
     (place : ℕ) (run : HasRun service w (outcome service w mark step) shard reply place) where
   -- after any further steps all requests of the shard still say that reply
   said_after : (later : List (Mark × Step Q))
@@ -194,7 +194,7 @@ module _ {Q R : Type 0} (service : Service Q R) (w : WorldState Q) (mark : Mark)
       (all_of w.history shard) run.request (all_of after.added shard) all)
 
 -- what a reply says of the run of its shard, from the world that the steps before it made
-pub one_run : {Q R : Type 0} (service : Service Q R) (frame : Frame) (steps later : List (Mark × Step Q)) (mark : Mark)
+pub one_run : {Q R : Type 0} (service : Meaning Q R) (frame : Frame) (steps later : List (Mark × Step Q)) (mark : Mark)
     (step : Step Q) (number server : ℕ) (reply : R) (place : ℕ)
     → answer service (world_of service frame steps) mark step ≡ Ok (Replied number server reply place)
     → (shard : ℕ) × (step ≡ Finish shard) × (place ≡ length (all_of (world_of service frame steps).history shard))

@@ -8,7 +8,7 @@ use Rattle.sm_table.specs.declared.step.Step.TheVariants.{Send}
 use Rattle.sm_table.specs.declared.world_answer.WorldAnswer.TheVariants.{Sent}
 use Rattle.sm_table.specs.declared.world_fault.WorldFault.TheVariants.{NoMemory}
 use Rattle.sm_desk.specs.Desk.{DeskView, is_known, is_reached}
-use Rattle.sm_body.specs.Service.{Service}
+use Rattle.sm_body.specs.Service.{Meaning}
 use Rattle.sm_envelope.specs.Envelope.{EnvelopeView}
 use Rattle.sm_table.specs.World.{WorldState, Plain, Unmade, flight_to, is_there, outcome}
 use Rattle.sm_table.specs.Standing.{WorldView, view_of, StandsFor, Follows}
@@ -18,7 +18,7 @@ use Rattle.sm_table.specs.declared.hands.InHand.{InHand}
 use Rattle.sm_table.proofs.Fitting.{direct}
 use Rattle.sm_table.proofs.Parts.{parts-from_StandsFor, Follows-unchanged, Follows-changed}
 
-module _ {Q R : Type 0} (service : Service Q R) {bounds : List (List ℕ)} {desk_was : DeskView} {table_was : TableView}
+module _ {Q R : Type 0} (service : Meaning Q R) {bounds : List (List ℕ)} {desk_was : DeskView} {table_was : TableView}
     {bodies_was : BodiesView Q} {routes_was : List (Option Route)} {flights_was : List (Flight Q)}
     {hands_was : List (Option (InHand Q))} (now : WorldView Q)
     (same : view_of bounds desk_was table_was bodies_was routes_was flights_was hands_was ≡ now) (w : WorldState Q)

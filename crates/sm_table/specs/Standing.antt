@@ -2,7 +2,7 @@
 use Rattle.std.specs.Prelude.{ℕ, Bool, true, false, Option, Some, None, Result, ◌≡◌, ◌<◌, ◌≤◌, ◌^◌, List, [], ◌∷◌, All}
 use Rattle.std.specs.Prelude.{length, map, replicate, reverse, slice_index_or, slice_set}
 use Rattle.std.specs.List.{list_all}
-use Rattle.sm_body.specs.Service.{Service}
+use Rattle.sm_body.specs.Service.{Meaning}
 use Rattle.sm_ranges.specs.Ranges.{IsLayout}
 use Rattle.sm_ranges.specs.declared.stand.Stand.TheVariants.{Vacant}
 use Rattle.sm_ranges.specs.Stand.{AllNamed}
@@ -151,7 +151,7 @@ pub record Follows {Q R : Type 0} (view : WorldView Q) (result : Result (WorldAn
 
 -- the step went as its answer says: where the parts stood for a world, it answered what it should, and they stand for
 -- the next
-abbrev pub GoesAs : {Q R : Type 0} → Service Q R → WorldView Q → Result (WorldAnswer R) WorldFault → WorldView Q
+abbrev pub GoesAs : {Q R : Type 0} → Meaning Q R → WorldView Q → Result (WorldAnswer R) WorldFault → WorldView Q
     → Step Q → Type 0
 GoesAs {Q = Q} service before result after step =
     (w : WorldState Q) → StandsFor before w → Follows after result (outcome service w (mark_of result) step)

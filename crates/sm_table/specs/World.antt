@@ -4,7 +4,7 @@ use Rattle.std.specs.Prelude.{ℕ, Bool, true, false, Option, Some, None, Result
 use Rattle.std.specs.Prelude.{[], ◌∷◌, ◌++◌, length, map, remove, replicate, slice_get, slice_index_or, slice_set}
 use Rattle.std.specs.List.{range_with_len}
 use Rattle.std.specs.Option.{option_map, option_map_or, option_or}
-use Rattle.sm_body.specs.Service.{Service}
+use Rattle.sm_body.specs.Service.{Meaning}
 use Rattle.sm_ranges.specs.Ranges.{shard_of}
 use Rattle.sm_ownership.specs.declared.admit_fault.AdmitFault.{AdmitFault}
 use Rattle.sm_desk.specs.declared.command.Command.{Command}
@@ -125,12 +125,12 @@ abbrev pub flight_to : {Q : Type 0} → ℕ → EnvelopeView Q (Unit {0}) → Fl
 flight_to to envelope = record { to = to; envelope = envelope }
 
 -- a direct envelope of this number, for the shard whose range covers the request's key
-abbrev pub new_envelope : {Q R : Type 0} → Service Q R → List (List ℕ) → ℕ → Q → EnvelopeView Q (Unit {0})
+abbrev pub new_envelope : {Q R : Type 0} → Meaning Q R → List (List ℕ) → ℕ → Q → EnvelopeView Q (Unit {0})
 new_envelope service bounds n asked = record
     { number = n; shard = shard_of bounds (service.key_of asked); mode = Direct; hops = 0; request = asked; note = tt }
 
 -- a new envelope is put last in flight, where the server is reached
-abbrev pub after_send : {Q R : Type 0} → Service Q R → WorldState Q → ℕ → ℕ → Q → StepOutcome Q R
+abbrev pub after_send : {Q R : Type 0} → Meaning Q R → WorldState Q → ℕ → ℕ → Q → StepOutcome Q R
 after_send service w to number request =
     if is_there w to
     then (if is_reached w.desk to
@@ -183,7 +183,7 @@ abbrev pub ended : {Q : Type 0} → WorldState Q → ℕ → ℕ → Ending Q �
 ended w shard server ending = with_hand (with_entry w server shard (Done ending)) shard None
 
 -- a shard with room keeps the request and replies, unless memory for it is refused
-abbrev pub with_room : {Q R : Type 0} → Service Q R → WorldState Q → Mark → ℕ → ℕ → Work Q → StepOutcome Q R
+abbrev pub with_room : {Q R : Type 0} → Meaning Q R → WorldState Q → Mark → ℕ → ℕ → Work Q → StepOutcome Q R
 with_room service w Unserved shard server work = (Ok (Refused NoMemoryFor), ended w shard server Nothing)
 with_room service w mark shard server work = (
   Ok (Replied work.number server (service.reply_of (all_of w.history shard) work.request)
@@ -192,14 +192,14 @@ with_room service w mark shard server work = (
 )
 
 -- an admission with work ends by its request, or refused where the shard keeps as many as it may
-abbrev pub finished : {Q R : Type 0} → Service Q R → WorldState Q → Mark → ℕ → ℕ → Work Q → StepOutcome Q R
+abbrev pub finished : {Q R : Type 0} → Meaning Q R → WorldState Q → Mark → ℕ → ℕ → Work Q → StepOutcome Q R
 finished service w mark shard server work =
     if nat_lt (length (kept w.history shard)) (slice_index_or w.frame.limits shard 0)
     then with_room service w mark shard server work
     else (Ok (Refused KeptFull), ended w shard server Nothing)
 
 -- the server with the shard's request in hand executes it, and its admission ends
-abbrev pub after_finish : {Q R : Type 0} → Service Q R → WorldState Q → Mark → ℕ → StepOutcome Q R
+abbrev pub after_finish : {Q R : Type 0} → Meaning Q R → WorldState Q → Mark → ℕ → StepOutcome Q R
 after_finish service w mark shard =
     option_map_or (λ hand. option_map_or (finished service w mark shard hand.server) hand.work (Err NotHeld, w))
     (slice_index_or w.in_hand shard None) (Err NotHeld, w)
@@ -243,7 +243,7 @@ after_publish w shard =
     (record_route shard (world_record w shard)) (Err WrongPhase, w) else (Err UnknownShard, w)
 
 -- what a step that went so answers, and the world that it leaves
-abbrev pub outcome : {Q R : Type 0} → Service Q R → WorldState Q → Mark → Step Q → StepOutcome Q R
+abbrev pub outcome : {Q R : Type 0} → Meaning Q R → WorldState Q → Mark → Step Q → StepOutcome Q R
 outcome service w Unmade step = (Err NoMemory, w)
 outcome service w mark (Control command) = after_control w command
 outcome service w mark (Look shard) =
@@ -260,11 +260,11 @@ outcome service w mark (Publish shard) = after_publish w shard
 outcome service w mark (RouteOf key) = (Ok (Way (routes_of w.publications (shard_of w.frame.bounds key))), w)
 
 -- what a step answers
-abbrev pub answer : {Q R : Type 0} → Service Q R → WorldState Q → Mark → Step Q → Result (WorldAnswer R) WorldFault
+abbrev pub answer : {Q R : Type 0} → Meaning Q R → WorldState Q → Mark → Step Q → Result (WorldAnswer R) WorldFault
 answer service w mark step = (outcome service w mark step).0
 
 -- the world that a step leaves
-abbrev pub next : {Q R : Type 0} → Service Q R → WorldState Q → Mark → Step Q → WorldState Q
+abbrev pub next : {Q R : Type 0} → Meaning Q R → WorldState Q → Mark → Step Q → WorldState Q
 next service w mark step = (outcome service w mark step).1
 
 -- how a step went, by its answer
@@ -285,10 +285,10 @@ empty_world frame = record {
 }
 
 -- the world after these steps, from this one on
-abbrev pub world_after : {Q R : Type 0} → Service Q R → WorldState Q → List (Mark × Step Q) → WorldState Q
+abbrev pub world_after : {Q R : Type 0} → Meaning Q R → WorldState Q → List (Mark × Step Q) → WorldState Q
 world_after service w [] = w
 world_after service w (step ∷ steps) = world_after service (next service w step.0 step.1) steps
 
 -- the world that a list of steps makes, each with how it went
-abbrev pub world_of : {Q R : Type 0} → Service Q R → Frame → List (Mark × Step Q) → WorldState Q
+abbrev pub world_of : {Q R : Type 0} → Meaning Q R → Frame → List (Mark × Step Q) → WorldState Q
 world_of service frame steps = world_after service (empty_world frame) steps

@@ -8,7 +8,7 @@ ghost use Rattle.sm_table.specs.declared.step.Step.{Step};
 ghost use Rattle.sm_table.specs.declared.step.Step.TheVariants.{Finish};
 ghost use Rattle.sm_table.specs.declared.world_answer.WorldAnswer.TheVariants.{Replied};
 ghost use Rattle.sm_table.specs.Standing.{IsFrame, world_table};
-ghost use Rattle.sm_body.specs.Service.{Service};
+ghost use Rattle.sm_body.specs.Service.{Meaning};
 ghost use Rattle.sm_table.specs.World.{Frame, Mark, answer, world_of};
 ghost use Rattle.sm_desk.specs.Desk.{stands_of};
 ghost use Rattle.sm_place.specs.Room.{HasRoom};
@@ -24,20 +24,20 @@ pub use sm_ownership::laws::{
 
 /// Whatever the steps, the history that they make is legal.
 pub fn legal_history<Q, R>()
-    ensures { (service : Service Q R) (frame : Frame) (steps : List (Mark × Step Q)) → IsFrame frame
+    ensures { (service : Meaning Q R) (frame : Frame) (steps : List (Mark × Step Q)) → IsFrame frame
         → IsLegal (length frame.bounds) frame.ceiling (world_of service frame steps).history }
 {}
 
 /// Further steps only add to the history.
 pub fn history_grows<Q, R>()
-    ensures { (service : Service Q R) (frame : Frame) (steps later : List (Mark × Step Q))
+    ensures { (service : Meaning Q R) (frame : Frame) (steps later : List (Mark × Step Q))
         → (added : List (Entry Q))
         × ((world_of service frame (steps ++ later)).history ≡ (world_of service frame steps).history ++ added) }
 {}
 
 /// Further steps only add to what was published.
 pub fn publications_grow<Q, R>()
-    ensures { (service : Service Q R) (frame : Frame) (steps later : List (Mark × Step Q))
+    ensures { (service : Meaning Q R) (frame : Frame) (steps later : List (Mark × Step Q))
         → (more : List Route)
         × ((world_of service frame (steps ++ later)).publications ≡ (world_of service frame steps).publications
         ++ more) }
@@ -46,7 +46,7 @@ pub fn publications_grow<Q, R>()
 /// Whatever the steps, a reply has the place after all requests of its shard, and is what one run of these says there.
 /// It stays so whatever steps follow.
 pub fn one_run<Q, R>()
-    ensures { (service : Service Q R) (frame : Frame) (steps later : List (Mark × Step Q)) (mark : Mark) (step : Step Q)
+    ensures { (service : Meaning Q R) (frame : Frame) (steps later : List (Mark × Step Q)) (mark : Mark) (step : Step Q)
         (number server : ℕ) (reply : R) (place : ℕ)
         → let before = world_of service frame steps in
         let after = world_of service frame (steps ++ (mark, step) ∷ later) in
@@ -59,13 +59,13 @@ pub fn one_run<Q, R>()
 /// Whatever the steps, the desk has the stands of the table. There is room for them, and the caps of approved restarts
 /// hold.
 pub fn caps_and_room_hold<Q, R>()
-    ensures stands { (service : Service Q R) (frame : Frame) (steps : List (Mark × Step Q)) → IsFrame frame
+    ensures stands { (service : Meaning Q R) (frame : Frame) (steps : List (Mark × Step Q)) → IsFrame frame
         → let w = world_of service frame steps in
         stands_of w.desk ≡ map (λ state. state.stand) (world_table w) }
-    ensures room { (service : Service Q R) (frame : Frame) (steps : List (Mark × Step Q)) → IsFrame frame
+    ensures room { (service : Meaning Q R) (frame : Frame) (steps : List (Mark × Step Q)) → IsFrame frame
         → let books = (world_of service frame steps).desk.books in
         HasRoom books.servers books.groups books.shards }
-    ensures caps { (service : Service Q R) (frame : Frame) (steps : List (Mark × Step Q)) → IsFrame frame
+    ensures caps { (service : Meaning Q R) (frame : Frame) (steps : List (Mark × Step Q)) → IsFrame frame
         → MeetsCaps frame.start.caps (world_of service frame steps).desk.books }
 {
     commands_keep_caps();

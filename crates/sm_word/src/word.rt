@@ -12,17 +12,20 @@ use sm_ownership::record::Record;
 use sm_ranges::server_id::ServerId;
 use sm_ranges::stand::Stand;
 
-// Where the parts of a word begin.
-const PHASE: u64 = 1 << 61;
+/// Where the phase begins in a word: 0 vacant, 1 serving, 2 prepared, 3 forwarding, 4 taken, 5 paused.
+pub const PHASE: u64 = 1 << 61;
 
-const ADMITTED: u64 = 1 << 60;
+/// Where a word tells whether a server is admitted.
+pub const ADMITTED: u64 = 1 << 60;
 
-const OWNER: u64 = 1 << 48;
+/// Where the owner's number begins, 0 for none.
+pub const OWNER: u64 = 1 << 48;
 
-const OTHER: u64 = 1 << 36;
+/// Where the number of the next or the previous server begins; below it stands the generation.
+pub const OTHER: u64 = 1 << 36;
 
-// How many numbers of servers a part has room for.
-const SERVERS: u64 = 1 << 12;
+/// How many numbers of servers a part has room for.
+pub const SERVERS: u64 = 1 << 12;
 
 /// The word of a well-formed record.
 pub fn pack(state: Record) -> u64

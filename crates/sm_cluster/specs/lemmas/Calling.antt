@@ -1,11 +1,11 @@
 -- What is known of a call, by whatever route it went.
 use Rattle.std.proofs.Common.{ℕ, Option, Some, None, Ok, subst}
-use Rattle.sm_body.specs.Service.{Service}
+use Rattle.sm_body.specs.Service.{Meaning}
 use Rattle.sm_ownership.specs.declared.route.Route.{Route}
 use Rattle.sm_server.specs.Answers.{AnswerValue}
 use Rattle.sm_cluster.specs.Calls.{Called, CalledBy, ClientValue, Gives}
 
-module _ {Q R : Type 0} (service : Service Q R) (number : ℕ) (request : Q) (answer : AnswerValue Q R) where
+module _ {Q R : Type 0} (service : Meaning Q R) (number : ℕ) (request : Q) (answer : AnswerValue Q R) where
   given_by : (before after : ClientValue Q) (route : Option Route)
       → CalledBy service before number request route (Ok answer) after → Gives service before number request answer
   given_by before after None called = absurd cc

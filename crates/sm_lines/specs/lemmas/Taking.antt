@@ -1,6 +1,6 @@
 -- Bytes and lines that are taken off one after another.
-use Rattle.std.proofs.Common.{◌≡◌, ◌≢◌, ◌+◌, ◌*◌, ◌≤◌, ◌<◌, ℕ, suc, List, [], ◌∷◌, ◌++◌, length, All, Bool, true}
-use Rattle.std.proofs.Common.{false, Option, Some, None, refl, ap, sym, ◌∙◌, subst, append_assoc, append-nil}
+use Rattle.std.proofs.Common.{◌≡◌, ◌≢◌, ◌+◌, ◌<◌, ℕ, suc, List, [], ◌∷◌, ◌++◌, length, All, Bool, true}
+use Rattle.std.proofs.Common.{false, Option, Some, None, refl, ap, sym, ◌∙◌, append_assoc, append-nil}
 use Rattle.std.proofs.Common.{length-append, arith, ◌⊎◌, inl, inr}
 use Rattle.std.proofs.lemmas.Bool.{cases_eq, false≢true, ne_eqb}
 use Rattle.std.proofs.lemmas.List.Elements.{All-nil, All-cons, All-head, All-tail, All-append}
@@ -8,7 +8,6 @@ use Rattle.std.proofs.KnownBytes.{Consumes-nil, Consumes-trans}
 use Rattle.std.specs.Io.KnownBytes.{prepend_known, Consumes, IsAtEnd}
 use Rattle.sm_lines.specs.Lines.{lines_of, onto_first, with_feeds, IsPlain}
 use Rattle.sm_lines.specs.Reading.{to_come, Reading, Reads, TookLines, IsOrderly, IsUncalled, call_of}
-use Rattle.sm_lines.specs.declared.TheConstants.{PIECE}
 
 -- ---- bytes
 
@@ -155,37 +154,6 @@ took_more was now next lines more one two = record {
 
 feed_first : (b : ℕ) (bytes : List ℕ) → b ≡ 10 → lines_of (b ∷ bytes) ≡ [] ∷ lines_of bytes
 feed_first b bytes is = rw is refl
-
-onto_few : (b : ℕ) (lines : List (List ℕ)) (bytes : List ℕ) → length lines ≤ length bytes
-    → length (onto_first b lines) ≤ suc (length bytes)
-onto_few b [] bytes few = omega (arith, few)
-onto_few b (line ∷ lines) bytes few = omega (arith, few)
-
--- each line took a byte at least
-pub lines_few : (bytes : List ℕ) → length (lines_of bytes) ≤ length bytes
-lines_few [] = omega arith
-lines_few (b ∷ bytes) =
-    let P : List (List ℕ) → Type 0 = λ l. length l ≤ suc (length bytes) in
-    elim (cases_eq b 10) [
-      | inl is ↦ subst P (sym (feed_first b bytes is)) (few_more (lines_of bytes) bytes (lines_few bytes))
-      | inr other ↦ subst P (sym (lines_of-plain b bytes other)) (onto_few b (lines_of bytes) bytes (lines_few bytes))
-    ]
-  where
-    few_more : (lines : List (List ℕ)) (bytes : List ℕ) → length lines ≤ length bytes
-        → length ([] ∷ lines) ≤ suc (length bytes)
-    few_more lines bytes few = omega (arith, few)
-
--- so do lines of which the reader gave no more bytes than its calls could
-pub lines_given : (was now : Reading) (lines : List (List ℕ)) → TookLines was now lines
-    → length lines ≤ PIECE * now.calls
-lines_given was now lines took =
-    let few : length lines ≤ length took.taken = subst (λ (l : List (List ℕ)). length l ≤ length took.taken) took.are
-    (lines_few took.taken) in
-    let most = took.reads.most in
-    let came = took.reads.before.came in
-    let all : length was.held + length took.reads.given ≡ length took.taken + length now.held =
-    sym (length-append was.held took.reads.given) ∙ ap length took.reads.split ∙ length-append took.taken now.held in
-    omega (arith, few, most, came, all)
 
 -- bytes without a line are none
 pub no_lines : (bytes : List ℕ) → lines_of bytes ≡ [] → bytes ≡ []

@@ -3,9 +3,8 @@ use Rattle.std.proofs.Common.{◌≡◌, ◌≢◌, ℕ, false, List, [], ◌∷
 use Rattle.std.specs.Prelude.{Option, Some, None, ◌==◌}
 use Rattle.std.proofs.lemmas.Bool.{ne_eqb}
 use Rattle.std.proofs.lemmas.List.{append-nil}
-use Rattle.std.proofs.lemmas.List.Elements.{All-append, All-head, All-nil, All-tail, filter-append}
-use Rattle.sm_ownership.specs.History.{IsLegal, NoneBy}
-use Rattle.sm_ownership.specs.lemmas.Growth.{legal_prefix}
+use Rattle.std.proofs.lemmas.List.Elements.{All-append, All-head, All-tail, filter-append}
+use Rattle.sm_ownership.specs.History.{NoneBy}
 use Rattle.sm_ownership.specs.declared.entry.Entry.{Entry}
 use Rattle.sm_ownership.specs.declared.entry.Kind.{Kind}
 use Rattle.sm_ownership.specs.declared.mode.Mode.{Mode}
@@ -14,7 +13,7 @@ use Rattle.sm_rule.specs.declared.admit_refusal.AdmitRefusal.TheVariants.{Refuse
 use Rattle.sm_rule.specs.declared.limits.Limits.{Limits}
 use Rattle.sm_rule.specs.Admissions.{PassAdmitted, Races, RefusedBy, fault_for}
 use Rattle.sm_rule.specs.Boards.{BoardValue}
-use Rattle.sm_rule.specs.Passes.{HasLegalFront, PassAdds, PassLooks, PassValue, own, pass_adding, pass_seeing}
+use Rattle.sm_rule.specs.Passes.{PassAdds, PassLooks, PassValue, own, pass_adding, pass_seeing}
 use Rattle.sm_rule.specs.Views.{Begins, Grows, IsMet, entry_of}
 
 -- what grows by entries of others, and then grows on
@@ -45,13 +44,6 @@ pub begins_begins : {Q : Type 0} (one two three : List (Entry Q)) → Begins one
 begins_begins one two three first second =
     (first.0 ++ second.0, second.1 ∙ (ap (λ entries. entries ++ second.0) first.1 ∙ append_assoc one first.0 second.0))
 
--- a front of a legal history is one
-pub legal_begins : {Q : Type 0} (limits : Limits) (earlier later : List (Entry Q)) → Begins earlier later
-    → IsLegal limits.count limits.ceiling later → IsLegal limits.count limits.ceiling earlier
-legal_begins limits earlier later begins legal =
-    legal_prefix limits.count limits.ceiling earlier begins.0
-    (subst (λ entries. IsLegal limits.count limits.ceiling entries) begins.1 legal)
-
 -- own entries of what comes after others
 pub own_append : {Q : Type 0} (number : ℕ) (one two : List (Entry Q))
     → own number (one ++ two) ≡ own number one ++ own number two
@@ -77,24 +69,6 @@ own_grows limits number before after added grows =
 pub met_begins : {Q : Type 0} (number : ℕ) (seen history : List (Entry Q)) → IsMet number seen history
     → Begins seen history
 met_begins number seen history met = (met.0, met.1)
-
-pub met_own : {Q : Type 0} (number : ℕ) (seen history : List (Entry Q)) → IsMet number seen history
-    → own number history ≡ own number seen
-met_own number seen history met =
-    ap (own number) met.1 ∙ (own_append number seen met.0
-    ∙ (ap (λ entries. own number seen ++ entries) (own_none number met.0 met.2) ∙ append-nil (own number seen)))
-
--- a pass that stays as it was has looked
-pub looks_none : {Q : Type 0} (pass : PassValue Q) → HasLegalFront pass → PassLooks pass pass
-looks_none pass legal = (
-  (
-    [],
-    sym (append-nil (pass.seen ++ []) ∙ append-nil pass.seen),
-    All-nil (λ entry. entry.actor ≢ pass.number),
-    legal,
-  ),
-  refl,
-)
 
 -- after a look, and after an entry of one's own, what had been seen is a front of what is
 pub looks_begins : {Q : Type 0} (p q : PassValue Q) → PassLooks p q → Begins p.seen q.seen

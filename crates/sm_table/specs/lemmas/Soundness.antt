@@ -35,7 +35,7 @@ use Rattle.sm_rows.specs.declared.server_row.ServerRow.{ServerRow}
 use Rattle.sm_envelope.specs.Envelope.{EnvelopeView, one_hop_more, sent_on}
 use Rattle.sm_envelope.specs.declared.envelope.TheConstants.{MOST_HOPS}
 use Rattle.sm_ownership.specs.History.{checkpoint_ending, vacant, record_at, kept}
-use Rattle.sm_body.specs.Service.{Service}
+use Rattle.sm_body.specs.Service.{Meaning}
 use Rattle.sm_table.specs.World.{Frame, WorldState, Mark, Plain, Unmade, Unserved, StepOutcome, count_of, world_record}
 use Rattle.sm_table.specs.World.{is_there, table_fault, with_change, after_send, flight_to}
 use Rattle.sm_table.specs.World.{reached, after_hop, arrived, without_flight, with_room}
@@ -196,7 +196,7 @@ module _ {Q : Type 0} (R : Type 0) (w : WorldState Q) (sound : IsSound w) where
   sound_look : (shard : ℕ) → LeavesSound (after_look w shard)
   sound_look shard = cond_both (nat_lt shard (count_of w)) _ _ LeavesSound (λ _. sound) (λ _. sound)
 
-  sound_send : (service : Service Q R) (to number : ℕ) (request : Q)
+  sound_send : (service : Meaning Q R) (to number : ℕ) (request : Q)
       → LeavesSound (after_send service w to number request)
   sound_send service to number request = cond_both (is_there w to) _ _ LeavesSound
       (λ known. cond_both (is_reached w.desk to) _ _ LeavesSound
@@ -232,13 +232,13 @@ module _ {Q : Type 0} (R : Type 0) (w : WorldState Q) (sound : IsSound w) where
   sound_arrived at envelope (Some to) within known is = sound_hopped at to envelope within (known_forward
       w.desk.books.servers (world_record w envelope.shard).stand at to (sound.named envelope.shard within) is)
 
-  sound_with_room : (service : Service Q R) (mark : Mark) (shard : ℕ) (hand : InHand Q) (work : Work Q)
+  sound_with_room : (service : Meaning Q R) (mark : Mark) (shard : ℕ) (hand : InHand Q) (work : Work Q)
       → slice_index_or w.in_hand shard None ≡ Some hand → LeavesSound (with_room service w mark shard hand.server work)
   sound_with_room service Unserved shard hand work is = sound_done w sound shard hand Nothing is
   sound_with_room service Plain shard hand work is = sound_done w sound shard hand (Request work.request) is
   sound_with_room service Unmade shard hand work is = sound_done w sound shard hand (Request work.request) is
 
-  sound_worked : (service : Service Q R) (mark : Mark) (shard : ℕ) (hand : InHand Q) (work : Option (Work Q))
+  sound_worked : (service : Meaning Q R) (mark : Mark) (shard : ℕ) (hand : InHand Q) (work : Option (Work Q))
       → slice_index_or w.in_hand shard None ≡ Some hand → LeavesSound (worked service w mark shard hand.server work)
   sound_worked service mark shard hand None is = sound
   sound_worked service mark shard hand (Some work) is =
@@ -246,7 +246,7 @@ module _ {Q : Type 0} (R : Type 0) (w : WorldState Q) (sound : IsSound w) where
       (λ _. sound_with_room service mark shard hand work is)
       (λ _. sound_done w sound shard hand Nothing is)
 
-  sound_served : (service : Service Q R) (mark : Mark) (shard : ℕ) (hand : Option (InHand Q))
+  sound_served : (service : Meaning Q R) (mark : Mark) (shard : ℕ) (hand : Option (InHand Q))
       → slice_index_or w.in_hand shard None ≡ hand → LeavesSound (served service w mark shard hand)
   sound_served service mark shard None is = sound
   sound_served service mark shard (Some hand) is = sound_worked service mark shard hand hand.work is
@@ -309,7 +309,7 @@ sound_delivered R w place (Some flight) sound is =
     (sound_taken w place sound) flight.to flight.envelope _ known.shard known.server refl
 
 -- each step keeps a world sound
-pub sound_next : {Q R : Type 0} (service : Service Q R) (w : WorldState Q) (mark : Mark) (step : Step Q) → IsSound w
+pub sound_next : {Q R : Type 0} (service : Meaning Q R) (w : WorldState Q) (mark : Mark) (step : Step Q) → IsSound w
     → IsSound (next service w mark step)
 sound_next service w Unmade step sound = sound
 sound_next {R = R} service w mark (Control command) sound = sound_controlled R w sound command _ refl
@@ -325,13 +325,13 @@ sound_next {R = R} service w mark (Publish shard) sound =
     cond_both (nat_lt shard (count_of w)) _ _ (LeavesSound R w sound) (λ _. sound_published R w sound _) (λ _. sound)
 sound_next service w mark (RouteOf key) sound = sound
 
-sound_after : {Q R : Type 0} (service : Service Q R) (w : WorldState Q) (steps : List (Mark × Step Q)) → IsSound w
+sound_after : {Q R : Type 0} (service : Meaning Q R) (w : WorldState Q) (steps : List (Mark × Step Q)) → IsSound w
     → IsSound (world_after service w steps)
 sound_after service w [] sound = sound
 sound_after service w (step ∷ steps) sound =
     sound_after service (next service w step.0 step.1) steps (sound_next service w step.0 step.1 sound)
 
 -- so every world that steps make is sound
-pub sound_world : {Q R : Type 0} (service : Service Q R) (frame : Frame) (steps : List (Mark × Step Q)) → IsFrame frame
+pub sound_world : {Q R : Type 0} (service : Meaning Q R) (frame : Frame) (steps : List (Mark × Step Q)) → IsFrame frame
     → IsSound (world_of service frame steps)
 sound_world service frame steps is = sound_after service (empty_world frame) steps (sound_empty frame is)

@@ -1,7 +1,7 @@
 -- The parts of steps, as proofs go through them one by one.
 use Rattle.std.specs.Prelude.{ℕ, Option, Some, None, Ok, Err, nat_lt, if◌then◌else◌, List, [], ◌∷◌, ◌++◌, length}
 use Rattle.std.specs.Option.{option_map_or}
-use Rattle.sm_body.specs.Service.{Service}
+use Rattle.sm_body.specs.Service.{Meaning}
 use Rattle.sm_desk.specs.declared.command.Command.{Command}
 use Rattle.sm_desk.specs.declared.command.CommandFault.{CommandFault}
 use Rattle.sm_desk.specs.Desk.{commanded}
@@ -47,11 +47,11 @@ after_lose w place =
     if nat_lt place (length w.in_flight) then (Ok Made, without_flight w place) else (Err NoEnvelope, w)
 
 -- the end of an admission, if it has work
-abbrev pub worked : {Q R : Type 0} → Service Q R → WorldState Q → Mark → ℕ → ℕ → Option (Work Q) → StepOutcome Q R
+abbrev pub worked : {Q R : Type 0} → Meaning Q R → WorldState Q → Mark → ℕ → ℕ → Option (Work Q) → StepOutcome Q R
 worked service w mark shard server work = option_map_or (finished service w mark shard server) work (Err NotHeld, w)
 
 -- the end of the admission in hand, if there is one
-abbrev pub served : {Q R : Type 0} → Service Q R → WorldState Q → Mark → ℕ → Option (InHand Q) → StepOutcome Q R
+abbrev pub served : {Q R : Type 0} → Meaning Q R → WorldState Q → Mark → ℕ → Option (InHand Q) → StepOutcome Q R
 served {Q} service w mark shard hand =
     option_map_or (λ (one : InHand Q). worked service w mark shard one.server one.work) hand (Err NotHeld, w)
 
