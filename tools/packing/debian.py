@@ -17,23 +17,25 @@ Maintainer: {maintainer}
 Installed-Size: {size}
 Depends: {depends}
 Suggests: redis-tools
-Description: shard manager in which every function is proved{mark}
+Description: shard manager with a proved core{mark}
  Each range of keys, a shard, is written by one server at a time: also while it
- moves, while a server restarts, and where a client holds an old map.
+ moves, while a server restarts, and where a client holds an old map. The core
+ is proved, function by function; what stands round it is tested.
  .
- durkenzo-server serves Redis clients from several servers in one process; its
- unit isn't enabled. sm_cli runs scripts on the same proved parts.
+ durkenzo-server serves Redis clients from several servers, in one process, or
+ in processes of their own over etcd; its unit isn't enabled. sm_cli runs
+ scripts on the same proved parts.
 """
 MARK = " (built without proof)"
 CHANGES = """durkenzo ({version}) unstable; urgency=medium
 
-  * What changed stands in the repository's CHANGELOG.md.
+  * What changed stands in CHANGELOG.md beside this file.
 
  -- {maintainer}  {date}
 """
 COPYRIGHT = """Format: https://www.debian.org/doc/packaging-manuals/copyright-format/1.0/
 Upstream-Name: durkenzo
-Comment: Of other people's crates in durkenzo-server, NOTICES has the licences.
+Comment: Of other people's crates in the programs, NOTICES has the licences.
 
 Files: *
 Copyright: {holder}

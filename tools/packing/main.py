@@ -1,7 +1,7 @@
 """Packs what is handed to people into out/dist/: an archive, the Rust crate, the Python wheel and a Debian package.
 
 The archive is unpacked anywhere, as into /usr/local: programs, static and shared library, headers, pkg-config, unit,
-manual pages, completions, examples and docs. The crate links what DURKENZO_LIB names: lib/durkenzo of the archive.
+manual pages, completions, examples, docs and units of a cluster. The crate links what DURKENZO_LIB names: lib/durkenzo of the archive.
 
 It packs what was proved. With --unproved it builds all without proof, and says so in each name, in --version, in INFO
 and in the package's description. The same sources, built in the same folder by the same compilers, give the same
@@ -18,7 +18,7 @@ import subprocess
 import sys
 import tempfile
 
-from packing import archives, debian, made, tree
+from packing import archives, debian, made, notices, tree
 from testing import library
 
 INTO = made.TOP / "out/dist"
@@ -64,8 +64,10 @@ def wheel(room, given, into):
     if not python:
         print("dist: no python3 has pip, setuptools and wheel: there is no wheel", file=sys.stderr)
         return None
-    built = room.folder / "library"
+    built, told = room.folder / "library", room.folder / "NOTICES"
+    told.write_text(notices.of_library(), encoding="utf-8")
     words = [f"BUILD={built}", f"PYTHON={python}", f"VERSION={given.version}", f"DURKENZO_LIB={given.libraries}"]
+    words.append(f"NOTICES={told}")
     env = {**os.environ, "SOURCE_DATE_EPOCH": str(room.epoch)}
     room.run("make", "-C", tree.FOLDER, "wheel", *words, env=env)
     found = next((built / "wheel").glob("*.whl"))

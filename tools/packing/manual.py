@@ -6,7 +6,7 @@ import time
 EXAMPLES = {
     "sm_cli": ["sm_cli model < migration.in", "sm_cli threads --explain < migration.in"],
     "durkenzo-server": [
-        "durkenzo-server --servers 4 --folder /var/lib/durkenzo",
+        "durkenzo-server --servers 4 --data /var/lib/durkenzo",
         "redis-cli -p 7379 incr visits",
         "redis-cli -p 7379 sm migrate 0 2",
     ],

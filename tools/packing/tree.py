@@ -113,14 +113,15 @@ def texts(names):
 
 
 def licences():
-    """The licences of what is in the server of other people."""
+    """The licences of what is in the programs and libraries of other people."""
     yield f"{DOCS}/NOTICES", File(notices.text().encode())
 
 
 def docs():
-    """The names of all pages and pictures."""
+    """The names of all pages and pictures, and of what a cluster's machines are installed by, as a page says."""
     found = sorted(it for it in (TOP / "docs").rglob("*") if it.suffix in (".md", ".svg"))
-    return ["README.md", "CHANGELOG.md", "SECURITY.md", "LICENSE", *(str(it.relative_to(TOP)) for it in found)]
+    found += sorted((TOP / "deploy").iterdir())
+    return ["README.md", "CHANGELOG.md", "SECURITY.md", *(str(it.relative_to(TOP)) for it in found)]
 
 
 def of_archive(room, given):
@@ -131,17 +132,17 @@ def of_archive(room, given):
         **dict(pages(room, given, "site-functions")),
         **dict(examples()),
         **dict(licences()),
-        **dict(texts(docs())),
+        **dict(texts(["LICENSE", *docs()])),
         "lib/systemd/system/durkenzo.service": unit("/usr/local"),
     }
 
 
 def of_debian(room, given):
-    """The programs with their unit, pages and completions, below /usr of Debian."""
+    """The programs with their unit, pages, docs and completions, below /usr of Debian."""
     return {
         **dict(programs(room, given)),
         **dict(pages(room, given, "vendor-completions")),
         **dict(examples()),
         **dict(licences()),
-        **dict(texts(["README.md", "SECURITY.md"])),
+        **dict(texts(docs())),
     }

@@ -6,6 +6,7 @@ import shutil
 import subprocess
 import sys
 import tarfile
+import zipfile
 
 import runs
 import sources
@@ -118,6 +119,8 @@ def libraries(tree, room, folder):
 
 
 def of_wheel(wheel, room):
+    lacking = {"LICENSE", "NOTICES"} - {pathlib.Path(it).name for it in zipfile.ZipFile(wheel).namelist()}
+    yield verdict("the packed wheel's licences", not lacking, f"it lacks {', '.join(sorted(lacking))}")
     python, venv = library.wheel_maker(), room / "packed-venv"
     yield library.ran("a venv for the packed wheel", [python, "-m", "venv", "--without-pip", venv], room)
     install = [python, "-m", "pip", "--python", venv / "bin/python", "install", "--quiet", "--no-index", wheel]
@@ -140,6 +143,12 @@ def pages(tree, room):
             ran = subprocess.run([shell, "-c", words], capture_output=True, text=True, cwd=room)
             said = f"{ran.stdout}{ran.stderr}"
             yield verdict(f"completions of {shell}", not ran.returncode and ran.stdout.split() == wanted, said[-2000:])
+
+
+def deployed(tree, room):
+    """What a cluster's machines are installed by works as its page says."""
+    words = ["make", "-C", tree / "share/doc/durkenzo/deploy", "install", f"DESTDIR={room}/deployed"]
+    yield library.ran("what installs a cluster, packed", words, room)
 
 
 def completions(tree):
@@ -201,6 +210,7 @@ def passed(wanted):
         tree = unpacked(room / "one", room / "root")
         yield from libraries(tree, room, room / "one")
         yield from pages(tree, room)
+        yield from deployed(tree, room)
         yield from programs(tree, room, how)
         yield from of_debian(room / "one")
         if shutil.which("systemd-analyze"):

@@ -1,10 +1,8 @@
 """Shards that move between servers while each has one writer, decided by proved code.
 
-A Board keeps a body, any object, for each shard. A thread makes a Pass as one of the board's servers, and is
-admitted to a
-shard where that server executes the shard's requests and nobody else is admitted. The Permit then has the body for
-itself,
-without a lock, until it ends. The board's Control moves shards between servers meanwhile.
+A Board keeps a body, any object, for each shard. A thread makes a Pass as one of the board's servers, and is admitted
+to a shard where that server executes the shard's requests and nobody else is admitted. The Permit then has the body
+for itself, without a lock, until it ends. The board's Control moves shards between servers meanwhile.
 
     board = Board([[] for _ in range(4)], servers=2)
     board.control.assign(3, 1)
@@ -12,9 +10,8 @@ without a lock, until it ends. The board's Control moves shards between servers 
         with one.admit(3) as permit:
             permit.body.append("first")
 
-Which server is admitted, and that no two permits of a shard live at once, is decided by proved code. That a body
-isn't kept
-beyond its permit is up to the caller.
+Which server is admitted, and that no two permits of a shard live at once, is decided by proved code. That a body isn't
+kept beyond its permit is up to the caller.
 """
 from __future__ import annotations
 
@@ -104,7 +101,7 @@ class Pass(_Kept, Generic[T]):
             _check(LIBRARY.durkenzo_pass(ctypes.byref(board._handle), ctypes.byref(self._handle), server))
 
     def look(self, shard: int) -> Record:
-        """Returns the shard's record now. Raises UnknownShard."""
+        """Returns the shard's record, as the pass then sees it. Raises UnknownShard."""
         parts = RecordParts()
         _check(LIBRARY.durkenzo_look(ctypes.byref(self._handle), shard, ctypes.byref(parts)))
         return Record.of(parts)

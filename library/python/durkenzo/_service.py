@@ -191,7 +191,7 @@ class ServicePass(Kept):
             check(LIBRARY.durkenzo_pass(ctypes.byref(service._handle), ctypes.byref(self._handle), server))
 
     def look(self, shard: int) -> Record:
-        """Returns the shard's record now. Raises UnknownShard."""
+        """Returns the shard's record, as the pass then sees it. Raises UnknownShard."""
         parts = RecordParts()
         check(LIBRARY.durkenzo_look(ctypes.byref(self._handle), shard, ctypes.byref(parts)))
         return Record.of(parts)

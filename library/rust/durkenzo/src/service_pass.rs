@@ -51,7 +51,7 @@ impl ServicePass {
         }
     }
 
-    /// The shard's record now.
+    /// The shard's record, as the pass then sees it.
     pub fn look(&mut self, shard: u16) -> Result<Record, UnknownShard> {
         // SAFETY: the handle is this pass's, which is borrowed alone.
         match unsafe { raw::durkenzo_look_word(&mut self.handle, shard) } {
