@@ -17,6 +17,8 @@ IDLE = min(10_000, resource.getrlimit(resource.RLIMIT_NOFILE)[1] - 500)
 # What an idle connection with half a command may take of memory.
 MOST_IDLE_BYTES = 2_000
 MEBIBYTE = 1 << 20
+# How many bytes a client reads that always waits for more, and for how many answers.
+READ, OUTSTANDING = 100_000_000, 100
 PIECES = [
     b"*", b"$", b"\r\n", b"\n", b"-1", b"9223372036854775808", b"\x00", b"\xff" * 9, b'"', b"*1024\r\n", b"$65536\r\n",
 ]  # fmt: skip
@@ -145,6 +147,31 @@ def who_never_reads_takes_no_memory(program):
         return f"{taken} bytes of requests taken, {max(grown, 0) >> 10} KiB more memory"
 
 
+def who_always_waits_for_more_takes_no_memory(program):
+    """It reads steadily, and its socket never takes all that it asked for."""
+    with served(program, "--threads", 1) as server, server.client() as client, socket.socket() as one:
+        client.ask("SET", "a", b"v" * 60_000)
+        length, before, most = len(client.raw("GET", "a")), server.memory(), 0
+        one.setsockopt(socket.SOL_SOCKET, socket.SO_RCVBUF, 4_096)
+        one.setsockopt(socket.IPPROTO_TCP, socket.TCP_MAXSEG, 1_000)
+        one.connect(("127.0.0.1", server.port))
+        asked = read = told = 0
+        while read < READ:
+            if asked - read < OUTSTANDING * length:
+                one.sendall(b"GET a\r\n" * OUTSTANDING)
+                asked += OUTSTANDING * length
+            more = one.recv(1 << 16)
+            assert more, f"the connection ended behind {read} bytes"
+            read += len(more)
+            # The thread has sent then what went, and done commands.
+            assert client.ask("PING") == "PONG"
+            if read > told:
+                told += 10 * MEBIBYTE
+                most = max(most, server.memory() - before)
+        assert most < 8 * MEBIBYTE, f"{most} bytes more"
+        return f"{read} bytes were read, {max(most, 0) >> 10} KiB more memory"
+
+
 def scans_leave_turns_to_others(program):
     """Many that are sent at once hold the thread for no longer than one."""
     with served(program, "--threads", 1) as server, server.client() as client:
@@ -243,6 +270,7 @@ TESTS = [
     each_bound_is_told,
     slow_senders_are_served,
     who_never_reads_takes_no_memory,
+    who_always_waits_for_more_takes_no_memory,
     scans_leave_turns_to_others,
     web_pages_change_nothing,
     transactions_are_bounded,

@@ -5,7 +5,7 @@ use std::io::Write;
 
 /// The most bytes of a reply: enough for as many pairs as a scan gives.
 pub const MAX_REPLY: usize = 8 << 20;
-/// Room that isn't kept once all was sent.
+/// Room that isn't kept once all was sent; and what was sent is kept no longer than until it is as much.
 const KEPT_ROOM: usize = 16 << 10;
 
 /// The version of the protocol in which a client is answered.
@@ -44,15 +44,20 @@ impl Replies {
         &self.bytes[self.sent..]
     }
 
-    /// Notes that so many more bytes were sent.
+    /// Notes that so many more bytes were sent; between commands, as marks of before are none then.
     pub fn note_sent(&mut self, count: usize) {
         self.sent += count;
-        if self.sent == self.bytes.len() {
+        let unsent = self.bytes.len() - self.sent;
+        if unsent == 0 {
             self.sent = 0;
             self.bytes.clear();
             if self.bytes.capacity() > KEPT_ROOM {
                 self.bytes = Vec::new();
             }
+        } else if self.sent >= KEPT_ROOM.max(unsent) {
+            // A client that always asks for more than it has read never has all. No more bytes move than were sent.
+            self.bytes.drain(..self.sent);
+            self.sent = 0;
         }
     }
 
@@ -229,5 +234,32 @@ mod tests {
         assert!(replies.take_errors().is_none() && replies.error_count() == 2);
         replies.note_sent(replies.unsent().len());
         assert!(replies.unsent().is_empty());
+    }
+
+    #[test]
+    fn what_was_sent_is_forgotten_where_more_is_always_unsent() {
+        let (mut replies, mut wanted, mut sent) = (Replies::default(), Vec::new(), Vec::new());
+        let mut most = 0;
+        for turn in 0..2_000 {
+            while replies.unsent().len() < 256 << 10 {
+                replies.bulk(&[turn as u8; 10_000]);
+                wanted.extend_from_slice(b"$10000\r\n");
+                wanted.extend_from_slice(&[turn as u8; 10_000]);
+                wanted.extend_from_slice(b"\r\n");
+            }
+            let count = 1 + turn * 17 % 30_000;
+            sent.extend_from_slice(&replies.unsent()[..count]);
+            replies.note_sent(count);
+            most = most.max(replies.bytes.capacity());
+        }
+        assert!(sent.len() > 16 << 20 && wanted.starts_with(&sent));
+        assert!(most < 2 << 20, "{most} bytes are kept");
+        // Of little unsent little is kept.
+        replies.note_sent(replies.unsent().len());
+        (0..9_000).for_each(|_| replies.ok());
+        replies.note_sent(KEPT_ROOM);
+        assert_eq!(replies.bytes.len(), 45_000);
+        replies.note_sent(20_000);
+        assert_eq!(replies.bytes.len(), replies.unsent().len());
     }
 }
