@@ -4,7 +4,7 @@ use std::fmt;
 use std::sync::{Arc, Condvar, Mutex, MutexGuard, PoisonError};
 
 /// How many works of a process are under way here, and how many bytes of answers wait, before it is read no further.
-const MOST_WORKS: usize = 1 << 16;
+pub(super) const MOST_WORKS: usize = 1 << 16;
 const MOST_BYTES: usize = 8 << 20;
 
 /// What another process is answered.

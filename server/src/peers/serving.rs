@@ -1,5 +1,5 @@
 //! How a process that connected is answered.
-use super::channel::{accept, Channel};
+use super::channel::{accept, Channel, End};
 use super::frame::{Frame, Told, Works};
 use super::greet::welcome;
 use super::inner::{locked, Inner};
@@ -14,7 +14,7 @@ use crate::io::ReplyTo;
 use crate::keyspace::Keyspace;
 use crate::resp::OwnedCommand;
 use durkenzo_driver::{NotDone, Step};
-use std::io::{self, ErrorKind, Read};
+use std::io::{self, ErrorKind, Read, Write};
 use std::net::TcpStream;
 use std::sync::atomic::Ordering;
 use std::sync::Arc;
@@ -66,18 +66,8 @@ impl Serving {
         self.inner.callers.note(self.caller, &end, &self.outbox);
         let (outbox, ending) = (self.outbox.clone(), end.clone());
         let name = format!("answers-{}", self.caller.server);
-        let writing = thread::Builder::new().name(name).spawn(move || {
-            while let Some(bytes) = outbox.take() {
-                if writer
-                    .write_all(&bytes)
-                    .and_then(|()| writer.flush())
-                    .is_err()
-                {
-                    break;
-                }
-            }
-            ending.end();
-        })?;
+        let writing = thread::Builder::new().name(name);
+        let writing = writing.spawn(move || write_all(&outbox, &mut *writer, &ending))?;
         let ended = self.read_all(&mut *reader);
         end.end();
         self.outbox.end();
@@ -171,5 +161,53 @@ impl Serving {
             teller.tell(Told::NotDone(NotDone::Stopped));
         }
         Ok(is_there)
+    }
+}
+
+/// Writes what is answered, until nobody is there any more.
+fn write_all(outbox: &Outbox, writer: &mut dyn Write, end: &End) {
+    while let Some(bytes) = outbox.take() {
+        let written = writer.write_all(&bytes).and_then(|()| writer.flush());
+        if written.is_err() {
+            break;
+        }
+    }
+    end.end();
+    // Who reads may wait for room, which nobody makes any more.
+    outbox.end();
+}
+
+#[cfg(test)]
+mod tests {
+    use super::super::outbox::MOST_WORKS;
+    use super::*;
+    use std::net::TcpListener;
+    use std::sync::mpsc::channel;
+
+    /// What nobody takes.
+    struct Broken;
+
+    impl Write for Broken {
+        fn write(&mut self, _: &[u8]) -> io::Result<usize> {
+            Err(ErrorKind::BrokenPipe.into())
+        }
+
+        fn flush(&mut self) -> io::Result<()> {
+            Ok(())
+        }
+    }
+
+    #[test]
+    fn who_waits_for_room_ends_where_nothing_is_taken() {
+        let listener = TcpListener::bind("127.0.0.1:0").unwrap();
+        let stream = TcpStream::connect(listener.local_addr().unwrap()).unwrap();
+        let (outbox, end) = (Arc::new(Outbox::default()), End::of(&stream).unwrap());
+        assert!(outbox.begin(MOST_WORKS + 2));
+        let ((tell, told), waiting) = (channel(), outbox.clone());
+        thread::spawn(move || tell.send(waiting.begin(1)));
+        Teller::new(outbox.clone(), 1, 0).tell(Told::Answer(b"+OK\r\n".to_vec()));
+        write_all(&outbox, &mut Broken, &end);
+        assert_eq!(told.recv_timeout(Duration::from_secs(10)), Ok(false));
+        assert!(!outbox.is_answering());
     }
 }
