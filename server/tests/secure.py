@@ -25,6 +25,9 @@ SEED = 20_261_126
 # Connections by TLS at a time, and what one may take of memory.
 MANY = 500
 MOST_BYTES = 64 << 10
+# Strangers at a time, and what one may take.
+STRANGERS = 60
+MOST_OF_A_STRANGER = 192 << 10
 # Of a value, and of how many in a pipeline.
 LONG, PIPED = 60_000, 200
 # For how long nobody may be held up by others.
@@ -237,6 +240,24 @@ def little_is_taken_before_a_password(program):
             assert answers[40:] == ["OK", "OK"] and {str(it).split()[0] for it in answers[:40]} == {"NOAUTH"}
 
 
+def strangers_who_read_nothing_take_little(program):
+    """Each asks for a mebibyte and more of answers, by few bytes, and its socket takes few of them."""
+    with environment(DURKENZO_PASSWORD="secret"), served(program) as server, contextlib.ExitStack() as stack:
+        before = server.memory()
+        for _ in range(STRANGERS):
+            one = stack.enter_context(socket.socket())
+            one.setsockopt(socket.SOL_SOCKET, socket.SO_RCVBUF, 4_096)
+            one.setsockopt(socket.IPPROTO_TCP, socket.TCP_MAXSEG, 1_000)
+            one.connect((HOST, server.port))
+            one.sendall(b"x\n" * 40_000)
+        time.sleep(0.5)
+        with server.client() as client:
+            assert client.ask("AUTH", "secret") == "OK"
+        each = (server.memory() - before) / STRANGERS
+        assert each < MOST_OF_A_STRANGER, f"{each:.0f} bytes each"
+        return f"{STRANGERS} strangers, {each:.0f} bytes each"
+
+
 def many_connections_by_tls(program):
     with served(program, *with_tls()) as server, contextlib.ExitStack() as stack:
         before, memory, tls = server.at_rest(), server.memory(), context()
@@ -364,6 +385,7 @@ def what_gives_no_safety_is_told(program):
 TESTS = [
     strangers_leave_room_for_others,
     little_is_taken_before_a_password,
+    strangers_who_read_nothing_take_little,
     roles_are_kept_apart,
     one_password_alone_keeps_the_control,
     what_gives_no_safety_is_told,

@@ -65,7 +65,7 @@ impl Executor {
         // What the next command does, and the shard of its keys, where that was found out already.
         let mut next = None;
         let stop = loop {
-            if replies.unsent().len() >= MOST_UNSENT {
+            if replies.unsent().len() >= session.most_unsent(MOST_UNSENT) {
                 break Stop::Full;
             }
             match self.turn(next, session, &mut reader, replies) {
@@ -403,6 +403,7 @@ mod tests {
     use crate::body::Memory;
     use crate::chance::Chance;
     use crate::cluster::Configuration;
+    use crate::command::MOST_OF_A_STRANGER;
     use crate::keyspace::Rule;
     use crate::settings::MAX_CEILING;
     use crate::stats::Stats;
@@ -693,6 +694,24 @@ mod tests {
             assert_eq!(text, "-NOAUTH Authentication required. +OK");
             assert!(matches!(stop, Stop::End), "{stop:?}");
         }
+    }
+
+    #[test]
+    fn who_gave_no_password_has_few_bytes_of_answers() {
+        let (_, mut executor) = begun();
+        let lines = "GET a\n".repeat(MOST_OF_A_STRANGER);
+        let (mut session, mut replies) = (Session::new(1, false), Replies::default());
+        let (done, stop) = executor.run(&mut session, lines.as_bytes(), &mut replies);
+        let held = replies.unsent().len();
+        assert!(
+            matches!(stop, Stop::Full) && held >= MOST_OF_A_STRANGER,
+            "{stop:?}"
+        );
+        assert!(held < MOST_OF_A_STRANGER + 100, "{held} bytes");
+        let rest = &lines.as_bytes()[done..];
+        assert_eq!(executor.run(&mut session, rest, &mut replies).0, 0);
+        session.is_known = true;
+        assert_eq!(executor.run(&mut session, rest, &mut replies).0, rest.len());
     }
 
     #[test]

@@ -28,5 +28,5 @@ pub use executor::Executor;
 pub use fault::{name_of, BadKey, Fault};
 pub use info::memory_used;
 pub use role::Role;
-pub use session::Session;
+pub use session::{Session, MOST_OF_A_STRANGER};
 pub use stop::Stop;

@@ -6,6 +6,10 @@ use super::Fault;
 use crate::resp::{Command, Replies};
 use crate::safety::Safety;
 
+/// How many bytes a client that gave no password yet may have in a command, and unsent of answers before no further
+/// command of it is done.
+pub const MOST_OF_A_STRANGER: usize = 16 << 10;
+
 /// What a connection's earlier commands mean for its later ones.
 #[derive(Debug)]
 pub struct Session {
@@ -47,6 +51,15 @@ impl Session {
             transaction: None,
             part: Part::default(),
             cursors: None,
+        }
+    }
+
+    /// How many bytes may be unsent before no further command is done, where it is so many of one that is known.
+    #[inline]
+    pub fn most_unsent(&self, of_known: usize) -> usize {
+        match self.is_known {
+            true => of_known,
+            false => MOST_OF_A_STRANGER.min(of_known),
         }
     }
 

@@ -1,5 +1,5 @@
 use super::stream::Stream;
-use crate::command::{Asked, Executor, Session, Stop};
+use crate::command::{Asked, Executor, Session, Stop, MOST_OF_A_STRANGER};
 use crate::resp::{OwnedCommand, Replies};
 use crate::stats::ErrorCounts;
 use crate::wait::Wait;
@@ -7,12 +7,10 @@ use mio::event::Event;
 use std::io::{self, ErrorKind};
 use std::time::{Duration, Instant};
 
-/// How many bytes are unsent before nothing more is read.
+/// How many bytes of a client that is known are unsent before nothing more is read.
 const MOST_UNSENT: usize = 256 << 10;
 /// How long a command waits at least for a shard that other threads have, of which each has it for a short time.
 const LEAST_BUSY_WAIT: Duration = Duration::from_secs(1);
-/// The most bytes of a command of a client that gave no password yet.
-const MOST_OF_A_STRANGER: usize = 16 << 10;
 
 /// What a client is answered that sends more than that: its words are those of Redis.
 const NOT_YET: &str = "ERR Protocol error: unauthenticated bulk length";
@@ -164,11 +162,11 @@ impl Connection {
         wait: Duration,
     ) -> io::Result<Turn> {
         self.send(executor)?;
-        let unsent = self.replies.unsent().len();
+        let is_full = self.replies.unsent().len() >= self.session.most_unsent(MOST_UNSENT);
         if self.is_last && self.is_sent() {
             return Ok(Turn::Over);
         }
-        if self.is_last || self.owed_since.is_some() || unsent > MOST_UNSENT {
+        if self.is_last || self.owed_since.is_some() || is_full {
             // A command that waited is tried again once the client has read more, of which the socket tells.
             self.waits_since = None;
             return Ok(Turn::Rest);
