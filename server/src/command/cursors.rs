@@ -1,4 +1,5 @@
 use super::latest::{Latest, Position};
+use std::hash::{BuildHasher, Hasher, RandomState};
 use std::sync::{Arc, Mutex, PoisonError};
 
 /// How many cursors of all connections are known at a time; older ones are forgotten.
@@ -6,16 +7,31 @@ const MOST: usize = 4_096;
 /// How many of each connection are known besides.
 const MOST_OWN: usize = 16;
 
+/// Below this the first cursor is: those behind it stay below 2^53 then, for clients whose numbers are no greater.
+const MOST_FIRST: u64 = 1 << 52;
+
 /// Where the cursors of SCAN stand. Redis' cursors are numbers, and keys of an ordered map have none.
-#[derive(Debug, Default)]
+#[derive(Debug)]
 pub struct Cursors {
     known: Mutex<Known>,
 }
 
-#[derive(Debug, Default)]
+#[derive(Debug)]
 struct Known {
     last: u64,
     latest: Latest,
+}
+
+impl Default for Cursors {
+    /// Those of a process, none of which was given. They begin by chance, so that one that another process gave, or an
+    /// earlier one of this server, is hardly ever taken for one of these.
+    fn default() -> Cursors {
+        let by_chance = RandomState::new().build_hasher().finish();
+        let (last, latest) = (by_chance % MOST_FIRST, Latest::default());
+        Cursors {
+            known: Mutex::new(Known { last, latest }),
+        }
+    }
 }
 
 /// The cursors that a connection was given last, which those of others don't have forgotten.
@@ -64,13 +80,14 @@ mod tests {
             OwnCursors::default(),
             OwnCursors::default(),
         );
-        for shard in 0..=MOST as u16 {
+        let first = cursors.keep(position(0), &one);
+        for shard in 1..=MOST as u16 {
             cursors.keep(position(shard), &one);
         }
         assert_eq!(cursors.position(0, &other), Some(position(0)));
-        assert_eq!(cursors.position(1, &other), None);
-        assert_eq!(cursors.position(2, &other), Some(position(1)));
-        assert_eq!(cursors.position(9_999, &other), None);
+        assert_eq!(cursors.position(first, &other), None);
+        assert_eq!(cursors.position(first + 1, &other), Some(position(1)));
+        assert_eq!(cursors.position(first + 9_999, &other), None);
     }
 
     #[test]
@@ -80,14 +97,33 @@ mod tests {
             OwnCursors::default(),
             OwnCursors::default(),
         );
-        for shard in 0..=MOST_OWN as u16 {
+        let first = cursors.keep(position(0), &one);
+        for shard in 1..=MOST_OWN as u16 {
             cursors.keep(position(shard), &one);
         }
         for _ in 0..MOST {
             cursors.keep(position(9), &other);
         }
-        assert_eq!(cursors.position(1, &one), None);
-        assert_eq!(cursors.position(2, &one), Some(position(1)));
-        assert_eq!(cursors.position(2, &other), None);
+        assert_eq!(cursors.position(first, &one), None);
+        assert_eq!(cursors.position(first + 1, &one), Some(position(1)));
+        assert_eq!(cursors.position(first + 1, &other), None);
+    }
+
+    #[test]
+    fn those_of_another_process_are_none_here() {
+        let (here, there) = (Cursors::default(), Cursors::default());
+        let own = OwnCursors::default();
+        let (mut given, mut taken) = (Vec::new(), Vec::new());
+        for shard in 0..100 {
+            given.push(there.keep(position(shard), &own));
+            taken.push(here.keep(position(shard), &OwnCursors::default()));
+        }
+        assert!(given
+            .iter()
+            .chain(&taken)
+            .all(|it| (1..1 << 53).contains(it)));
+        let own = OwnCursors::default();
+        assert!(given.iter().all(|it| here.position(*it, &own).is_none()));
+        assert!(taken.iter().all(|it| here.position(*it, &own).is_some()));
     }
 }
