@@ -29,8 +29,9 @@ impl Observer {
         })
     }
 
-    /// Looks at the board that took the place of the one before, if one did.
-    fn renew(&mut self) {
+    /// Looks at the board that took the place of the one before, if one did. Until then that one is kept, with all that
+    /// its shards hold.
+    pub fn renew(&mut self) {
         if self.version == self.cluster.board_version() {
             return;
         }

@@ -125,6 +125,28 @@ impl Controller {
             self.cluster.presence.set(server, Standing::Up);
         }
         self.mover = Mover::new(self.cluster.clone());
+        self.observer.renew();
         self.homes.clear();
+    }
+}
+
+#[cfg(test)]
+mod tests {
+    use super::*;
+    use crate::body::{Memory, Shard, Storage};
+    use crate::cluster::{Cluster, Configuration};
+    use crate::keyspace::Rule;
+    use std::sync::Arc;
+
+    #[test]
+    fn the_control_keeps_no_board_whose_place_another_one_took() {
+        let configuration = Configuration::new(Rule::Hash(1));
+        let cluster = Cluster::new(configuration, Box::new(Memory)).unwrap();
+        let cluster = Arc::new(cluster);
+        let mut control = Controller::new(cluster.clone()).unwrap();
+        let bodies: Vec<Shard> = vec![Memory.open(0).unwrap()];
+        let (before, opened) = (cluster.board(), cluster.open(&[], bodies).unwrap());
+        control.take_board(opened);
+        assert!(before.into_bodies().is_ok());
     }
 }

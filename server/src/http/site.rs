@@ -3,6 +3,7 @@ use crate::cluster::Cluster;
 use crate::observer::Observer;
 use crate::run::Fault;
 use crate::snapshot::Snapshot;
+use durkenzo::PassFault;
 use hyper::header::{CACHE_CONTROL, CONTENT_TYPE};
 use hyper::server::conn::Http;
 use hyper::service::service_fn;
@@ -11,7 +12,7 @@ use std::collections::VecDeque;
 use std::convert::Infallible;
 use std::error::Error;
 use std::net::SocketAddr;
-use std::sync::{Arc, Mutex, PoisonError};
+use std::sync::Arc;
 use std::time::Duration;
 use tokio::io::{AsyncRead, AsyncWrite};
 use tokio::net::{TcpListener, TcpStream};
@@ -31,13 +32,11 @@ const PAUSE: Duration = Duration::from_millis(20);
 /// What a request is answered from.
 struct Site {
     cluster: Arc<Cluster>,
-    observer: Mutex<Observer>,
 }
 
 /// Serves there for as long as it is polled.
 pub async fn serve(cluster: Arc<Cluster>, address: SocketAddr) -> Result<(), Fault> {
-    let observer = Mutex::new(Observer::new(cluster.clone())?);
-    let site = Arc::new(Site { cluster, observer });
+    let site = Arc::new(Site { cluster });
     let told = |error| format!("{address}: {error}; --http-port takes another port");
     let listener = TcpListener::bind(address).await.map_err(told)?;
     tracing::info!(address = %listener.local_addr()?, "page, /metrics and /healthz");
@@ -104,8 +103,8 @@ impl Site {
         }
         match request.uri().path() {
             "/" => told(StatusCode::OK, "text/html; charset=utf-8", PAGE),
-            "/state.json" => self.state(),
-            "/metrics" => self.metrics(),
+            "/state.json" => self.state().unwrap_or_else(|it| failed(&*it)),
+            "/metrics" => self.metrics().unwrap_or_else(|it| failed(&*it)),
             "/healthz" => told(StatusCode::OK, TEXT, "ok\n"),
             _ => told(
                 StatusCode::NOT_FOUND,
@@ -115,23 +114,19 @@ impl Site {
         }
     }
 
-    fn snapshot(&self) -> Snapshot {
-        let mut observer = self.observer.lock().unwrap_or_else(PoisonError::into_inner);
-        observer.snapshot()
+    /// How all stands. Who looked is gone then, so that no earlier board is kept for it.
+    fn snapshot(&self) -> Result<Snapshot, PassFault> {
+        Observer::new(self.cluster.clone()).map(|mut it| it.snapshot())
     }
 
-    fn state(&self) -> Response<Body> {
-        match serde_json::to_vec(&self.snapshot()) {
-            Ok(state) => told(StatusCode::OK, "application/json", state),
-            Err(error) => failed(&error),
-        }
+    fn state(&self) -> Result<Response<Body>, Box<dyn Error>> {
+        let state = serde_json::to_vec(&self.snapshot()?)?;
+        Ok(told(StatusCode::OK, "application/json", state))
     }
 
-    fn metrics(&self) -> Response<Body> {
-        match metrics::text(&self.cluster, &self.snapshot()) {
-            Ok(text) => told(StatusCode::OK, "text/plain; version=0.0.4", text),
-            Err(error) => failed(&error),
-        }
+    fn metrics(&self) -> Result<Response<Body>, Box<dyn Error>> {
+        let text = metrics::text(&self.cluster, &self.snapshot()?)?;
+        Ok(told(StatusCode::OK, "text/plain; version=0.0.4", text))
     }
 }
 
@@ -153,4 +148,27 @@ fn told(status: StatusCode, kind: &'static str, body: impl Into<Body>) -> Respon
         hyper::header::HeaderValue::from_static("no-store"),
     );
     response
+}
+
+#[cfg(test)]
+mod tests {
+    use super::*;
+    use crate::body::{Memory, Shard, Storage};
+    use crate::cluster::Configuration;
+    use crate::keyspace::Rule;
+
+    #[test]
+    fn no_earlier_board_is_kept_for_the_page() {
+        let configuration = Configuration::new(Rule::Hash(1));
+        let cluster = Cluster::new(configuration, Box::new(Memory)).unwrap();
+        let cluster = Arc::new(cluster);
+        let site = Site {
+            cluster: cluster.clone(),
+        };
+        assert_eq!(site.snapshot().unwrap().shards.len(), 1);
+        let bodies: Vec<Shard> = vec![Memory.open(0).unwrap()];
+        let (before, opened) = (cluster.board(), cluster.open(&[], bodies).unwrap());
+        cluster.take(opened, &[0]);
+        assert!(before.into_bodies().is_ok());
+    }
 }
