@@ -17,6 +17,9 @@ IDLE = min(10_000, resource.getrlimit(resource.RLIMIT_NOFILE)[1] - 500)
 # What an idle connection with half a command may take of memory.
 MOST_IDLE_BYTES = 2_000
 MEBIBYTE = 1 << 20
+# What is said of bounds behind Redis' words.
+BYTES = b": a command has at most 1048576 bytes"
+ARGUMENTS = b": a command has at most 1024 arguments, its name among them"
 # How many bytes a client reads that always waits for more, and for how many answers.
 READ, OUTSTANDING = 100_000_000, 100
 PIECES = [
@@ -82,11 +85,12 @@ def each_bound_is_told(program):
     with served(program) as server:
         for bytes_, wanted in [
             (b"*1\r\n$9223372036854775808\r\n", b"-ERR Protocol error: invalid bulk length"),
-            (b"*1\r\n$1048577\r\n", b"-ERR Protocol error: invalid bulk length"),
-            (b"*9223372036854775807\r\n", b"-ERR Protocol error: invalid multibulk length"),
-            (b"*1025\r\n", b"-ERR Protocol error: invalid multibulk length"),
+            (b"*1\r\n$1048577\r\n", b"-ERR Protocol error: invalid bulk length" + BYTES),
+            (b"*9223372036854775808\r\n", b"-ERR Protocol error: invalid multibulk length"),
+            (b"*9223372036854775807\r\n", b"-ERR Protocol error: invalid multibulk length" + ARGUMENTS),
+            (b"*1025\r\n", b"-ERR Protocol error: invalid multibulk length" + ARGUMENTS),
             (b"*1\r\nGET\r\n", b"-ERR Protocol error: expected '$', got 'G'"),
-            (b"x" * 70_000, b"-ERR Protocol error: too big inline request"),
+            (b"x" * 70_000, b"-ERR Protocol error: too big inline request: it has at most 65536 bytes"),
             (b'SET a "b\r\n', b"-ERR Protocol error: unbalanced quotes in request"),
             (b"*9\r\n" + b"$200000\r\n" + b"v" * 200_000 + b"\r\n", None),
         ]:

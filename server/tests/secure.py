@@ -234,7 +234,8 @@ def little_is_taken_before_a_password(program):
         for bytes_ in (b"*2\r\n$4\r\nAUTH\r\n$20000\r\n", b"AUTH " + b"x" * 20_000):
             with socket.create_connection((HOST, server.port), 10) as one:
                 one.sendall(bytes_)
-                assert one.recv(100) == b"-ERR Protocol error: unauthenticated bulk length\r\n" and is_ended(one)
+                told = b": before AUTH a command has at most 16384 bytes\r\n"
+                assert one.recv(200) == b"-ERR Protocol error: unauthenticated bulk length" + told and is_ended(one)
         with server.client() as client:
             answers = client.piped([("SET", "a", "b" * 9_000)] * 40 + [("AUTH", "secret"), ("SET", "a", "b" * 40_000)])
             assert answers[40:] == ["OK", "OK"] and {str(it).split()[0] for it in answers[:40]} == {"NOAUTH"}

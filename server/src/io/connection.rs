@@ -12,7 +12,8 @@ const MOST_UNSENT: usize = 256 << 10;
 /// How long a command waits at least for a shard that other threads have, of which each has it for a short time.
 const LEAST_BUSY_WAIT: Duration = Duration::from_secs(1);
 
-/// What a client is answered that sends more than that: its words are those of Redis.
+/// What a client is answered first that gave no password yet, and sends a larger command than it may: the words are
+/// those of Redis.
 const NOT_YET: &str = "ERR Protocol error: unauthenticated bulk length";
 
 /// What comes next for a connection after its turn.
@@ -197,7 +198,9 @@ impl Connection {
         self.needs = 1;
         match stop {
             Stop::Incomplete(needs) if self.is_too_much(needs) => {
-                self.replies.error(NOT_YET);
+                let bound = format!("a command has at most {MOST_OF_A_STRANGER} bytes");
+                self.replies
+                    .error(format!("{NOT_YET}: before AUTH {bound}"));
                 self.is_last = true;
                 Turn::Again
             }

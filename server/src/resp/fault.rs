@@ -1,15 +1,20 @@
+use super::{MAX_ARGUMENTS, MAX_COMMAND, MAX_LINE};
 use std::error::Error;
 use std::fmt;
 
 /// Why bytes are no command; the connection ends by it, as nobody knows where the next command begins.
 #[derive(Clone, Copy, Debug, PartialEq, Eq)]
 pub enum ProtocolFault {
-    /// The number of arguments is no number, or too large.
+    /// The number of arguments is no number.
     ArrayLength,
+    /// There are too many arguments.
+    ManyArguments,
     /// An argument has no length before it, but this byte.
     NoLength(u8),
-    /// The length of an argument is no number, or too large.
+    /// The length of an argument is no number.
     ArgumentLength,
+    /// An argument has too many bytes.
+    LongArgument,
     /// The arguments have too many bytes.
     TooLarge,
     /// An argument isn't followed by a line's end.
@@ -20,18 +25,31 @@ pub enum ProtocolFault {
     Quotes,
 }
 
+/// In Redis' words where Redis has the case, and behind them the bound, where one was exceeded.
 impl fmt::Display for ProtocolFault {
     fn fmt(&self, f: &mut fmt::Formatter<'_>) -> fmt::Result {
         f.write_str("Protocol error: ")?;
         match self {
             ProtocolFault::ArrayLength => f.write_str("invalid multibulk length"),
+            ProtocolFault::ManyArguments => write!(
+                f,
+                "invalid multibulk length: a command has at most {MAX_ARGUMENTS} arguments, its name among them"
+            ),
             ProtocolFault::NoLength(byte) => {
                 write!(f, "expected '$', got '{}'", byte.escape_ascii())
             }
             ProtocolFault::ArgumentLength => f.write_str("invalid bulk length"),
-            ProtocolFault::TooLarge => f.write_str("too big command"),
+            ProtocolFault::LongArgument => write!(
+                f,
+                "invalid bulk length: a command has at most {MAX_COMMAND} bytes"
+            ),
+            ProtocolFault::TooLarge => {
+                write!(f, "too big command: it has at most {MAX_COMMAND} bytes")
+            }
             ProtocolFault::NoLineEnd => f.write_str("expected CRLF behind an argument"),
-            ProtocolFault::LongLine => f.write_str("too big inline request"),
+            ProtocolFault::LongLine => {
+                write!(f, "too big inline request: it has at most {MAX_LINE} bytes")
+            }
             ProtocolFault::Quotes => f.write_str("unbalanced quotes in request"),
         }
     }

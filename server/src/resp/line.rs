@@ -12,7 +12,7 @@ pub(super) fn words(line: &[u8], arguments: &mut Arguments) -> Result<(), Protoc
         }
         count += 1;
         if count > MAX_ARGUMENTS {
-            return Err(ProtocolFault::ArrayLength);
+            return Err(ProtocolFault::ManyArguments);
         }
         let start = arguments.word_start();
         rest = word(rest, arguments)?;

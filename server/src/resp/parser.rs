@@ -66,7 +66,7 @@ fn any_count(input: &[u8]) -> Result<(usize, usize), Unparsed> {
     // A number below 0 is none, as in Redis.
     let count = usize::try_from(count).unwrap_or(0);
     if count > MAX_ARGUMENTS {
-        return Err(ProtocolFault::ArrayLength.into());
+        return Err(ProtocolFault::ManyArguments.into());
     }
     Ok((count, at))
 }
@@ -105,10 +105,10 @@ fn parse_argument(input: &[u8], at: usize, arguments: &mut Arguments) -> Result<
         Some(other) => return Err(ProtocolFault::NoLength(*other).into()),
     }
     let (length, start) = length(input, at + 1, ProtocolFault::ArgumentLength)?;
-    let length = usize::try_from(length)
-        .ok()
-        .filter(|it| *it <= MAX_COMMAND)
-        .ok_or(ProtocolFault::ArgumentLength)?;
+    let length = usize::try_from(length).map_err(|_| ProtocolFault::ArgumentLength)?;
+    if length > MAX_COMMAND {
+        return Err(ProtocolFault::LongArgument.into());
+    }
     let end = start + length;
     let next = end + LINE_END.len();
     if next > MAX_COMMAND {
@@ -205,11 +205,12 @@ mod tests {
         for (input, fault) in [
             (&b"*9223372036854775808\r\n"[..], ArrayLength),
             (b"*99999999999999999999999999", ArrayLength),
-            (b"*1025\r\n", ArrayLength),
+            (b"*9223372036854775807\r\n", ManyArguments),
+            (b"*1025\r\n", ManyArguments),
             (b"*x\r\n", ArrayLength),
             (b"*1\r\n$9223372036854775808\r\n", ArgumentLength),
-            (b"*1\r\n$9223372036854775807\r\n", ArgumentLength),
-            (b"*1\r\n$1048577\r\n", ArgumentLength),
+            (b"*1\r\n$9223372036854775807\r\n", LongArgument),
+            (b"*1\r\n$1048577\r\n", LongArgument),
             (b"*1\r\n$1048576\r\n", TooLarge),
             (b"*1\r\n$-1\r\n", ArgumentLength),
             (b"*1\r\n$1\n", ArgumentLength),
