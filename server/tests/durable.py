@@ -5,6 +5,7 @@
 
 A server that is killed at random under load, so often: tools/kills."""
 import contextlib
+import itertools
 import pathlib
 import random
 import re
@@ -82,6 +83,23 @@ def commands_answer_as_in_memory(program):
                 assert str(told) == str(wanted), (words, told, wanted)
             for words in (("SM", "AT", 1, "GET", "a"), ("SM", "PLAN"), ("SM", "DUMP", "x"), ("SM", "LOAD", "x")):
                 assert "NOTDURABLE" in str(answer_of(one, words)).upper(), words
+
+
+def transactions_have_a_bound(program):
+    """That of memory too, and others by which nothing changes."""
+    sets = [("MSET", *itertools.chain(*((f"{{t}}{row}:{it}", "x") for it in range(511)))) for row in range(5)]
+    counts = [("INCR", f"{{t}}{it}") for it in range(5)]
+    with folder() as data, over(program, data) as server, server.client() as client:
+        for commands, told in (
+            ([("PING",)] * 1_025, "EXECABORT"),
+            (sets, "QUEUEFULL nothing has changed, .* at most 4096 arguments: "),
+            (sets[:4] + counts, "QUEUEFULL nothing has changed, .* at most 2048 writes, "),
+        ):
+            client.piped([("MULTI",), *commands])
+            answer = answer_of(client, ("EXEC",))
+            assert re.match(told, str(answer)) and client.ask("DBSIZE") == 0, answer
+        client.piped([("MULTI",), *sets[:4], *counts[:4]])
+        assert client.ask("EXEC") == ["OK"] * 4 + [1] * 4 and client.ask("DBSIZE") == 2_048
 
 
 def answers_have_a_bound(program):
@@ -515,6 +533,7 @@ def answers(client, key):
 TESTS = [
     restarts_keep_all,
     commands_answer_as_in_memory,
+    transactions_have_a_bound,
     answers_have_a_bound,
     a_refusal_of_one_key_hides_no_write_of_another,
     commands_of_a_transaction_are_counted_once,

@@ -53,6 +53,10 @@ pub enum Fault {
     NotQueued,
     /// The transaction has too many commands or bytes.
     QueueFull,
+    /// Its commands have more than so many arguments, where data outlives the process.
+    QueueOfMany(usize),
+    /// It makes more than so many writes, where data outlives the process.
+    QueueOfWrites(usize),
     /// The client has to give the password first.
     NoAuth,
     /// Another password than the server's.
@@ -166,6 +170,8 @@ const IN_PART: &str =
 const NO_EXPIRY: &str = "NOEXPIRY keys don't expire here: SET takes no EX, PX, EXAT and PXAT";
 const QUEUE_FULL: &str =
     "QUEUEFULL a transaction has at most 1024 commands, of 1 MiB in all: send it in parts";
+const QUEUE_OF: &str =
+    "QUEUEFULL nothing has changed, as where data outlives the process a transaction";
 const NO_PASSWORD: &str =
     "ERR AUTH <password> called without any password configured for the default user. \
      Are you sure your configuration is correct?";
@@ -181,46 +187,66 @@ const WRONG_PASSWORD: &str = "WRONGPASS invalid username-password pair or user i
 
 impl fmt::Display for Fault {
     fn fmt(&self, f: &mut fmt::Formatter<'_>) -> fmt::Result {
-        match self {
-            Fault::UnknownCommand(name, shown) => unknown(f, name, shown),
-            Fault::WrongArity(name) => wrong_arity(f, name),
-            Fault::UnknownSubcommand(name, word) => unknown_subcommand(f, name, word),
-            Fault::NoPermission(name) => no_permission(f, name),
-            Fault::NoMulti(name) => write!(f, "ERR {name} without MULTI"),
-            Fault::NotAdmitted(fault) => not_admitted(f, *fault),
-            Fault::NotDurable(name) => write!(
-                f,
-                "NOTDURABLE {name} isn't there where data outlives the process"
-            ),
-            Fault::NotDone(shard, why) => not_done(f, *shard, why),
-            Fault::InPart => f.write_str(IN_PART),
-            Fault::TooLong => write!(f, "TOOLONG a value has at most {MAX_TEXT} bytes"),
-            Fault::LongPattern => write!(f, "TOOLONG a pattern has at most {MAX_PATTERN} bytes"),
-            Fault::BadKey => write!(f, "BADKEY a key has 1 to {MAX_KEY} bytes"),
-            Fault::ReplyTooLarge => write!(f, "TOOLARGE a reply has at most {MAX_REPLY} bytes"),
-            Fault::Syntax => f.write_str("ERR syntax error"),
-            Fault::NoExpiry => f.write_str(NO_EXPIRY),
-            Fault::NotInteger => f.write_str("ERR value is not an integer or out of range"),
-            Fault::Overflow => f.write_str("ERR increment or decrement would overflow"),
-            Fault::NoOpposite => f.write_str("ERR decrement would overflow"),
-            Fault::NoMemory => f.write_str(NO_MEMORY),
-            Fault::CrossShard => f.write_str(CROSS_SHARD),
-            Fault::BadCursor => f.write_str("ERR invalid cursor"),
-            Fault::NestedMulti => f.write_str("ERR MULTI calls can not be nested"),
-            Fault::Aborted => f.write_str(ABORTED),
-            Fault::NotQueued => f.write_str("ERR Command not allowed inside a transaction"),
-            Fault::QueueFull => f.write_str(QUEUE_FULL),
-            Fault::NoAuth => f.write_str("NOAUTH Authentication required."),
-            Fault::WrongPassword => f.write_str(WRONG_PASSWORD),
-            Fault::NoPassword => f.write_str(NO_PASSWORD),
-            Fault::BadDatabase => f.write_str("ERR DB index is out of range"),
-            Fault::BadProtocol => f.write_str("NOPROTO unsupported protocol version"),
-            Fault::BadName => f.write_str(BAD_NAME),
-            Fault::UnknownServer => f.write_str(UNKNOWN_SERVER),
-            Fault::NotNumbered => f.write_str(NOT_NUMBERED),
-            Fault::BadNumber => bad_number(f),
-            Fault::NoKeys => f.write_str("ERR SM AT takes a command with keys of one shard"),
+        let text = match self {
+            Fault::InPart => IN_PART,
+            Fault::Syntax => "ERR syntax error",
+            Fault::NoExpiry => NO_EXPIRY,
+            Fault::NotInteger => "ERR value is not an integer or out of range",
+            Fault::Overflow => "ERR increment or decrement would overflow",
+            Fault::NoOpposite => "ERR decrement would overflow",
+            Fault::NoMemory => NO_MEMORY,
+            Fault::CrossShard => CROSS_SHARD,
+            Fault::BadCursor => "ERR invalid cursor",
+            Fault::NestedMulti => "ERR MULTI calls can not be nested",
+            Fault::Aborted => ABORTED,
+            Fault::NotQueued => "ERR Command not allowed inside a transaction",
+            Fault::QueueFull => QUEUE_FULL,
+            Fault::NoAuth => "NOAUTH Authentication required.",
+            Fault::WrongPassword => WRONG_PASSWORD,
+            Fault::NoPassword => NO_PASSWORD,
+            Fault::BadDatabase => "ERR DB index is out of range",
+            Fault::BadProtocol => "NOPROTO unsupported protocol version",
+            Fault::BadName => BAD_NAME,
+            Fault::UnknownServer => UNKNOWN_SERVER,
+            Fault::NotNumbered => NOT_NUMBERED,
+            Fault::NoKeys => "ERR SM AT takes a command with keys of one shard",
+            other => return composed(f, other),
+        };
+        f.write_str(text)
+    }
+}
+
+/// One of which it depends what is said.
+fn composed(f: &mut fmt::Formatter<'_>, fault: &Fault) -> fmt::Result {
+    match fault {
+        Fault::UnknownCommand(name, shown) => unknown(f, name, shown),
+        Fault::WrongArity(name) => wrong_arity(f, name),
+        Fault::UnknownSubcommand(name, word) => unknown_subcommand(f, name, word),
+        Fault::NoPermission(name) => no_permission(f, name),
+        Fault::NoMulti(name) => write!(f, "ERR {name} without MULTI"),
+        Fault::NotAdmitted(fault) => not_admitted(f, *fault),
+        Fault::NotDurable(name) => write!(
+            f,
+            "NOTDURABLE {name} isn't there where data outlives the process"
+        ),
+        Fault::NotDone(shard, why) => not_done(f, *shard, why),
+        Fault::TooLong => write!(f, "TOOLONG a value has at most {MAX_TEXT} bytes"),
+        Fault::LongPattern => write!(f, "TOOLONG a pattern has at most {MAX_PATTERN} bytes"),
+        Fault::BadKey => write!(f, "BADKEY a key has 1 to {MAX_KEY} bytes"),
+        Fault::ReplyTooLarge => write!(f, "TOOLARGE a reply has at most {MAX_REPLY} bytes"),
+        Fault::QueueOfMany(most) => {
+            let are = "'s commands with keys have at most";
+            write!(f, "{QUEUE_OF}{are} {most} arguments: send it in parts")
         }
+        Fault::QueueOfWrites(most) => {
+            let may = "and a key may take two";
+            write!(
+                f,
+                "{QUEUE_OF} makes at most {most} writes, {may}: send it in parts"
+            )
+        }
+        Fault::BadNumber => bad_number(f),
+        other => write!(f, "ERR {}", name_of(other)),
     }
 }
 

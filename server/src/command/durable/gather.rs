@@ -19,7 +19,7 @@ use durkenzo_driver::Numbered;
 /// How many texts are read at once at most, so that others come to the shard, and the answers have a bound: that of
 /// one command may have more.
 const MOST_AT_ONCE: usize = 128;
-/// How many arguments a transaction's commands have.
+/// How many arguments a transaction's commands have at most, beside their names.
 const MOST_ARGUMENTS: usize = 4_096;
 
 /// What the next commands ask of shards whose data outlives the process, and goes behind these; none where the next one
@@ -139,7 +139,7 @@ fn asked_by(
             };
             let shard = transaction.shard().unwrap_or_default();
             if transaction.arguments() > MOST_ARGUMENTS {
-                return Err(Fault::QueueFull);
+                return Err(Fault::QueueOfMany(MOST_ARGUMENTS));
             }
             Ok(Some(Asked::together(protocol, shard, transaction)))
         }

@@ -9,7 +9,7 @@ use crate::resp::Replies;
 use durkenzo_driver::{Begin, Key, NotDone, Outcome, Reply, Request, Step, Work};
 use std::sync::Arc;
 
-/// How many requests a transaction's writes may be.
+/// How many requests a transaction's writes may be: of a key one or two.
 const MOST_WRITES: usize = 2_048;
 
 /// The commands of EXEC, whose keys are all of one shard: they are done on what these held, and written at once.
@@ -56,7 +56,7 @@ impl Together {
         let requests = changes(&mut body, &self.keys, held);
         if requests.len() > MOST_WRITES {
             answer.take_back(mark);
-            return Err(Fault::QueueFull);
+            return Err(Fault::QueueOfWrites(MOST_WRITES));
         }
         Ok(requests)
     }
