@@ -135,6 +135,14 @@ SCAN 0 COUNT x
 SCAN 0 NOSUCH 1
 SCAN 0 MATCH nosuch:* COUNT 1000
 HELLO 4
+HELLO -1
+HELLO abc
+HELLO 02
+HELLO 99999999999999999999
+HELLO 3 NOSUCH
+HELLO 2 setname
+HELLO 3 AUTH default
+HELLO abc NOSUCH
 """
 # What only one of them has; each is answered by what begins so.
 OWN = [
@@ -199,6 +207,23 @@ def answers_are_those_of_redis(program):
                     ours.raw("DEL", key)
     assert not differences, "\n".join(differences)
     return f"{count} answers"
+
+
+def texts_for_people_are_told_as_by_redis(program):
+    """What INFO tells differs, and not how."""
+    with redis_served() as other, served(program) as server:
+        for port in (other, server.port):
+            with Client(port) as client:
+                assert client.raw("INFO", "server").startswith(b"$")
+                by_hello(client, 3)
+                told = client.raw("INFO", "server")
+                length, text = told.split(b"\r\n", 1)
+                assert length.startswith(b"=") and int(length[1:]) + 2 == len(text), told[:99]
+                assert text.startswith(b"txt:# Server\r\n"), told[:99]
+                client.raw("MULTI")
+                assert client.raw("HELLO", "") and client.raw("INFO", "server") == b"+QUEUED\r\n"
+                errors = b"-ERR Protocol version is not an integer or out of range\r\n"
+                assert client.raw("EXEC").startswith(b"*2\r\n" + errors + b"=")
 
 
 def who_quits_is_answered_and_cut_off(program):
@@ -347,6 +372,7 @@ def the_shell_speaks_with_it(program):
 
 TESTS = [
     answers_are_those_of_redis,
+    texts_for_people_are_told_as_by_redis,
     who_quits_is_answered_and_cut_off,
     other_answers_are_named,
     redis_py_does_all,

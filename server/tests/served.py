@@ -79,7 +79,7 @@ class Client:
     def bytes_of_one(self):
         line = self.line()
         kind, rest = line[:1], line[1:-2]
-        if kind == b"$" and rest != b"-1":
+        if kind in b"$=" and rest != b"-1":
             return line + self.stream.read(int(rest) + 2)
         count = {b"*": 1, b"%": 2}.get(kind, 0) * int(rest or 0) if kind in b"*%" else 0
         return line + b"".join(self.bytes_of_one() for _ in range(count))

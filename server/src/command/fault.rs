@@ -69,6 +69,10 @@ pub enum Fault {
     BadDatabase,
     /// A version of the protocol that isn't spoken.
     BadProtocol,
+    /// A version of the protocol that is no number.
+    NoProtocol,
+    /// HELLO has no such option, or it lacks what belongs to it; the option, cut.
+    HelloOption(String),
     /// A client's name has spaces or other bytes that names haven't.
     BadName,
     /// A server that there isn't.
@@ -112,6 +116,11 @@ impl Fault {
     /// That the client's role may not send this subcommand.
     pub fn no_permission(name: &str, word: &[u8]) -> Fault {
         Fault::NoPermission(format!("{name}|{}", cut(word, MOST_SHOWN)).to_ascii_lowercase())
+    }
+
+    /// That HELLO has no such option, or that it lacks what belongs to it.
+    pub fn hello_option(option: &[u8]) -> Fault {
+        Fault::HelloOption(cut(option, MOST_SHOWN))
     }
 
     /// Why a subcommand isn't done: one of the known ones takes another number of arguments.
@@ -172,6 +181,7 @@ const QUEUE_FULL: &str =
     "QUEUEFULL a transaction has at most 1024 commands, of 1 MiB in all: send it in parts";
 const QUEUE_OF: &str =
     "QUEUEFULL nothing has changed, as where data outlives the process a transaction";
+const NO_PROTOCOL: &str = "ERR Protocol version is not an integer or out of range";
 const NO_PASSWORD: &str =
     "ERR AUTH <password> called without any password configured for the default user. \
      Are you sure your configuration is correct?";
@@ -206,6 +216,7 @@ impl fmt::Display for Fault {
             Fault::NoPassword => NO_PASSWORD,
             Fault::BadDatabase => "ERR DB index is out of range",
             Fault::BadProtocol => "NOPROTO unsupported protocol version",
+            Fault::NoProtocol => NO_PROTOCOL,
             Fault::BadName => BAD_NAME,
             Fault::UnknownServer => UNKNOWN_SERVER,
             Fault::NotNumbered => NOT_NUMBERED,
@@ -224,6 +235,7 @@ fn composed(f: &mut fmt::Formatter<'_>, fault: &Fault) -> fmt::Result {
         Fault::UnknownSubcommand(name, word) => unknown_subcommand(f, name, word),
         Fault::NoPermission(name) => no_permission(f, name),
         Fault::NoMulti(name) => write!(f, "ERR {name} without MULTI"),
+        Fault::HelloOption(option) => write!(f, "ERR Syntax error in HELLO option '{option}'"),
         Fault::NotAdmitted(fault) => not_admitted(f, *fault),
         Fault::NotDurable(name) => write!(
             f,

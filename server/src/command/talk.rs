@@ -35,7 +35,7 @@ pub fn answer(
         TalkWord::Client => client(command, session, replies)?,
         TalkWord::Command => describe(command, replies)?,
         TalkWord::Config => config(command, cluster, replies)?,
-        TalkWord::Info => replies.bulk(info::told(command, cluster).as_bytes()),
+        TalkWord::Info => replies.text(&info::told(command, cluster)),
         TalkWord::Reset => {
             *session = Session::of(session.id, &cluster.configuration.safety);
             replies.protocol = Protocol::Two;
@@ -116,11 +116,9 @@ fn hello(
     cluster: &Cluster,
     replies: &mut Replies,
 ) -> Result<(), Fault> {
-    let protocol = match command.get(1) {
-        [] => replies.protocol,
-        b"2" => Protocol::Two,
-        b"3" => Protocol::Three,
-        _ => return Err(Fault::BadProtocol),
+    let protocol = match command.len() {
+        1 => replies.protocol,
+        _ => version(command.get(1))?,
     };
     let mut index = 2;
     while index < command.len() {
@@ -132,7 +130,7 @@ fn hello(
             set_name(command.get(index + 1), session)?;
             index += 2;
         } else {
-            return Err(Fault::Syntax);
+            return Err(Fault::hello_option(command.get(index)));
         }
     }
     if !session.is_known {
@@ -141,6 +139,16 @@ fn hello(
     replies.protocol = protocol;
     greet(session, replies);
     Ok(())
+}
+
+/// The version of the protocol that is written so.
+fn version(written: &[u8]) -> Result<Protocol, Fault> {
+    match number::parse(written) {
+        Some(2) => Ok(Protocol::Two),
+        Some(3) => Ok(Protocol::Three),
+        Some(_) => Err(Fault::BadProtocol),
+        None => Err(Fault::NoProtocol),
+    }
 }
 
 fn greet(session: &Session, replies: &mut Replies) {

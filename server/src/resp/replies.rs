@@ -178,6 +178,20 @@ impl Replies {
         self.bytes.extend_from_slice(b"\r\n");
     }
 
+    /// A text for people, which is shown as it is.
+    pub fn text(&mut self, text: &str) {
+        match self.protocol {
+            Protocol::Two => self.bulk(text.as_bytes()),
+            Protocol::Three => {
+                let kind = b"txt:";
+                self.length(b'=', kind.len() + text.len());
+                self.bytes.extend_from_slice(kind);
+                self.bytes.extend_from_slice(text.as_bytes());
+                self.bytes.extend_from_slice(b"\r\n");
+            }
+        }
+    }
+
     /// That there is nothing.
     pub fn null(&mut self) {
         self.bytes.extend_from_slice(match self.protocol {
@@ -219,12 +233,15 @@ mod tests {
         replies.bulk(b"x\r\n");
         replies.null();
         replies.map(1);
+        replies.text("ab");
         replies.protocol = Protocol::Three;
         replies.null();
         replies.map(1);
+        replies.text("ab");
         assert_eq!(
             replies.unsent(),
-            b"+OK\r\n-ERR a  b\r\n:-7\r\n$3\r\nx\r\n\r\n$-1\r\n*2\r\n_\r\n%1\r\n"
+            b"+OK\r\n-ERR a  b\r\n:-7\r\n$3\r\nx\r\n\r\n$-1\r\n*2\r\n$2\r\nab\r\n\
+              _\r\n%1\r\n=6\r\ntxt:ab\r\n"
         );
         replies.note_sent(5);
         assert!(replies.unsent().starts_with(b"-ERR"));
