@@ -217,7 +217,7 @@ impl Cluster {
         self.storage.durable().is_none()
     }
 
-    /// How many keys of the shard hold something, as its last permit left it, where they are counted.
+    /// How many keys of the shard hold something, as was noted last under a permit of it, where they are counted.
     pub fn keys(&self, shard: u16) -> Option<u64> {
         let count = self.keys[usize::from(shard)].load(Ordering::Relaxed);
         self.has_counts().then_some(count)

@@ -100,6 +100,12 @@ PING
 ECHO x
 EXEC
 MULTI
+SET {m}c 1
+DBSIZE
+DEL {m}c
+DBSIZE
+EXEC
+MULTI
 AUTH secret
 AUTH other secret
 HELLO 9

@@ -514,6 +514,19 @@ mod tests {
     }
 
     #[test]
+    fn keys_are_counted_as_they_are_within_a_transaction() {
+        let (_, mut executor) = begun();
+        let lines = "SET z 1\nMULTI\nDBSIZE\nMSET a 1 b 2\nDBSIZE\nDEL a\nDBSIZE\nINFO keyspace\nEXEC\nDBSIZE\n";
+        let text = answers(&mut executor, lines);
+        let behind = "*6 :1 +OK :3 :1 :2 $";
+        assert!(
+            text.contains(behind) && text.contains("db0:keys=2,"),
+            "{text}"
+        );
+        assert!(text.ends_with(" :2"), "{text}");
+    }
+
+    #[test]
     fn who_is_let_in_within_a_transaction_is_so_at_its_end() {
         let (_, mut executor) = begun();
         let lines = "MULTI\nAUTH x\nHELLO 3\nGET a\nEXEC\nGET a\nMULTI\nRESET\nEXEC\n";

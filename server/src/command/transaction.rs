@@ -98,7 +98,8 @@ impl Transaction {
                     data::execute(word, command, *body, replies);
                     Ok(())
                 }
-                (Some(Word::Talk(word)), _) => {
+                (Some(Word::Talk(word)), body) => {
+                    self.note_keys(word, body, cluster);
                     talk::answer(word, command, session, cluster, replies)
                 }
                 _ => Err(Fault::NotQueued.into()),
@@ -112,6 +113,19 @@ impl Transaction {
                 replies.take_back(mark);
                 replies.error(fault);
             }
+        }
+    }
+
+    /// Notes how many keys there are by now, before a command that tells it.
+    fn note_keys(
+        &self,
+        word: TalkWord,
+        body: &mut Option<&mut (dyn ShardBody + 'static)>,
+        cluster: &Cluster,
+    ) {
+        let is_told = matches!(word, TalkWord::DbSize | TalkWord::Info);
+        if let (true, Some(shard), Some(body)) = (is_told, self.shard, body) {
+            cluster.note_keys(shard, body.keys());
         }
     }
 }
