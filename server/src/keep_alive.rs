@@ -6,6 +6,8 @@ use std::time::Duration;
 
 /// After how long without a byte a client's system is asked whether it is there, as by Redis.
 const CLIENT: Duration = Duration::from_secs(300);
+/// How long it may take to say that it has what was sent, or has room for it.
+const CLIENT_SILENT: Duration = Duration::from_secs(600);
 /// The same of another process of the cluster, and how long until it is asked again.
 const PEER: Duration = Duration::from_secs(5);
 const PEER_AGAIN: Duration = Duration::from_secs(2);
@@ -14,14 +16,16 @@ const PEER_SILENT: Duration = Duration::from_secs(10);
 /// How often it is asked in vain.
 const ASKED: u32 = 3;
 
-/// Has a client's connection end some minutes after its machine has gone.
+/// Has a client's connection end ten minutes after its machine has gone, whether something was sent to it or not; or
+/// after it has taken nothing for so long of what it was to be sent.
 ///
 /// # Errors
 ///
 /// Where the system refuses that.
 pub fn of_client(socket: &impl AsRawFd) -> io::Result<()> {
-    let kept = kept(CLIENT, CLIENT / ASKED);
-    SockRef::from(socket).set_tcp_keepalive(&kept)
+    let socket = SockRef::from(socket);
+    socket.set_tcp_keepalive(&kept(CLIENT, CLIENT / ASKED))?;
+    socket.set_tcp_user_timeout(Some(CLIENT_SILENT))
 }
 
 /// Has a connection between processes end seconds after the other machine has gone, whether something was sent to it or
@@ -62,6 +66,6 @@ mod tests {
         assert_eq!(peer.keepalive_interval().unwrap(), PEER_AGAIN);
         assert_eq!(peer.keepalive_retries().unwrap(), ASKED);
         assert_eq!(peer.tcp_user_timeout().unwrap(), Some(PEER_SILENT));
-        assert_eq!(client.tcp_user_timeout().unwrap(), None);
+        assert_eq!(client.tcp_user_timeout().unwrap(), Some(CLIENT_SILENT));
     }
 }
