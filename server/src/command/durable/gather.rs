@@ -15,6 +15,7 @@ use crate::command::Fault;
 use crate::keyspace::Keyspace;
 use crate::resp::{number, Command, OwnedCommand, Protocol};
 use durkenzo_driver::Numbered;
+use std::collections::HashSet;
 
 /// How many texts are read at once at most, so that others come to the shard, and the answers have a bound: that of
 /// one command may have more.
@@ -90,6 +91,9 @@ fn texts_of(word: DataWord, command: Command<'_>) -> usize {
     }
 }
 
+/// Commands of one key each, with its shard.
+type Parts = Vec<(u16, OwnedCommand)>;
+
 /// The command by its keys.
 fn each(
     word: DataWord,
@@ -97,17 +101,37 @@ fn each(
     keyspace: &Keyspace,
     protocol: Protocol,
 ) -> Result<Asked, Fault> {
-    let step = if word == DataWord::MSet { 2 } else { 1 };
-    let mut parts = Vec::new();
-    for place in (1..command.len()).step_by(step) {
-        if step == 2 && command.get(place + 1).len() > MAX_TEXT {
+    let parts = match word {
+        DataWord::MSet => pairs(command, keyspace)?,
+        _ => keys(command, keyspace)?,
+    };
+    Ok(Asked::each(protocol, word, parts))
+}
+
+/// The command for each of its keys alone.
+fn keys(command: Command<'_>, keyspace: &Keyspace) -> Result<Parts, Fault> {
+    let of_key = |place| {
+        let shard = shard_of(command.get(place), keyspace)?;
+        Ok::<_, Fault>((shard, OwnedCommand::of_words(command, &[0, place])))
+    };
+    (1..command.len()).map(of_key).collect()
+}
+
+/// The same of MSET. Parts may be done in any order, so each key has one, by its last value.
+fn pairs(command: Command<'_>, keyspace: &Keyspace) -> Result<Parts, Fault> {
+    let (mut parts, mut written) = (Parts::new(), HashSet::new());
+    for place in (1..command.len()).step_by(2).rev() {
+        let (key, text) = (command.get(place), command.get(place + 1));
+        if text.len() > MAX_TEXT {
             return Err(Fault::TooLong);
         }
-        let shard = shard_of(command.get(place), keyspace)?;
-        let words = [&[0], &[place, place + 1][..step]].concat();
-        parts.push((shard, OwnedCommand::of_words(command, &words)));
+        if written.insert(key) {
+            let command = OwnedCommand::of_words(command, &[0, place, place + 1]);
+            parts.push((shard_of(key, keyspace)?, command));
+        }
     }
-    Ok(Asked::each(protocol, word, parts))
+    parts.reverse();
+    Ok(parts)
 }
 
 /// What a command that needs no shard by itself asks of one, as EXEC does.
@@ -201,6 +225,27 @@ mod tests {
     use super::*;
     use crate::keyspace::Rule;
     use crate::resp::Arguments;
+
+    /// What the parts of a line are, where keys from m on are of another shard than those before.
+    fn told(line: &str, of: fn(Command<'_>, &Keyspace) -> Result<Parts, Fault>) -> String {
+        let keyspace = Keyspace::new(&Rule::Bounds(vec![Vec::new(), b"m".to_vec()])).unwrap();
+        let mut arguments = Arguments::default();
+        let mut reader = Reader::new(line.as_bytes(), &mut arguments);
+        let parts = of(reader.peek().unwrap(), &keyspace).unwrap();
+        let parts = parts.iter().map(|(shard, it)| {
+            let words: Vec<_> = it.command().iter().map(String::from_utf8_lossy).collect();
+            format!("{shard} {}", words.join(" "))
+        });
+        parts.collect::<Vec<_>>().join(", ")
+    }
+
+    #[test]
+    fn each_key_is_set_once_and_counted_as_often_as_it_is_named() {
+        let sets = told("MSET k 1 a 4 z 2 k 3\n", pairs);
+        assert_eq!(sets, "0 MSET a 4, 1 MSET z 2, 0 MSET k 3");
+        let counts = told("EXISTS k z k\n", keys);
+        assert_eq!(counts, "0 EXISTS k, 1 EXISTS z, 0 EXISTS k");
+    }
 
     /// How many of many such lines are asked at once.
     fn taken(line: &str) -> usize {
