@@ -19,8 +19,8 @@ const PROVED: &str =
 /// --etcd the members of etcd.
 ///
 /// Each key is of a shard, and each shard is executed by one of several servers, which are all in this
-/// process, or with --etcd each in one of its own. Servers restart in turn, and shards move between them,
-/// while clients notice nothing: `redis-cli -p 7379 sm help` tells how.
+/// process, or with --etcd each in one of its own. Servers restart in turn, and shards move between them:
+/// `redis-cli -p 7379 sm help` tells how.
 #[derive(Clone, Debug, Parser)]
 #[command(
     name = NAME,

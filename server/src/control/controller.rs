@@ -235,7 +235,7 @@ impl Controller {
         Ok(Answer::Done)
     }
 
-    /// Begins to move the shard to this server, while clients notice nothing.
+    /// Begins to move the shard to this server.
     fn migrate(&mut self, shard: u16, server: u16) -> Begun {
         self.homes.remove(&shard);
         Work::Migration(Migration::new(shard, server)).into()
