@@ -8,6 +8,11 @@ use durkenzo_store::WriteError;
 use std::error::Error;
 use std::fmt;
 
+/// The code by which the store's control refuses what a process hasn't read yet.
+const NOT_FOLLOWED: u32 = 96;
+/// The name of what it may do later.
+const NOT_NOW: &str = "NotNow";
+
 /// Why the control does nothing, and what to do.
 #[derive(Clone, Debug, PartialEq, Eq)]
 pub struct Refusal {
@@ -134,7 +139,7 @@ impl Refusal {
         match refused {
             Refused::Judged(code) => match change_fault(*code) {
                 Some(fault) => Refusal::of_change(fault, row),
-                None => Refusal::new("NotYet", refused.to_string(), "try again"),
+                None => Refusal::for_now(*code),
             },
             other => Refusal::of_store(other),
         }
@@ -145,10 +150,19 @@ impl Refusal {
         match refused {
             Refused::Judged(code) => match restart_fault(*code) {
                 Some(fault) => Refusal::of_restart(fault, server),
-                None => Refusal::new("NotYet", refused.to_string(), "try again"),
+                None => Refusal::for_now(*code),
             },
             other => Refusal::of_store(other),
         }
+    }
+
+    /// That the store's control refuses what it may do later, by this code.
+    fn for_now(code: u32) -> Refusal {
+        let reason = match code {
+            NOT_FOLLOWED => "a process hasn't read yet that the shard was taken".to_owned(),
+            code => format!("the control refuses it for now, by code {code}"),
+        };
+        Refusal::new(NOT_NOW, reason, "try again")
     }
 
     /// Why the store doesn't let the control go on.
@@ -162,9 +176,9 @@ impl Refusal {
         Refusal::new(name, refused.to_string(), advice)
     }
 
-    /// Whether a process is still to read what is there already.
-    pub fn is_not_yet(&self) -> bool {
-        self.name == "NotYet"
+    /// Whether it may be done later, as a process is still to read what is there already.
+    pub fn is_for_now(&self) -> bool {
+        self.name == NOT_NOW
     }
 
     /// Whether it is the store that doesn't let the control go on for now.
@@ -278,3 +292,19 @@ impl fmt::Display for Refusal {
 }
 
 impl Error for Refusal {}
+
+#[cfg(test)]
+mod tests {
+    use super::*;
+
+    #[test]
+    fn what_a_process_has_not_read_is_refused_for_now_alone() {
+        let of = |code| Refusal::from(Refused::Judged(code));
+        assert!(of(NOT_FOLLOWED).is_for_now() && !of(11).is_for_now());
+        assert_eq!(
+            of(NOT_FOLLOWED).to_string(),
+            "REFUSED NotNow: a process hasn't read yet that the shard was taken; try: try again"
+        );
+        assert!(of(11).to_string().starts_with("REFUSED WrongPhase: "));
+    }
+}

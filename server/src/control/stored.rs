@@ -272,7 +272,7 @@ impl StoredController {
     /// the command takes for known.
     pub(super) fn step(&mut self, command: Command) -> Result<Advance, Refusal> {
         match self.make(command) {
-            Err(refusal) if refusal.is_not_yet() => Ok(Advance::Later),
+            Err(refusal) if refusal.is_for_now() => Ok(Advance::Later),
             made => made.map(|()| Advance::Again),
         }
     }
