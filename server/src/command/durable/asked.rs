@@ -94,24 +94,18 @@ impl Asked {
     /// Asks it, and has the answer be sent there.
     pub fn submit(self, durable: &Durable, cluster: &Arc<Cluster>, reply_to: ReplyTo) {
         let protocol = self.protocol;
+        let in_order =
+            |parts, reply_to| Answers::new(parts, parts as u64, protocol, Join::InOrder, reply_to);
         match self.what {
             What::Keyed(shard, commands) => {
-                let count = commands.len();
-                let answers = Answers::new(count, count as u64, protocol, Join::InOrder, reply_to);
+                let answers = in_order(commands.len(), reply_to);
                 let steps = commands.into_iter().enumerate();
                 let steps = steps.map(|(place, it)| Keyed::step(it, shard, answers.clone(), place));
                 durable.submit(shard, steps.collect());
             }
             What::Numbered(shard, numbered, command) => {
-                let answers = Answers::new(1, 1, protocol, Join::InOrder, reply_to);
-                match Keyed::numbered(numbered, command, shard, answers.clone()) {
-                    Ok(step) => durable.submit(shard, vec![step]),
-                    Err(fault) => {
-                        let mut refused = answers.part();
-                        refused.error(fault);
-                        answers.bring(0, refused);
-                    }
-                }
+                let answers = in_order(1, reply_to);
+                submit_numbered(durable, shard, numbered, command, &answers);
             }
             What::Each(word, parts) => {
                 let answers = Answers::new(parts.len(), 1, protocol, Join::Each(word), reply_to);
@@ -122,22 +116,37 @@ impl Asked {
             }
             What::Together(shard, transaction) => {
                 // Each of its commands was counted when it was queued.
-                let answers = Answers::new(1, 1, protocol, Join::InOrder, reply_to);
+                let answers = in_order(1, reply_to);
                 let keys = keys_of_all(transaction.data());
                 let step = Together::step(transaction, cluster.clone(), shard, keys, answers);
                 durable.submit(shard, vec![step]);
             }
-            What::Walk(walk) => {
-                let cluster = cluster.clone();
-                let walker = Walker {
-                    walk,
-                    cluster,
-                    protocol,
-                    reply_to,
-                };
-                walker.go_on();
+            What::Walk(walk) => Walker {
+                walk,
+                cluster: cluster.clone(),
+                protocol,
+                reply_to,
             }
+            .go_on(),
             What::Count => count(durable, protocol, reply_to),
+        }
+    }
+}
+
+/// Has the shard do the command with its number, unless it can't have one.
+fn submit_numbered(
+    durable: &Durable,
+    shard: u16,
+    numbered: Numbered,
+    command: (DataWord, OwnedCommand),
+    answers: &Arc<Answers>,
+) {
+    match Keyed::numbered(numbered, command, shard, answers.clone()) {
+        Ok(step) => durable.submit(shard, vec![step]),
+        Err(fault) => {
+            let mut refused = answers.part();
+            refused.error(fault);
+            answers.bring(0, refused);
         }
     }
 }

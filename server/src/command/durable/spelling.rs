@@ -90,12 +90,7 @@ pub fn step_of_spelled(
             Some(Keyed::step(command, shard, answers(), 0))
         }
         NUMBERED => {
-            let (client, rest) = rest.split_first_chunk()?;
-            let (number, rest) = rest.split_first_chunk()?;
-            let numbered = Numbered {
-                client: u64::from_be_bytes(*client),
-                number: u64::from_be_bytes(*number),
-            };
+            let (numbered, rest) = number_of(rest)?;
             let command = command_of(rest, shard, keyspace)?;
             Keyed::numbered(numbered, command, shard, answers()).ok()
         }
@@ -107,6 +102,14 @@ pub fn step_of_spelled(
         }
         _ => None,
     }
+}
+
+/// The number that a client gave, and what follows it.
+fn number_of(bytes: &[u8]) -> Option<(Numbered, &[u8])> {
+    let (client, rest) = bytes.split_first_chunk()?;
+    let (number, rest) = rest.split_first_chunk()?;
+    let (client, number) = (u64::from_be_bytes(*client), u64::from_be_bytes(*number));
+    Some((Numbered { client, number }, rest))
 }
 
 /// The command with keys of this shard alone.
