@@ -73,7 +73,7 @@ enum durkenzo_code {
     DURKENZO_BAD_CEILING = 5,      /* the ceiling of generations is 3 to 68,719,476,735 */
     DURKENZO_NO_SHARD = 6,         /* a board has at least one shard */
     DURKENZO_TOO_MANY = 7,         /* a board or a layout has at most 4,096 shards */
-    DURKENZO_BAD_BOOKS = 8,        /* there are no servers, or memory for their books was refused */
+    DURKENZO_BAD_BOOKS = 8,        /* there are no servers */
     DURKENZO_BAD_COUNT = 9,        /* the bodies are as many as the shards of the settings */
     DURKENZO_UNKNOWN_SHARD = 10,   /* there is no such shard */
     DURKENZO_WRONG_PHASE = 11,     /* the change doesn't begin from the shard's stand */
@@ -118,6 +118,26 @@ enum durkenzo_code {
 };
 
 /* Requests to the sample service. Keys have 1 to 255 bytes, texts at most 65,535. */
+/* What durkenzo_open_settings and durkenzo_open_bodies answer besides: the first rule of docs/SETTINGS.md that the line
+ * breaks. */
+enum durkenzo_settings_code {
+    /* By tools/library-codes, the settings of library/codes.txt: */
+    DURKENZO_SETTINGS_TOO_LONG = 70,    /* the line has more than 1,048,576 bytes */
+    DURKENZO_SETTINGS_BAD_JSON = 71,    /* the line is no JSON in UTF-8, is too deep, or has too large a number */
+    DURKENZO_SETTINGS_BAD_VERSION = 72, /* the value is no object with the number 1 or 2 as its `version` */
+    DURKENZO_SETTINGS_BAD_SHAPE = 73,   /* a member is missing, unknown or of another type */
+    DURKENZO_SETTINGS_BAD_LAYOUT = 74,  /* the bounds make no layout */
+    DURKENZO_SETTINGS_BAD_SERVERS = 75, /* the servers break a rule */
+    DURKENZO_SETTINGS_BAD_GROUPS = 76,  /* the groups break a rule */
+    DURKENZO_SETTINGS_BAD_SHARDS = 77,  /* the shards break a rule */
+    DURKENZO_SETTINGS_BAD_OPS = 78,     /* `ops` isn't 0 to 4,095 */
+    DURKENZO_SETTINGS_BAD_KEPT = 79,    /* `kept` isn't 1 to 1,048,576 */
+    DURKENZO_SETTINGS_BAD_CEILING = 80, /* `ceiling` isn't 3 to 68,719,476,735 */
+    DURKENZO_SETTINGS_BAD_WORKERS = 81, /* `workers` isn't 1 to 8 */
+    DURKENZO_SETTINGS_BAD_DOMAINS = 82  /* the domains break a rule */
+    /* End of them. */
+};
+
 enum durkenzo_request_kind {
     DURKENZO_GET = 1,
     DURKENZO_PUT = 2,    /* the key is to hold the text `other`, in place of the text that it held */
@@ -291,8 +311,7 @@ uint32_t durkenzo_open_service(durkenzo_handle *control, size_t shards, size_t k
 
 /* Opens a board of the sample service as the line of settings says (docs/SETTINGS.md, without its line feed), but for
  * its workers: `control` keeps its control, `layout` the layout, in place of what they kept, and `shards` is how many
- * there are. Errors: NO_MEMORY, and from 70 on the line's first fault, in the order of that page: 70 is TooLong, 71
- * BadJson, 82 BadDomains. */
+ * there are. Errors: NO_MEMORY, and those of durkenzo_settings_code; the line's servers are never BAD_BOOKS. */
 uint32_t durkenzo_open_settings(durkenzo_handle *control, durkenzo_handle *layout, const uint8_t *line, size_t length,
                                 size_t *shards);
 

@@ -279,8 +279,8 @@ class Control(Generic[T]):
 
 
 def _check_settings(code: int) -> None:
-    if code >= 70:
-        raise BadSettings(_RULES[code - 70])
+    if rule := _RULES.get(code):
+        raise BadSettings(rule)
     _check(code)
 
 

@@ -39,10 +39,23 @@ class BadSettings(DurkenzoError):
         self.rule = rule
 
 
-_RULES = (
-    *("TooLong", "BadJson", "BadVersion", "BadShape", "BadLayout", "BadServers", "BadGroups", "BadShards", "BadOps"),
-    *("BadKept", "BadCeiling", "BadWorkers", "BadDomains"),
-)
+# By tools/library-codes, the settings of library/codes.txt:
+_RULES = {
+    70: "TooLong",
+    71: "BadJson",
+    72: "BadVersion",
+    73: "BadShape",
+    74: "BadLayout",
+    75: "BadServers",
+    76: "BadGroups",
+    77: "BadShards",
+    78: "BadOps",
+    79: "BadKept",
+    80: "BadCeiling",
+    81: "BadWorkers",
+    82: "BadDomains",
+}
+# End of them.
 _REFUSALS = {61: WrongShard, 62: TooManyHops, 63: KeptFull}
 
 

@@ -19,6 +19,7 @@ pub struct Sent {
 
 /// Why bytes tell no envelope.
 #[derive(Clone, Copy, Debug, PartialEq, Eq)]
+#[non_exhaustive]
 pub enum SentFault {
     /// They aren't [`Sent::BYTES`].
     Length,

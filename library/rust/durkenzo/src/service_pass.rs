@@ -179,4 +179,8 @@ impl fmt::Display for ServeRefused {
     }
 }
 
-impl Error for ServeRefused {}
+impl Error for ServeRefused {
+    fn source(&self) -> Option<&(dyn Error + 'static)> {
+        Some(&self.fault)
+    }
+}

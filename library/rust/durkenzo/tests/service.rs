@@ -4,6 +4,7 @@ use durkenzo::{
     Request, RestoreFault, SendFault, Sent, SentFault, ServeFault, Served, Service, ServicePass,
     SettingsFault, Stand, Value,
 };
+use std::error::Error;
 
 const SETTINGS: &str = r#"{"version":2,"bounds":["","n"],"servers":[{"id":1,"domain":0,"capacity":1},{"id":7,"domain":1,"capacity":2}],"groups":[{"limit":2,"down":1}],"shards":[{"group":0,"load":1,"cap":1},{"group":0,"load":1,"cap":1}],"ops":1,"kept":1,"ceiling":100,"workers":1,"domains":[{"domain":0,"down":1},{"domain":1,"down":0}]}"#;
 
@@ -332,6 +333,27 @@ fn stands_are_reached_anew() {
 
 #[test]
 fn an_envelope_tells_how_it_came() {
+#[test]
+fn faults_tell_their_sources() {
+    let service = service(&[""], 2);
+    let mut other = service.pass(2).unwrap();
+    let sent = other.envelope(0, &Request::Get(b"a")).unwrap();
+    let refused = other.serve(sent).unwrap_err();
+    let fault = refused.source().unwrap();
+    assert_eq!(fault.downcast_ref(), Some(&refused.fault));
+    let admission = fault.source().unwrap();
+    assert!(matches!(
+        admission.downcast_ref(),
+        Some(AdmitFault::NotExecutor(_))
+    ));
+    assert!(admission.source().is_none());
+    let unmade = other.checkpoint(0).unwrap_err();
+    assert!(unmade.source().unwrap().is::<AdmitFault>());
+    let unreached = service.control().restore(9, Stand::Vacant).unwrap_err();
+    assert!(unreached.source().unwrap().is::<ChangeFault>());
+    assert!(ServeFault::KeptFull.source().is_none());
+}
+
     let service = service(&[""], 2);
     let control = service.control();
     control.prepare_add_shard(0, 2).unwrap();
