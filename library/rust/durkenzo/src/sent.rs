@@ -45,7 +45,11 @@ impl Sent {
         bytes
     }
 
-    /// What [`Sent::to_bytes`] made the bytes of; or the first reason why there is no such envelope.
+    /// What [`Sent::to_bytes`] made the bytes of.
+    ///
+    /// # Errors
+    ///
+    /// The first reason why there is no such envelope.
     pub fn from_bytes(bytes: &[u8]) -> Result<Sent, SentFault> {
         let bytes: [u8; Sent::BYTES] = bytes.try_into().map_err(|_| SentFault::Length)?;
         let pair = |at: usize| u16::from_be_bytes([bytes[at], bytes[at + 1]]);
