@@ -120,7 +120,8 @@ impl Map {
     ) -> Result<Option<Held<'a>>, MapFault> {
         let key = key.as_ref();
         let mut parts = self.parts_in(key, room)?;
-        if parts.length > room.len() {
+        // A text alone has a length.
+        if parts.kind == 2 && parts.length > room.len() {
             room.resize(parts.length.next_power_of_two(), 0);
             parts = self.parts_in(key, room)?;
         }

@@ -86,6 +86,10 @@ impl ServicePass {
     ///
     /// Those of [`ServicePass::envelope`], and `NotSent` where no envelope comes so.
     pub fn received(&mut self, sent: &Sent, request: &Request<'_>) -> Result<Envelope, SendFault> {
+        // The library would read this server as none.
+        if sent.mode == Mode::Forwarded(0) {
+            return Err(SendFault::NotSent);
+        }
         let (kind, key, other, amount) = request.parts();
         let mut handle = Handle::empty();
         // SAFETY: one handle is this pass's, which is borrowed alone, the other this call's, and the slices last as

@@ -141,8 +141,10 @@ fn a_full_shard_wants_a_checkpoint() {
     executed(&mut owner, &Request::Put(b"a", b"1"));
     executed(&mut owner, &Request::Put(b"b", b"2"));
     let third = owner.envelope(3, &Request::Get(b"a")).unwrap();
+    let before = owner.look(0).unwrap().generation;
     let refused = owner.serve(third).unwrap_err();
     assert_eq!(refused.fault, ServeFault::KeptFull);
+    assert_eq!(owner.look(0).unwrap().generation, before + 2);
     let generation = owner.checkpoint(0).unwrap();
     assert_eq!(owner.look(0).unwrap().generation, generation);
     let Ok(Served::Answered(answer)) = owner.serve(refused.envelope) else {
@@ -332,8 +334,6 @@ fn stands_are_reached_anew() {
 }
 
 #[test]
-fn an_envelope_tells_how_it_came() {
-#[test]
 fn faults_tell_their_sources() {
     let service = service(&[""], 2);
     let mut other = service.pass(2).unwrap();
@@ -354,6 +354,8 @@ fn faults_tell_their_sources() {
     assert!(ServeFault::KeptFull.source().is_none());
 }
 
+#[test]
+fn an_envelope_tells_how_it_came() {
     let service = service(&[""], 2);
     let control = service.control();
     control.prepare_add_shard(0, 2).unwrap();
@@ -394,6 +396,7 @@ fn an_envelope_travels_as_bytes() {
         (Mode::Direct, 1),
         (Mode::Forwarded(9), 0),
         (Mode::Forwarded(9), 5),
+        (Mode::Forwarded(0), 1),
     ] {
         let sent = Sent {
             number: 0,
@@ -402,6 +405,16 @@ fn an_envelope_travels_as_bytes() {
             hops,
         };
         assert_eq!(Sent::from_bytes(&sent.to_bytes()), Err(SentFault::Hops));
+        let refused = owner.received(&sent, &request).unwrap_err();
+        assert_eq!(refused, SendFault::NotSent);
+    }
+    for mode in [Mode::Forwarded(0), Mode::Forwarded(4_096)] {
+        let sent = Sent {
+            number: 0,
+            shard: 0,
+            mode,
+            hops: 0,
+        };
         let refused = owner.received(&sent, &request).unwrap_err();
         assert_eq!(refused, SendFault::NotSent);
     }
