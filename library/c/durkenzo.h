@@ -1,16 +1,17 @@
 /* Shards that move between servers while each has one writer, decided by proved code.
  *
- * A board has 1 to 4,096 shards, numbered from 0, and a number for each that stands for a body that you own. A
- * pass acts as one server, 1 to 4,095, and is admitted to a shard where that server executes the shard's requests
- * and nobody else is admitted. The number that it is given is the shard's; until the admission ends nobody else is
- * given it. The control alone changes who owns a shard.
+ * A board has 1 to 4,096 shards, numbered from 0, and a number for each that stands for a body that you own. A pass
+ * acts as one server, 1 to 4,095, and is admitted to a shard where that server executes the shard's requests and
+ * nobody else is admitted. The number that it is given is the shard's. That the numbers differ is up to you: then
+ * nobody else is given this one until the admission ends. The control alone changes who owns a shard.
  *
  * Each call answers DURKENZO_OK, or why it was refused. A call that is refused writes nothing but where it says
- * so, and leaves each handle as it was, but that a pass may have looked at its shard.
+ * so, and leaves each handle as it was, but that a pass may have looked at its shard, and where it says otherwise.
  *
  * A handle is yours: it begins as DURKENZO_HANDLE_INIT, isn't copied, may pass from thread to thread, and is used
  * by one call at a time, so a control that threads share stands behind a lock of yours. What it keeps belongs to
- * the library until durkenzo_close. Pointers are borrowed for the time of the call, and are never null.
+ * the library until durkenzo_close. Pointers are borrowed for the time of the call, and are never null. What those of
+ * one call point to doesn't overlap, but where both are const: no handle is given to it twice.
  */
 #ifndef DURKENZO_H
 #define DURKENZO_H
@@ -117,7 +118,6 @@ enum durkenzo_code {
     /* End of them. */
 };
 
-/* Requests to the sample service. Keys have 1 to 255 bytes, texts at most 65,535. */
 /* What durkenzo_open_settings and durkenzo_open_bodies answer besides: the first rule of docs/SETTINGS.md that the line
  * breaks. */
 enum durkenzo_settings_code {
@@ -138,6 +138,7 @@ enum durkenzo_settings_code {
     /* End of them. */
 };
 
+/* Requests to the sample service. Keys have 1 to 255 bytes, texts at most 65,535. */
 enum durkenzo_request_kind {
     DURKENZO_GET = 1,
     DURKENZO_PUT = 2,    /* the key is to hold the text `other`, in place of the text that it held */
@@ -201,9 +202,9 @@ enum durkenzo_restart_kind {
     DURKENZO_FAIL = 5
 };
 
-/* Opens a board with a body for each of `count` numbers (1 to 4,096), of servers 1 to `servers` (at most 4,095),
- * at most `ops` of which restart at once; generations stay at or below `ceiling`. The handle keeps its control, in
- * place of what it kept. Errors: BAD_ARGUMENT, NO_MEMORY, BAD_CEILING, NO_SHARD, TOO_MANY, BAD_BOOKS. */
+/* Opens a board with a body for each of `count` numbers (1 to 4,096), which differ, of servers 1 to `servers` (at most
+ * 4,095), at most `ops` of which restart at once; generations stay at or below `ceiling`. The handle keeps its control,
+ * in place of what it kept. Errors: BAD_ARGUMENT, NO_MEMORY, BAD_CEILING, NO_SHARD, TOO_MANY, BAD_BOOKS. */
 uint32_t durkenzo_open(durkenzo_handle *control, const uint64_t *numbers, size_t count, uint16_t servers, uint16_t ops,
                        uint64_t ceiling);
 
@@ -221,11 +222,12 @@ uint32_t durkenzo_look(durkenzo_handle *pass, uint16_t shard, durkenzo_record *r
 uint64_t durkenzo_look_word(durkenzo_handle *pass, uint16_t shard);
 
 /* Admits the pass to the shard, for a request that came directly (`from` 0) or that this server forwarded. Writes
- * the number of the shard's body, which is yours alone until durkenzo_finish. Errors: WRONG_HANDLE (also where the
- * pass has an admission), BAD_ARGUMENT, UNKNOWN_SHARD, and 21 to 26 or RACED, which write `read`. */
+ * the number of the shard's body, which is yours alone until durkenzo_finish where no other shard has that number.
+ * Errors: WRONG_HANDLE (also where the pass has an admission), BAD_ARGUMENT, UNKNOWN_SHARD, and 21 to 26 or RACED,
+ * which write `read`. */
 uint32_t durkenzo_admit(durkenzo_handle *pass, uint16_t shard, uint16_t from, uint64_t *number, durkenzo_record *read);
 
-/* The same, but that 21 to 26 and RACED write the word of the record that was read to `word`: the quickest admission. */
+/* The same, but that 21 to 26 and RACED write the word of the record that was read to `word`: the quickest. */
 uint32_t durkenzo_admit_word(durkenzo_handle *pass, uint16_t shard, uint16_t from, uint64_t *number, uint64_t *word);
 
 /* Ends the admission of the pass, and writes the shard's generation since then. Error: WRONG_HANDLE, where it has
@@ -242,7 +244,8 @@ uint32_t durkenzo_split(durkenzo_handle *from, durkenzo_handle *pass);
 uint32_t durkenzo_meet(durkenzo_handle *pass, durkenzo_handle *other);
 
 /* Makes this change of the shard, for this server where the kind names one. Errors: WRONG_HANDLE, BAD_ARGUMENT,
- * UNKNOWN_SHARD to SAME_SERVER, UNKNOWN_SERVER to DOMAIN_LIMIT; CHANGE_SPENT, BUSY and RACED write `read`. */
+ * UNKNOWN_SHARD to SAME_SERVER, UNKNOWN_SERVER to DOMAIN_LIMIT; CHANGE_SPENT, BUSY and RACED write `read`, which the
+ * control has then seen. */
 uint32_t durkenzo_change(durkenzo_handle *control, uint16_t shard, uint8_t kind, uint16_t server,
                          durkenzo_record *read);
 
@@ -340,8 +343,9 @@ uint32_t durkenzo_envelope(durkenzo_handle *pass, durkenzo_handle *envelope, con
 
 /* Has the pass's server serve the envelope, which has to be of the same board; the layout says which keys the shard
  * has. Where it answers OK, the envelope's handle keeps the answer. FORWARD writes the server `to` that the envelope
- * goes to, with one hop more. Else the envelope comes back: WRONG_HANDLE, WRONG_SHARD, TOO_MANY_HOPS, KEPT_FULL,
- * NO_MEMORY, and 21 to 26 or RACED, which write `read`. */
+ * goes to, with one hop more. Else the envelope comes back, with a note that may have seen more: WRONG_HANDLE,
+ * WRONG_SHARD, TOO_MANY_HOPS, KEPT_FULL, NO_MEMORY, and 21 to 26 or RACED, which write `read`. Before KEPT_FULL and
+ * NO_MEMORY the pass was admitted, and its admission ended with nothing: these took 2 of the shard's generations. */
 uint32_t durkenzo_serve(durkenzo_handle *pass, durkenzo_handle *layout, durkenzo_handle *envelope, uint16_t *to,
                         durkenzo_record *read);
 
@@ -350,7 +354,8 @@ uint32_t durkenzo_serve(durkenzo_handle *pass, durkenzo_handle *layout, durkenzo
 uint32_t durkenzo_answer(durkenzo_handle *answer, durkenzo_answer_parts *parts, durkenzo_parts *reply);
 
 /* Makes the shard's state its base, so that it keeps no request, and writes the shard's generation since then. Errors:
- * WRONG_HANDLE, UNKNOWN_SHARD, NO_MEMORY, and 21 to 26 or RACED, which write `read`. */
+ * WRONG_HANDLE, UNKNOWN_SHARD, and 21 to 26 or RACED, which write `read`; NO_MEMORY, before which the pass was
+ * admitted, and its admission ended with nothing: these took 2 of the shard's generations. */
 uint32_t durkenzo_checkpoint(durkenzo_handle *pass, uint16_t shard, uint64_t *generation, durkenzo_record *read);
 
 /* Lets go what the handle keeps: an admission ends, and the handle keeps nothing. */
@@ -362,10 +367,10 @@ void durkenzo_close(durkenzo_handle *handle);
 /* After this change. Errors: BAD_ARGUMENT, BAD_WORD, BAD_CEILING, and 11 to 14. */
 uint32_t durkenzo_changed(uint64_t word, uint8_t kind, uint16_t server, uint64_t ceiling, uint64_t *next);
 
-/* After an admission of the server. Errors: BAD_ARGUMENT, BAD_WORD, and 21 to 26. */
+/* After an admission of the server. Errors: BAD_ARGUMENT, BAD_WORD, BAD_CEILING, and 21 to 26. */
 uint32_t durkenzo_admitted(uint64_t word, uint16_t server, uint16_t from, uint64_t ceiling, uint64_t *next);
 
-/* After the end of its admission. Error: NOT_ADMITTED. */
+/* After the end of its admission. Error: NOT_ADMITTED, also at the greatest generation. */
 uint32_t durkenzo_ended(uint64_t word, uint64_t *next);
 
 /* Writes the record of the word. Error: BAD_WORD. */

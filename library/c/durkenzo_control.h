@@ -4,7 +4,8 @@
  *
  * Every call answers 0 or a code. A call that is refused leaves the handle as it was, but where it says otherwise. A
  * handle begins as bytes of 0, isn't copied, may pass from thread to thread, and is used by one call at a time.
- * Pointers are borrowed for the time of the call, and are never null.
+ * Pointers are borrowed for the time of the call, and are never null. What those of one call point to doesn't overlap,
+ * but where both are const.
  *
  * What lies at the keys; numbers have 8 bytes, the highest first:
  *  - the leader's key, under a lease: 0x01 and the number of the process that is elected;
