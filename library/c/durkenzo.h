@@ -1,16 +1,17 @@
 /* Shards that move between servers while each has one writer, decided by proved code.
  *
- * A board has 1 to 4,096 shards, numbered from 0, and a number for each that stands for a body that you own. A
- * pass acts as one server, 1 to 4,095, and is admitted to a shard where that server executes the shard's requests
- * and nobody else is admitted. The number that it is given is the shard's; until the admission ends nobody else is
- * given it. The control alone changes who owns a shard.
+ * A board has 1 to 4,096 shards, numbered from 0, and a number for each that stands for a body that you own. A pass
+ * acts as one server, 1 to 4,095, and is admitted to a shard where that server executes the shard's requests and
+ * nobody else is admitted. The number that it is given is the shard's. That the numbers differ is up to you: then
+ * nobody else is given this one until the admission ends. The control alone changes who owns a shard.
  *
  * Each call answers DURKENZO_OK, or why it was refused. A call that is refused writes nothing but where it says
- * so, and leaves each handle as it was, but that a pass may have looked at its shard.
+ * so, and leaves each handle as it was, but that a pass may have looked at its shard, and where it says otherwise.
  *
  * A handle is yours: it begins as DURKENZO_HANDLE_INIT, isn't copied, may pass from thread to thread, and is used
  * by one call at a time, so a control that threads share stands behind a lock of yours. What it keeps belongs to
- * the library until durkenzo_close. Pointers are borrowed for the time of the call, and are never null.
+ * the library until durkenzo_close. Pointers are borrowed for the time of the call, and are never null. What those of
+ * one call point to doesn't overlap, but where both are const: no handle is given to it twice.
  */
 #ifndef DURKENZO_H
 #define DURKENZO_H
@@ -73,7 +74,7 @@ enum durkenzo_code {
     DURKENZO_BAD_CEILING = 5,      /* the ceiling of generations is 3 to 68,719,476,735 */
     DURKENZO_NO_SHARD = 6,         /* a board has at least one shard */
     DURKENZO_TOO_MANY = 7,         /* a board or a layout has at most 4,096 shards */
-    DURKENZO_BAD_BOOKS = 8,        /* there are no servers, or memory for their books was refused */
+    DURKENZO_BAD_BOOKS = 8,        /* there are no servers */
     DURKENZO_BAD_COUNT = 9,        /* the bodies are as many as the shards of the settings */
     DURKENZO_UNKNOWN_SHARD = 10,   /* there is no such shard */
     DURKENZO_WRONG_PHASE = 11,     /* the change doesn't begin from the shard's stand */
@@ -114,6 +115,26 @@ enum durkenzo_code {
     DURKENZO_WRONG_SHARD = 61,     /* the request's key is of another shard */
     DURKENZO_TOO_MANY_HOPS = 62,   /* the request was forwarded too often */
     DURKENZO_KEPT_FULL = 63        /* the shard keeps as many requests as it may: make a checkpoint */
+    /* End of them. */
+};
+
+/* What durkenzo_open_settings and durkenzo_open_bodies answer besides: the first rule of docs/SETTINGS.md that the line
+ * breaks. */
+enum durkenzo_settings_code {
+    /* By tools/library-codes, the settings of library/codes.txt: */
+    DURKENZO_SETTINGS_TOO_LONG = 70,    /* the line has more than 1,048,576 bytes */
+    DURKENZO_SETTINGS_BAD_JSON = 71,    /* the line is no JSON in UTF-8, is too deep, or has too large a number */
+    DURKENZO_SETTINGS_BAD_VERSION = 72, /* the value is no object with the number 1 or 2 as its `version` */
+    DURKENZO_SETTINGS_BAD_SHAPE = 73,   /* a member is missing, unknown or of another type */
+    DURKENZO_SETTINGS_BAD_LAYOUT = 74,  /* the bounds make no layout */
+    DURKENZO_SETTINGS_BAD_SERVERS = 75, /* the servers break a rule */
+    DURKENZO_SETTINGS_BAD_GROUPS = 76,  /* the groups break a rule */
+    DURKENZO_SETTINGS_BAD_SHARDS = 77,  /* the shards break a rule */
+    DURKENZO_SETTINGS_BAD_OPS = 78,     /* `ops` isn't 0 to 4,095 */
+    DURKENZO_SETTINGS_BAD_KEPT = 79,    /* `kept` isn't 1 to 1,048,576 */
+    DURKENZO_SETTINGS_BAD_CEILING = 80, /* `ceiling` isn't 3 to 68,719,476,735 */
+    DURKENZO_SETTINGS_BAD_WORKERS = 81, /* `workers` isn't 1 to 8 */
+    DURKENZO_SETTINGS_BAD_DOMAINS = 82  /* the domains break a rule */
     /* End of them. */
 };
 
@@ -181,9 +202,9 @@ enum durkenzo_restart_kind {
     DURKENZO_FAIL = 5
 };
 
-/* Opens a board with a body for each of `count` numbers (1 to 4,096), of servers 1 to `servers` (at most 4,095),
- * at most `ops` of which restart at once; generations stay at or below `ceiling`. The handle keeps its control, in
- * place of what it kept. Errors: BAD_ARGUMENT, NO_MEMORY, BAD_CEILING, NO_SHARD, TOO_MANY, BAD_BOOKS. */
+/* Opens a board with a body for each of `count` numbers (1 to 4,096), which differ, of servers 1 to `servers` (at most
+ * 4,095), at most `ops` of which restart at once; generations stay at or below `ceiling`. The handle keeps its control,
+ * in place of what it kept. Errors: BAD_ARGUMENT, NO_MEMORY, BAD_CEILING, NO_SHARD, TOO_MANY, BAD_BOOKS. */
 uint32_t durkenzo_open(durkenzo_handle *control, const uint64_t *numbers, size_t count, uint16_t servers, uint16_t ops,
                        uint64_t ceiling);
 
@@ -201,11 +222,12 @@ uint32_t durkenzo_look(durkenzo_handle *pass, uint16_t shard, durkenzo_record *r
 uint64_t durkenzo_look_word(durkenzo_handle *pass, uint16_t shard);
 
 /* Admits the pass to the shard, for a request that came directly (`from` 0) or that this server forwarded. Writes
- * the number of the shard's body, which is yours alone until durkenzo_finish. Errors: WRONG_HANDLE (also where the
- * pass has an admission), BAD_ARGUMENT, UNKNOWN_SHARD, and 21 to 26 or RACED, which write `read`. */
+ * the number of the shard's body, which is yours alone until durkenzo_finish where no other shard has that number.
+ * Errors: WRONG_HANDLE (also where the pass has an admission), BAD_ARGUMENT, UNKNOWN_SHARD, and 21 to 26 or RACED,
+ * which write `read`. */
 uint32_t durkenzo_admit(durkenzo_handle *pass, uint16_t shard, uint16_t from, uint64_t *number, durkenzo_record *read);
 
-/* The same, but that 21 to 26 and RACED write the word of the record that was read to `word`: the quickest admission. */
+/* The same, but that 21 to 26 and RACED write the word of the record that was read to `word`: the quickest. */
 uint32_t durkenzo_admit_word(durkenzo_handle *pass, uint16_t shard, uint16_t from, uint64_t *number, uint64_t *word);
 
 /* Ends the admission of the pass, and writes the shard's generation since then. Error: WRONG_HANDLE, where it has
@@ -222,7 +244,8 @@ uint32_t durkenzo_split(durkenzo_handle *from, durkenzo_handle *pass);
 uint32_t durkenzo_meet(durkenzo_handle *pass, durkenzo_handle *other);
 
 /* Makes this change of the shard, for this server where the kind names one. Errors: WRONG_HANDLE, BAD_ARGUMENT,
- * UNKNOWN_SHARD to SAME_SERVER, UNKNOWN_SERVER to DOMAIN_LIMIT; CHANGE_SPENT, BUSY and RACED write `read`. */
+ * UNKNOWN_SHARD to SAME_SERVER, UNKNOWN_SERVER to DOMAIN_LIMIT; CHANGE_SPENT, BUSY and RACED write `read`, which the
+ * control has then seen. */
 uint32_t durkenzo_change(durkenzo_handle *control, uint16_t shard, uint8_t kind, uint16_t server,
                          durkenzo_record *read);
 
@@ -291,8 +314,7 @@ uint32_t durkenzo_open_service(durkenzo_handle *control, size_t shards, size_t k
 
 /* Opens a board of the sample service as the line of settings says (docs/SETTINGS.md, without its line feed), but for
  * its workers: `control` keeps its control, `layout` the layout, in place of what they kept, and `shards` is how many
- * there are. Errors: NO_MEMORY, and from 70 on the line's first fault, in the order of that page: 70 is TooLong, 71
- * BadJson, 82 BadDomains. */
+ * there are. Errors: NO_MEMORY, and those of durkenzo_settings_code; the line's servers are never BAD_BOOKS. */
 uint32_t durkenzo_open_settings(durkenzo_handle *control, durkenzo_handle *layout, const uint8_t *line, size_t length,
                                 size_t *shards);
 
@@ -321,8 +343,9 @@ uint32_t durkenzo_envelope(durkenzo_handle *pass, durkenzo_handle *envelope, con
 
 /* Has the pass's server serve the envelope, which has to be of the same board; the layout says which keys the shard
  * has. Where it answers OK, the envelope's handle keeps the answer. FORWARD writes the server `to` that the envelope
- * goes to, with one hop more. Else the envelope comes back: WRONG_HANDLE, WRONG_SHARD, TOO_MANY_HOPS, KEPT_FULL,
- * NO_MEMORY, and 21 to 26 or RACED, which write `read`. */
+ * goes to, with one hop more. Else the envelope comes back, with a note that may have seen more: WRONG_HANDLE,
+ * WRONG_SHARD, TOO_MANY_HOPS, KEPT_FULL, NO_MEMORY, and 21 to 26 or RACED, which write `read`. Before KEPT_FULL and
+ * NO_MEMORY the pass was admitted, and its admission ended with nothing: these took 2 of the shard's generations. */
 uint32_t durkenzo_serve(durkenzo_handle *pass, durkenzo_handle *layout, durkenzo_handle *envelope, uint16_t *to,
                         durkenzo_record *read);
 
@@ -331,7 +354,8 @@ uint32_t durkenzo_serve(durkenzo_handle *pass, durkenzo_handle *layout, durkenzo
 uint32_t durkenzo_answer(durkenzo_handle *answer, durkenzo_answer_parts *parts, durkenzo_parts *reply);
 
 /* Makes the shard's state its base, so that it keeps no request, and writes the shard's generation since then. Errors:
- * WRONG_HANDLE, UNKNOWN_SHARD, NO_MEMORY, and 21 to 26 or RACED, which write `read`. */
+ * WRONG_HANDLE, UNKNOWN_SHARD, and 21 to 26 or RACED, which write `read`; NO_MEMORY, before which the pass was
+ * admitted, and its admission ended with nothing: these took 2 of the shard's generations. */
 uint32_t durkenzo_checkpoint(durkenzo_handle *pass, uint16_t shard, uint64_t *generation, durkenzo_record *read);
 
 /* Lets go what the handle keeps: an admission ends, and the handle keeps nothing. */
@@ -343,10 +367,10 @@ void durkenzo_close(durkenzo_handle *handle);
 /* After this change. Errors: BAD_ARGUMENT, BAD_WORD, BAD_CEILING, and 11 to 14. */
 uint32_t durkenzo_changed(uint64_t word, uint8_t kind, uint16_t server, uint64_t ceiling, uint64_t *next);
 
-/* After an admission of the server. Errors: BAD_ARGUMENT, BAD_WORD, and 21 to 26. */
+/* After an admission of the server. Errors: BAD_ARGUMENT, BAD_WORD, BAD_CEILING, and 21 to 26. */
 uint32_t durkenzo_admitted(uint64_t word, uint16_t server, uint16_t from, uint64_t ceiling, uint64_t *next);
 
-/* After the end of its admission. Error: NOT_ADMITTED. */
+/* After the end of its admission. Error: NOT_ADMITTED, also at the greatest generation. */
 uint32_t durkenzo_ended(uint64_t word, uint64_t *next);
 
 /* Writes the record of the word. Error: BAD_WORD. */

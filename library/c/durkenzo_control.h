@@ -4,7 +4,8 @@
  *
  * Every call answers 0 or a code. A call that is refused leaves the handle as it was, but where it says otherwise. A
  * handle begins as bytes of 0, isn't copied, may pass from thread to thread, and is used by one call at a time.
- * Pointers are borrowed for the time of the call, and are never null.
+ * Pointers are borrowed for the time of the call, and are never null. What those of one call point to doesn't overlap,
+ * but where both are const.
  *
  * What lies at the keys; numbers have 8 bytes, the highest first:
  *  - the leader's key, under a lease: 0x01 and the number of the process that is elected;
@@ -40,8 +41,8 @@ extern "C" {
 /* The version of this header and of the library beside it. */
 #define DURKENZO_CONTROL_VERSION "0.1.0"
 
-/* What calls answer. durkenzo_director also answers 70 to 83, the first fault of the line of settings, as
- * durkenzo_open_settings does: 70 is TooLong, 71 BadJson, 82 BadDomains. */
+/* What calls answer. durkenzo_director also answers 70 to 82, the first fault of the line of settings, as
+ * durkenzo_open_settings does: durkenzo_settings_code of durkenzo.h names them. */
 enum durkenzo_director_code {
     /* By tools/library-codes, the codes of library/codes.txt: */
     DURKENZO_DIRECTOR_OK = 0,              /* the call was made */
@@ -128,7 +129,7 @@ typedef struct {
 /* Makes the control of the store that this line of settings describes (docs/SETTINGS.md, without its line feed), for
  * this process, whose number isn't another one's and which was elected at this revision. It has read nothing yet, and
  * there are so many shards and servers. The handle keeps it, in place of what it kept. Errors: BAD_ARGUMENT where the
- * revision is 0, NO_MEMORY, and 70 to 83. */
+ * revision is 0, NO_MEMORY, and 70 to 82. */
 uint32_t durkenzo_director(durkenzo_director_handle *director, const uint8_t *line, size_t length, uint64_t process,
                            uint64_t elected, size_t *shards, size_t *servers);
 

@@ -1,10 +1,16 @@
 """Tests of the Python face of the library."""
+import contextlib
+import gc
+import pydoc
 import sqlite3
 import threading
+import time
 import unittest
+from unittest import mock
 
 import durkenzo
-from durkenzo import Board, Layout, Map, Phase, Plan, Reply, ReplyKind, Request
+from durkenzo import Board, Layout, Map, Phase, Plan, Reply, ReplyKind, Request, Sent, Service
+from durkenzo._library import LIBRARY, Handle
 
 
 class Counter:
@@ -60,6 +66,9 @@ class Boards(unittest.TestCase):
             self.assertRaises(durkenzo.BadArgument, stranger.meet, note)
             two.meet(note)
             self.assertRaises(durkenzo.WrongHandle, two.meet, note)
+            for none in (one, two, board):
+                self.assertRaises(durkenzo.BadArgument, one.meet, none)
+            self.assertEqual([it.look(0).phase for it in (one, two)], [Phase.VACANT, Phase.VACANT])
 
     def test_plans(self):
         board = Board([[], [], []], servers=2)
@@ -123,6 +132,8 @@ class Boards(unittest.TestCase):
         self.assertRaises(durkenzo.NoShard, Board, [], servers=1)
         self.assertRaises(durkenzo.TooMany, Board, range(4097), servers=1)
         self.assertRaises(durkenzo.BadCeiling, Board, [0], servers=1, ceiling=2)
+        self.assertRaises(durkenzo.BadBooks, Board, [0], servers=0)
+        self.assertRaises(durkenzo.BadBooks, Service, Layout([b""]), servers=0)
         control = Board([0], servers=2).control
         control.ask(1)
         control.ask(2)
@@ -212,7 +223,8 @@ class Numbers(unittest.TestCase):
         with service.new_pass(2) as two:
             wide = [(1 << 64, 0), (-1, 0), (1, 1 << 16), (1, 0, 1 << 16), (1, 0, (1 << 16) + 1, 1), (1, 0, 1, 257)]
             for parts in wide:
-                self.assertRaises(durkenzo.BadArgument, two.received, durkenzo.Sent(*parts), get)
+                self.assertRaises(durkenzo.BadArgument, two.received, Sent(*parts), get)
+                self.assertRaises(durkenzo.BadArgument, Sent(*parts).to_bytes)
             self.assertRaises(durkenzo.BadArgument, two.envelope, 1 << 64, get)
             for request in (Request((1 << 8) + 1, b"a"), Request.add(b"a", (1 << 64) + 1), Request.add(b"a", -1 << 64)):
                 self.assertRaises(durkenzo.BadArgument, two.envelope, 1, request)
@@ -264,6 +276,10 @@ class Services(unittest.TestCase):
             self.assertEqual((put.number, put.server, put.place, put.reply), (7, 1, 0, Reply(ReplyKind.DONE)))
             two.hear(put)
             self.assertRaises(durkenzo.WrongHandle, two.hear, put)
+            for none in (two, one, one.envelope(0, Request.get(b"name"))):
+                self.assertRaises(durkenzo.BadArgument, two.hear, none)
+            for none in (one, put):
+                self.assertRaises(durkenzo.BadArgument, one.serve, none)
             service.control.prepare_add_shard(1, 2)
             service.control.prepare_drop_shard(1)
             gone = one.serve(two.envelope(8, Request.scan(b"n", b"z")))
@@ -318,13 +334,133 @@ class Services(unittest.TestCase):
         with service.new_pass(1) as one:
             for count in (1, 2):
                 self.assertEqual(one.serve(one.envelope(0, Request.add(b"a", 1))).reply.value, count)
+            before = one.look(0).generation
             self.assertRaises(durkenzo.KeptFull, one.serve, one.envelope(0, Request.add(b"a", 1)))
+            self.assertEqual(one.look(0).generation, before + 2)
             one.checkpoint(0)
             self.assertEqual(one.serve(one.envelope(0, Request.add(b"a", 1))).reply.value, 3)
         for line, rule in ((b"", "BadJson"), (SETTINGS.replace(b"100", b"2"), "BadCeiling")):
             with self.assertRaises(durkenzo.BadSettings) as fault:
                 durkenzo.Service.by_settings(line)
             self.assertEqual(fault.exception.rule, rule)
+
+
+class Names(unittest.TestCase):
+    def test_what_is_public_is_there_and_told(self):
+        told = pydoc.plain(pydoc.render_doc(durkenzo))
+        for name in durkenzo.__all__:
+            self.assertTrue(hasattr(durkenzo, name))
+            self.assertIn(name, told)
+        for it in durkenzo.DurkenzoError.__subclasses__():
+            self.assertIn(it.__name__, durkenzo.__all__)
+            self.assertIn(f"class {it.__name__}(", told)
+
+    def test_of_codes(self):
+        error = durkenzo.errors.error_of(9_999, None)
+        self.assertEqual((type(error), error.code), (durkenzo.OtherCode, 9_999))
+        with mock.patch.object(LIBRARY, "durkenzo_open_settings", lambda *given: 83):
+            self.assertRaises(durkenzo.OtherCode, Service.by_settings, SETTINGS)
+
+    def test_of_what_was_never_made(self):
+        unraisable = []
+        with mock.patch("sys.unraisablehook", unraisable.append):
+            for kind in (Board, Layout, Service, durkenzo.Pass, durkenzo.Note, durkenzo.Envelope):
+                self.assertRaises(TypeError, kind)
+            for kind in (Board, Map):
+                kind.__new__(kind)
+            gc.collect()
+        self.assertEqual(unraisable, [])
+
+
+class Shared(unittest.TestCase):
+    """A handle is used by one call at a time, whatever threads do."""
+
+    @contextlib.contextmanager
+    def one_by_one(self, *calls):
+        """Has each of these calls of the library take its time, and sees that none is made of a handle meanwhile."""
+        used, twice, lock = set(), [], threading.Lock()
+
+        def slow(name, call):
+            def made(*given):
+                handles = {id(it._obj) for it in given if isinstance(getattr(it, "_obj", None), Handle)}
+                with lock:
+                    twice.extend([name] * bool(used & handles))
+                    used.update(handles)
+                time.sleep(0.05)
+                try:
+                    return call(*given)
+                finally:
+                    with lock:
+                        used.difference_update(handles)
+
+            return made
+
+        with contextlib.ExitStack() as patched:
+            for name in (f"durkenzo_{it}" for it in calls):
+                patched.enter_context(mock.patch.object(LIBRARY, name, slow(name, getattr(LIBRARY, name))))
+            yield
+        self.assertEqual(twice, [])
+
+    def run_beside(self, *works):
+        """Runs these at once. A closed handle may be refused."""
+
+        def ran(work):
+            with contextlib.suppress(durkenzo.WrongHandle):
+                work()
+
+        threads = [threading.Thread(target=ran, args=(it,)) for it in works]
+        for it in threads:
+            it.start()
+        for it in threads:
+            it.join()
+
+    def test_a_call_and_the_close(self):
+        board, layout, held = Board([0], servers=2), Layout([b"", b"n"]), Map()
+        service = Service(Layout([b""]), servers=1)
+        service.control.assign(0, 1)
+        mine, other, serving = board.new_pass(1), board.new_pass(2), service.new_pass(1)
+        envelope, note = serving.envelope(1, Request.get(b"a")), mine.note()
+        answer = serving.serve(serving.envelope(1, Request.get(b"a")))
+        for call, work, closed in (
+            ("shard_of", lambda: layout.shard_of(b"z"), layout),
+            ("change", lambda: board.control.assign(0, 1), board),
+            ("plan", board.control.plan_assign, board),
+            ("restart", lambda: service.control.ask(1), service),
+            ("look", lambda: mine.look(0), mine),
+            ("meet", lambda: other.meet(note), note),
+            ("ask", lambda: held.put(b"a", b"b"), held),
+            ("sent", lambda: envelope.hops, envelope),
+            ("meet", lambda: serving.hear(answer), answer),
+            ("serve", lambda: serving.serve(serving.envelope(1, Request.get(b"a"))), serving),
+            ("serve", lambda: serving.serve(envelope), envelope),
+        ):
+            with self.subTest(call), self.one_by_one(call, "close"):
+                self.run_beside(work, closed.close)
+            closed.close()
+
+    def test_calls_of_a_map(self):
+        held = Map()
+        held.put(b"a", b"one")
+        with self.one_by_one("ask", "reply_text", "map_length"):
+            self.run_beside(lambda: held.get(b"a"), lambda: held.put(b"a", b"two"), lambda: len(held))
+
+    def test_threads_count_in_one_map(self):
+        held, rounds = Map(), 2_000
+
+        def count(thread):
+            for turn in range(rounds):
+                held.add(b"all", 1)
+                held.put(b"%d" % thread, b"%d" % turn)
+                self.assertEqual(held.get(b"%d" % thread), b"%d" % turn)
+
+        failed = []
+        with mock.patch("threading.excepthook", failed.append):
+            threads = [threading.Thread(target=count, args=(it,)) for it in range(4)]
+            for it in threads:
+                it.start()
+            for it in threads:
+                it.join()
+        self.assertEqual((failed, held.get(b"all"), len(held)), ([], 4 * rounds, 5))
 
 
 if __name__ == "__main__":

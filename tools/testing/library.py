@@ -19,6 +19,7 @@ PROVED = [sources.CRATES / it / "out" / exported.library_of(it) for it in export
 NAMED = "DURKENZO_LIB"
 PROGRAM = sources.CRATES / "sm_cli/out/sm_cli"
 COUNTED = "every admission was counted\n"
+TOLD = "the header is right\n"
 SECONDS = 170
 # The Pythons of which one may have what makes a wheel: Debian's, and the first of the PATH.
 PYTHONS = ("/usr/bin/python3", "python3")
@@ -67,9 +68,21 @@ def in_rust(room):
     yield ran("scripts by the library", compared, sources.TOP)
 
 
+def of_program(room, prefix, flags, name, wanted):
+    """The program of this name in library/c compiles, and writes what is wanted."""
+    program, env = room / name, {"LD_LIBRARY_PATH": prefix / "lib"}
+    strict = ["gcc", "-std=c11", "-Wall", "-Wextra", "-Werror", FOLDER / f"c/{name}.c", "-o", program]
+    yield ran(f"the C {name} compiles", [*strict, *flags, "-pthread"], room)
+    if program.exists():
+        yield ran(f"the C {name}", [program], room, wanted, **env)
+    if program.exists() and shutil.which("valgrind"):
+        watched = ["valgrind", "--quiet", "--leak-check=full", "--error-exitcode=9", program]
+        yield ran(f"the C {name} under valgrind", watched, room, wanted, **env)
+
+
 def in_c(room):
     """The prefix is what `make install` fills, and the compiler finds it as a user's does."""
-    prefix, example = room / "prefix", room / "example"
+    prefix = room / "prefix"
     yield ran("make install", ["make", "install", f"BUILD={room}/build", f"PREFIX={prefix}"], FOLDER)
     if shutil.which("pkg-config"):
         found = ["pkg-config", "--cflags", "--libs", "durkenzo"]
@@ -78,13 +91,8 @@ def in_c(room):
         ).stdout.split()
     else:
         flags = [f"-I{prefix}/include", f"-L{prefix}/lib", "-ldurkenzo"]
-    strict = ["gcc", "-std=c11", "-Wall", "-Wextra", "-Werror", FOLDER / "c/example.c", "-o", example]
-    yield ran("the C example compiles", [*strict, *flags, "-pthread"], room)
-    if example.exists():
-        yield ran("the C example", [example], room, COUNTED, LD_LIBRARY_PATH=prefix / "lib")
-    if example.exists() and shutil.which("valgrind"):
-        watched = ["valgrind", "--quiet", "--leak-check=full", "--error-exitcode=9", example]
-        yield ran("the C example under valgrind", watched, room, COUNTED, LD_LIBRARY_PATH=prefix / "lib")
+    yield from of_program(room, prefix, flags, "example", COUNTED)
+    yield from of_program(room, prefix, flags, "test", TOLD)
 
 
 def in_python(room):

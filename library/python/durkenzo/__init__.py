@@ -17,20 +17,25 @@ from __future__ import annotations
 
 import ctypes
 import itertools
-import threading
 from dataclasses import dataclass
 from types import TracebackType
 from typing import Callable, Generic, Iterable, TypeVar
 
+from . import errors
 from ._kept import Kept as _Kept, check as _check
-from ._library import LIBRARY, Part, RecordParts
+from ._library import LIBRARY, Handle, Part, RecordParts
 from .errors import *
-from .errors import BadArgument, Busy, DurkenzoError, IsAdmitted, NotAdmitted, Raced
+from .errors import BadArgument, Busy, IsAdmitted, NotAdmitted, Raced
 from ._map import Map
 from ._reply import ReplyKind, RequestKind, Value
 from ._service import Answer, BadSettings, Envelope, Forward, KeptFull, Reply, Request, Sent, ServicePass
 from ._service import TooManyHops, WrongShard, _RULES
 from .record import Phase, Record
+
+__all__ = ["Board", "Control", "Layout", "MAX_GENERATION", "Map", "Note", "Pass", "Permit", "Phase", "Plan", "Record"]
+__all__ += ["Answer", "Envelope", "Forward", "Reply", "ReplyKind", "Request", "RequestKind", "Sent", "Service"]
+__all__ += ["ServicePass", "Value", "BadSettings", "KeptFull", "TooManyHops", "WrongShard"]
+__all__ += errors.__all__
 
 T = TypeVar("T")
 R = TypeVar("R")
@@ -58,25 +63,28 @@ class Permit(Generic[T]):
     def generation(self) -> int:
         """The shard's generation at this admission, a fencing token: each later admission to the shard has a
         greater one."""
-        if self._turn != self._pass._turn:
-            raise NotAdmitted()
-        return self._pass.look(self.shard).generation
+        with self._pass._lock:
+            if self._turn != self._pass._turn:
+                raise NotAdmitted()
+            return self._pass.look(self.shard).generation
 
     def finish(self) -> int:
         """Ends the admission, and returns the shard's generation since then. Raises NotAdmitted where it has ended."""
-        if self._turn != self._pass._turn:
-            raise NotAdmitted()
-        self._pass._turn += 1
-        generation = ctypes.c_uint64()
-        _check(LIBRARY.durkenzo_finish(ctypes.byref(self._pass._handle), ctypes.byref(generation)))
+        generation, of = ctypes.c_uint64(), self._pass
+        with of._lock:
+            if self._turn != of._turn:
+                raise NotAdmitted()
+            of._turn += 1
+            _check(LIBRARY.durkenzo_finish(ctypes.byref(of._handle), ctypes.byref(generation)))
         return generation.value
 
     def __enter__(self) -> Permit[T]:
         return self
 
     def __exit__(self, kind: type[BaseException] | None, error: BaseException | None, at: TracebackType | None) -> None:
-        if self._turn == self._pass._turn:
-            self.finish()
+        with self._pass._lock:
+            if self._turn == self._pass._turn:
+                self.finish()
 
 
 class Note(_Kept, Generic[T]):
@@ -85,7 +93,8 @@ class Note(_Kept, Generic[T]):
     def __init__(self, of: Pass[T]) -> None:
         super().__init__()
         self._board = of._board
-        _check(LIBRARY.durkenzo_split(ctypes.byref(of._handle), ctypes.byref(self._handle)))
+        with of._lock:
+            _check(LIBRARY.durkenzo_split(ctypes.byref(of._handle), ctypes.byref(self._handle)))
 
 
 class Pass(_Kept, Generic[T]):
@@ -103,7 +112,8 @@ class Pass(_Kept, Generic[T]):
     def look(self, shard: int) -> Record:
         """Returns the shard's record, as the pass then sees it. Raises UnknownShard."""
         parts = RecordParts()
-        _check(LIBRARY.durkenzo_look(ctypes.byref(self._handle), shard, ctypes.byref(parts)))
+        with self._lock:
+            _check(LIBRARY.durkenzo_look(ctypes.byref(self._handle), shard, ctypes.byref(parts)))
         return Record.of(parts)
 
     def admit(self, shard: int, forwarded_by: int = 0) -> Permit[T]:
@@ -113,11 +123,12 @@ class Pass(_Kept, Generic[T]):
         UnknownShard; BadArgument where no server has that number; or WrongHandle where the pass has a permit.
         """
         number, parts = ctypes.c_uint64(), RecordParts()
-        code = LIBRARY.durkenzo_admit(
-            ctypes.byref(self._handle), shard, forwarded_by, ctypes.byref(number), ctypes.byref(parts)
-        )
-        _check(code, parts)
-        return Permit(self, shard, self._board._bodies[number.value])
+        written = map(ctypes.byref, (number, parts))
+        with self._lock:
+            code = LIBRARY.durkenzo_admit(ctypes.byref(self._handle), shard, forwarded_by, *written)
+            if code == 0:
+                return Permit(self, shard, self._board._bodies[number.value])
+        raise errors.error_of(code, Record.of(parts))
 
     def run(self, shard: int, work: Callable[[T], R], forwarded_by: int = 0) -> R:
         """Admits the pass, again while another thread has the shard or was first, and returns what `work` makes of
@@ -136,15 +147,17 @@ class Pass(_Kept, Generic[T]):
 
     def meet(self, note: Note[T]) -> None:
         """Tells the pass all that the note tells. Raises WrongHandle where the note was told or the pass has a permit,
-        or BadArgument for a note of another board."""
-        if note._board is not self._board:
+        or BadArgument for what is no note of its board."""
+        if not isinstance(note, Note) or note._board is not self._board:
             raise BadArgument()
-        _check(LIBRARY.durkenzo_meet(ctypes.byref(self._handle), ctypes.byref(note._handle)))
+        with self._lock, note._lock:
+            _check(LIBRARY.durkenzo_meet(ctypes.byref(self._handle), ctypes.byref(note._handle)))
 
     def close(self) -> None:
         """Lets go what the library keeps for the pass, and ends its permit. Further calls raise WrongHandle."""
-        self._turn += 1
-        super().close()
+        with self._lock:
+            self._turn += 1
+            super().close()
 
     def __enter__(self) -> Pass[T]:
         return self
@@ -225,7 +238,9 @@ class Control(Generic[T]):
 
     def migrate(self, shard: int, server: int) -> None:
         """Moves the shard to this server by a whole migration, whose steps are tried again while the shard is
-        admitted."""
+        admitted: for ever where that admission doesn't end, as where the calling thread has the permit. The steps
+        before one that raises stay made, and leave the shard in the midst of its migration: cancel goes back from
+        before add_shard, and drop_shard ends what comes after it."""
         self._again(lambda: self.prepare_add_shard(shard, server))
         self._again(lambda: self.prepare_drop_shard(shard))
         self._again(lambda: self.add_shard(shard))
@@ -279,19 +294,19 @@ class Control(Generic[T]):
 
 
 def _check_settings(code: int) -> None:
-    if code >= 70:
-        raise BadSettings(_RULES[code - 70])
+    if rule := _RULES.get(code):
+        raise BadSettings(rule)
     _check(code)
 
 
 class Board(_Kept, Generic[T]):
-    """A board: a body for each shard, and who may use it. Threads may share it."""
+    """A board: a body for each shard, and who may use it. Threads may share it: each call takes its lock."""
 
     def __init__(self, bodies: Iterable[T], servers: int, restarts: int = 1, ceiling: int = MAX_GENERATION) -> None:
         """Makes a board with these bodies, 1 to 4,096, of servers 1 to this one, at most `restarts` of which
         restart at once.
 
-        Raises NoShard, TooMany, BadArgument, BadCeiling or NoMemory.
+        Raises NoShard, TooMany, BadArgument, BadBooks where there are no servers, BadCeiling or NoMemory.
         """
         super().__init__()
         numbers, count = self._begin(bodies)
@@ -307,12 +322,12 @@ class Board(_Kept, Generic[T]):
         numbers, count = board._begin(bodies)
         handles = map(ctypes.byref, (board._handle, layout._handle))
         _check_settings(LIBRARY.durkenzo_open_bodies(*handles, line, len(line), numbers, count))
-        layout._begin(count)
+        layout._count = count
         return board, layout
 
     def _begin(self, bodies: Iterable[T]) -> tuple[ctypes.Array[ctypes.c_uint64], int]:
         """Keeps the bodies, and returns their numbers, and how many they are."""
-        self._bodies, self._lock = list(bodies), threading.Lock()
+        self._bodies = list(bodies)
         self.control: Control[T] = Control(self)
         count = len(self._bodies)
         return (ctypes.c_uint64 * count)(*range(count)), count
@@ -340,10 +355,7 @@ class Layout(_Kept):
         parts = (Part * len(texts))(*(Part(end - len(it), end) for it, end in zip(texts, ends)))
         text = b"".join(texts)
         _check(LIBRARY.durkenzo_layout(ctypes.byref(self._handle), text, len(text), parts, len(texts)))
-        self._begin(len(texts))
-
-    def _begin(self, count: int) -> None:
-        self._lock, self._count = threading.Lock(), count
+        self._count = len(texts)
 
     def __len__(self) -> int:
         return self._count
@@ -369,7 +381,7 @@ class Layout(_Kept):
 
 class Service(_Kept):
     """A board of the sample service with the layout of its keys: texts and counts by key, of which the library executes
-    the requests itself. Threads may share it."""
+    the requests itself. Threads may share it: each call takes its lock."""
 
     def __init__(
         self,
@@ -382,7 +394,7 @@ class Service(_Kept):
         """Makes a board with a shard for each of the layout's, each of which keeps at most `kept` requests between
         checkpoints, of servers 1 to this one, at most `restarts` of which restart at once.
 
-        Raises BadArgument, BadCeiling or NoMemory.
+        Raises BadArgument, BadBooks where there are no servers, BadCeiling or NoMemory.
         """
         super().__init__()
         self._begin(layout)
@@ -397,12 +409,12 @@ class Service(_Kept):
             _Kept.__init__(kept)
         handles = map(ctypes.byref, (service._handle, layout._handle))
         _check_settings(LIBRARY.durkenzo_open_settings(*handles, line, len(line), ctypes.byref(count)))
-        layout._begin(count.value)
+        layout._count = count.value
         service._begin(layout)
         return service
 
     def _begin(self, layout: Layout) -> None:
-        self.layout, self._lock = layout, threading.Lock()
+        self.layout = layout
         self.control: Control[None] = Control(self)
 
     def new_pass(self, server: int) -> ServicePass:

@@ -2,6 +2,7 @@
 from __future__ import annotations
 
 import ctypes
+import threading
 
 from ._library import LIBRARY, Handle, RecordParts
 from .errors import error_of
@@ -15,14 +16,22 @@ def check(code: int, parts: RecordParts | None = None) -> None:
 
 
 class Kept:
-    """What the library keeps for an object, which lets it go at the end."""
+    """What the library keeps for an object, which lets it go at the end.
+
+    A handle is used by one call at a time, and other threads run while ctypes is in a call. So whoever gives the handle
+    to the library, or puts another one in its place, holds the lock of its object; a new object needs none. Of several
+    locks that of a pass is taken first, then a layout's, and that of a note, an envelope or an answer last.
+    """
 
     def __init__(self) -> None:
-        self._handle = Handle()
+        self._handle, self._lock = Handle(), threading.RLock()
 
     def close(self) -> None:
         """Lets go what the library keeps for this. An admission ends. Further calls raise WrongHandle."""
-        LIBRARY.durkenzo_close(ctypes.byref(self._handle))
+        with self._lock:
+            LIBRARY.durkenzo_close(ctypes.byref(self._handle))
 
     def __del__(self) -> None:
-        self.close()
+        # What was refused before it was made has no lock, and keeps nothing.
+        if hasattr(self, "_lock"):
+            self.close()

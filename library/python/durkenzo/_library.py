@@ -139,7 +139,7 @@ def typed(call: Any, types: list[Any]) -> Callable[..., int]:
 
 
 def loaded() -> ctypes.CDLL:
-    """Returns the library with the types of its calls."""
+    """Returns the library with the types of its calls. Other threads run beside a call; Kept keeps them off handles."""
     library = ctypes.CDLL(found())
     for name, types in calls().items():
         name = f"durkenzo_{name}"

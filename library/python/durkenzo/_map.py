@@ -14,23 +14,27 @@ _REFUSALS = {ReplyKind.WRONG_KIND: WrongKind, ReplyKind.OVERFLOW: CountOverflow,
 
 class Map(Kept):
     """A map from keys of 1 to 255 bytes to texts of at most 65,535 bytes and counts of 64 bits, in the order of the
-    keys. A call that raises changes nothing. Each raises KeyEmpty, KeyTooLong or NoMemory."""
+    keys. A call that raises changes nothing. Each raises KeyEmpty, KeyTooLong or NoMemory. Threads may share it: each
+    call takes its lock."""
 
     def __init__(self) -> None:
-        super().__init__()
+        # What the last request was replied, under the lock of the map.
         self._reply = Handle()
+        super().__init__()
         check(LIBRARY.durkenzo_map(ctypes.byref(self._handle)))
 
     def __len__(self) -> int:
         """Returns how many keys hold something."""
         length = ctypes.c_uint64()
-        check(LIBRARY.durkenzo_map_length(ctypes.byref(self._handle), ctypes.byref(length)))
+        with self._lock:
+            check(LIBRARY.durkenzo_map_length(ctypes.byref(self._handle), ctypes.byref(length)))
         return length.value
 
     def get(self, key: bytes) -> Value | None:
         """Returns the text or the count that the key holds, or None."""
-        parts = self._ask(RequestKind.GET, key)
-        return None if parts.kind == ReplyKind.NOTHING else value_in(self._reply, parts)
+        with self._lock:
+            parts = self._ask(RequestKind.GET, key)
+            return None if parts.kind == ReplyKind.NOTHING else value_in(self._reply, parts)
 
     def put(self, key: bytes, text: bytes) -> None:
         """Has the key hold the text, in place of the text that it held. Raises WrongKind where the key holds a count,
@@ -54,16 +58,20 @@ class Map(Kept):
 
     def scan(self, low: bytes, high: bytes, most: int = 100) -> list[tuple[bytes, Value]]:
         """Returns the first pairs with keys from `low` on and below `high`, `most` of them and at most 100."""
-        return pairs_in(self._reply, self._ask(RequestKind.SCAN, low, high, most))
+        with self._lock:
+            return pairs_in(self._reply, self._ask(RequestKind.SCAN, low, high, most))
 
     def close(self) -> None:
         """Lets go what the library keeps for the map. Further calls raise WrongHandle."""
-        super().close()
-        LIBRARY.durkenzo_close(ctypes.byref(self._reply))
+        with self._lock:
+            super().close()
+            LIBRARY.durkenzo_close(ctypes.byref(self._reply))
 
     def _ask(self, kind: RequestKind, key: bytes, other: bytes = b"", amount: int = 0) -> ReplyParts:
-        parts, handles = ReplyParts(), map(ctypes.byref, (self._handle, self._reply))
-        check(LIBRARY.durkenzo_ask(*handles, kind, key, len(key), other, len(other), amount, ctypes.byref(parts)))
+        parts = ReplyParts()
+        with self._lock:
+            handles = map(ctypes.byref, (self._handle, self._reply))
+            check(LIBRARY.durkenzo_ask(*handles, kind, key, len(key), other, len(other), amount, ctypes.byref(parts)))
         if refusal := _REFUSALS.get(parts.kind):
             raise refusal()
         return parts

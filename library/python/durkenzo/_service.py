@@ -10,7 +10,7 @@ from typing import TYPE_CHECKING, Union
 from ._kept import Kept, check
 from ._library import LIBRARY, AnswerParts, RecordParts, ReplyParts, SentParts
 from ._reply import ReplyKind, RequestKind, Value, pairs_in, value_in
-from .errors import BadArgument, DurkenzoError
+from .errors import BadArgument, DurkenzoError, error_of
 from .record import Record
 
 if TYPE_CHECKING:
@@ -39,10 +39,23 @@ class BadSettings(DurkenzoError):
         self.rule = rule
 
 
-_RULES = (
-    *("TooLong", "BadJson", "BadVersion", "BadShape", "BadLayout", "BadServers", "BadGroups", "BadShards", "BadOps"),
-    *("BadKept", "BadCeiling", "BadWorkers", "BadDomains"),
-)
+# By tools/library-codes, the settings of library/codes.txt:
+_RULES = {
+    70: "TooLong",
+    71: "BadJson",
+    72: "BadVersion",
+    73: "BadShape",
+    74: "BadLayout",
+    75: "BadServers",
+    76: "BadGroups",
+    77: "BadShards",
+    78: "BadOps",
+    79: "BadKept",
+    80: "BadCeiling",
+    81: "BadWorkers",
+    82: "BadDomains",
+}
+# End of them.
 _REFUSALS = {61: WrongShard, 62: TooManyHops, 63: KeptFull}
 
 
@@ -105,8 +118,11 @@ class Sent:
     hops: int = 0
 
     def to_bytes(self) -> bytes:
-        """Returns the fields as 13 bytes, each with its highest byte first."""
-        return _FIELDS.pack(self.number, self.shard, self.forwarded_by, self.hops)
+        """Returns the fields as 13 bytes, each with its highest byte first. Raises BadArgument where one has no room
+        for its field."""
+        fields = (self.number, self.shard, self.forwarded_by, self.hops)
+        SentParts.of(*fields)
+        return _FIELDS.pack(*fields)
 
     @staticmethod
     def from_bytes(text: bytes) -> Sent:
@@ -136,7 +152,8 @@ class Envelope(Kept):
         """The envelope but for its request and its note: what goes with the request to another process, where
         ServicePass.received makes the envelope again."""
         parts = SentParts()
-        check(LIBRARY.durkenzo_sent(ctypes.byref(self._handle), ctypes.byref(parts)))
+        with self._lock:
+            check(LIBRARY.durkenzo_sent(ctypes.byref(self._handle), ctypes.byref(parts)))
         return Sent(parts.number, parts.shard, getattr(parts, "from"), parts.hops)
 
     @property
@@ -160,6 +177,7 @@ class Answer(Kept):
 
     def __init__(self, envelope: Envelope) -> None:
         super().__init__()
+        # Under the lock of the envelope, which then keeps nothing.
         self._service = envelope._service
         self._handle, envelope._handle = envelope._handle, self._handle
         parts, reply = AnswerParts(), ReplyParts()
@@ -193,7 +211,8 @@ class ServicePass(Kept):
     def look(self, shard: int) -> Record:
         """Returns the shard's record, as the pass then sees it. Raises UnknownShard."""
         parts = RecordParts()
-        check(LIBRARY.durkenzo_look(ctypes.byref(self._handle), shard, ctypes.byref(parts)))
+        with self._lock:
+            check(LIBRARY.durkenzo_look(ctypes.byref(self._handle), shard, ctypes.byref(parts)))
         return Record.of(parts)
 
     def envelope(self, number: int, request: Request) -> Envelope:
@@ -206,42 +225,49 @@ class ServicePass(Kept):
         all that the pass has seen. Raises KeyEmpty, KeyTooLong, BadArgument or NoMemory."""
         envelope, it = Envelope(self._service), request
         parts = SentParts.of(sent.number, sent.shard, sent.forwarded_by, sent.hops)
-        handles = map(ctypes.byref, (self._handle, envelope._handle, parts))
         texts = (it.key, len(it.key), it.other, len(it.other))
-        check(LIBRARY.durkenzo_envelope(*handles, it.kind, *texts, it.amount))
+        with self._lock:
+            handles = map(ctypes.byref, (self._handle, envelope._handle, parts))
+            check(LIBRARY.durkenzo_envelope(*handles, it.kind, *texts, it.amount))
         return envelope
 
     def serve(self, envelope: Envelope) -> Union[Answer, Forward]:
         """Has the pass's server serve the envelope: it executes the request, or names the server that the envelope
-        goes to. Raises why it does neither, and the envelope is as it was: NobodyOwns, IsPaused, NotExecutor, NotYet,
-        IsAdmitted, Spent or Raced, with the record that was read; WrongShard, TooManyHops, KeptFull, NoMemory; or
-        BadArgument for an envelope of another board."""
-        if envelope._service is not self._service:
+        goes to. Raises why it does neither, and the envelope is as it was, but that it may have seen more: NobodyOwns,
+        IsPaused, NotExecutor, NotYet, IsAdmitted, Spent or Raced, with the record that was read; WrongShard or
+        TooManyHops; KeptFull or NoMemory, before which the server was admitted, and its admission ended with nothing,
+        which took 2 of the shard's generations; or BadArgument for what is no envelope of its board."""
+        if not isinstance(envelope, Envelope) or envelope._service is not self._service:
             raise BadArgument()
         to, read, layout = ctypes.c_uint16(), RecordParts(), self._service.layout
-        with layout._lock:
+        with self._lock, layout._lock, envelope._lock:
             handles = map(ctypes.byref, (self._handle, layout._handle, envelope._handle))
             code = LIBRARY.durkenzo_serve(*handles, ctypes.byref(to), ctypes.byref(read))
+            if code == 0:
+                return Answer(envelope)
         if code == FORWARD:
             return Forward(to.value, envelope)
         if refusal := _REFUSALS.get(code):
             raise refusal()
-        check(code, read)
-        return Answer(envelope)
+        raise error_of(code, Record.of(read))
 
     def hear(self, answer: Answer) -> None:
         """Tells the pass all that the answer has seen, so that what it asks next comes after the answered request.
-        Raises WrongHandle where it was heard, or BadArgument for an answer of another board."""
-        if answer._service is not self._service:
+        Raises WrongHandle where it was heard, or BadArgument for what is no answer of its board."""
+        if not isinstance(answer, Answer) or answer._service is not self._service:
             raise BadArgument()
-        check(LIBRARY.durkenzo_meet(ctypes.byref(self._handle), ctypes.byref(answer._handle)))
+        with self._lock, answer._lock:
+            check(LIBRARY.durkenzo_meet(ctypes.byref(self._handle), ctypes.byref(answer._handle)))
 
     def checkpoint(self, shard: int) -> int:
         """Makes the shard's state its base, so that it keeps no request, and returns its generation since then. Raises
-        as serve, and UnknownShard."""
+        UnknownShard; NobodyOwns, IsPaused, NotExecutor, NotYet, IsAdmitted, Spent or Raced, with the record that was
+        read; or NoMemory, before which the pass was admitted, and its admission ended with nothing, which took 2 of
+        the shard's generations."""
         generation, read = ctypes.c_uint64(), RecordParts()
-        at = ctypes.byref(self._handle)
-        check(LIBRARY.durkenzo_checkpoint(at, shard, ctypes.byref(generation), ctypes.byref(read)), read)
+        with self._lock:
+            at = ctypes.byref(self._handle)
+            check(LIBRARY.durkenzo_checkpoint(at, shard, ctypes.byref(generation), ctypes.byref(read)), read)
         return generation.value
 
     def __enter__(self) -> ServicePass:

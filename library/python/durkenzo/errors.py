@@ -52,7 +52,7 @@ class TooMany(DurkenzoError):
 
 
 class BadBooks(DurkenzoError):
-    """There are no servers, or memory for their books was refused."""
+    """There are no servers."""
 
     code = 8
 
@@ -279,6 +279,12 @@ class TextTooLong(DurkenzoError):
     code = None
 
 
+class OtherCode(DurkenzoError):
+    """The library answered a code that this version doesn't know."""
+
+    code = None
+
+
 # The codes with which a record is written.
 _READ = {13, 14, 15, 21, 22, 23, 24, 25, 26}
 
@@ -328,6 +334,7 @@ __all__ = [
     "WrongKind",
     "CountOverflow",
     "TextTooLong",
+    "OtherCode",
 ]
 # End of them.
 
@@ -336,4 +343,6 @@ _BY_CODE = {it.code: it for it in DurkenzoError.__subclasses__()}
 
 def error_of(code: int, record: Record | None) -> DurkenzoError:
     """Returns the exception of a code, with the record where the library wrote one."""
-    return _BY_CODE[code](record if code in _READ else None)
+    error = _BY_CODE.get(code, OtherCode)(record if code in _READ else None)
+    error.code = code
+    return error

@@ -335,6 +335,7 @@ fn not_admitted(f: &mut fmt::Formatter<'_>, fault: AdmitFault) -> fmt::Result {
         AdmitFault::Spent(_) => "start anew with a greater ceiling",
         AdmitFault::UnknownShard => "SM SHARDS lists them",
         AdmitFault::BadServer => "SM SERVERS lists them",
+        _ => "SM SHARDS tells how all stand",
     };
     write!(f, "REFUSED {}: {fault}; try: {advice}", name_of(&fault))
 }

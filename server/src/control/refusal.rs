@@ -124,6 +124,7 @@ impl Refusal {
             ChangeFault::Busy(_) | ChangeFault::Raced(_) => "try again",
             ChangeFault::Leaving => "name another server, or SM BACK it first",
             ChangeFault::NoCapacity | ChangeFault::DomainLimit => "name another server",
+            _ => "SM SHARDS tells how all stand",
         };
         Refusal::new(&name_of(&fault), format!("{fault}{stands}"), advice)
     }
@@ -203,6 +204,7 @@ impl Refusal {
             RestartFault::ShardCap => {
                 "move the shard to another server by SM MIGRATE k b".to_owned()
             }
+            _ => "SM SERVERS tells how all are".to_owned(),
         };
         Refusal::new(&name_of(&fault), fault.to_string(), advice)
     }
@@ -250,7 +252,7 @@ impl From<PlanFault> for Refusal {
     fn from(fault: PlanFault) -> Refusal {
         let advice = match fault {
             PlanFault::UnknownServer => "SM SERVERS lists them",
-            PlanFault::NoMemory => "try again",
+            _ => "try again",
         };
         Refusal::new(&name_of(&fault), fault.to_string(), advice)
     }

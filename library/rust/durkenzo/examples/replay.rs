@@ -5,13 +5,11 @@
 //! many changes there were, and those that no change of the rule leads to; the exit status is 1 where there is such a
 //! one, or a line can't be read.
 use durkenzo::word::{changed, record, Change};
-use durkenzo::Stand;
+use durkenzo::{Stand, MAX_GENERATION};
 use std::collections::BTreeMap;
 use std::io::{stdin, BufRead};
 use std::process::ExitCode;
 
-/// No generation is beyond it.
-const CEILING: u64 = (1 << 36) - 1;
 const VACANT: u64 = 0;
 
 /// The servers that a record names.
@@ -41,7 +39,7 @@ fn change_between(before: u64, after: u64) -> Option<Change> {
         .flat_map(|of| servers.iter().map(move |it| of(*it)));
     with_server
         .chain(others)
-        .find(|it| changed(before, *it, CEILING) == Ok(after))
+        .find(|it| changed(before, *it, MAX_GENERATION) == Ok(after))
 }
 
 /// The shard, its word, and whether the change is judged, as a line says.

@@ -19,8 +19,7 @@ pub(crate) struct Shared<T> {
 }
 
 // SAFETY: a body is reached through a permit alone, of which a shard has one at a time; so the board passes bodies
-// between
-// threads, and shares none.
+// between threads, and shares none.
 unsafe impl<T: Send> Sync for Shared<T> {}
 
 impl<T> Shared<T> {
@@ -50,6 +49,7 @@ pub struct Board<T> {
 
 /// The sizes of a board that is to be built.
 #[derive(Clone, Debug)]
+#[must_use = "there is no board before `build`"]
 pub struct Builder {
     servers: u16,
     restarts: u16,
@@ -76,6 +76,10 @@ impl Builder {
     }
 
     /// A board with these bodies, 1 to 4,096: one for each shard, in order. Nobody owns a shard yet.
+    ///
+    /// # Errors
+    ///
+    /// `NoShard` and `TooMany` by the bodies, `BadServers` and `BadCeiling` by the sizes, or `NoMemory`.
     pub fn build<T>(self, bodies: impl IntoIterator<Item = T>) -> Result<Board<T>, BuildFault> {
         if self.servers == 0 {
             return Err(BuildFault::BadServers);
@@ -132,6 +136,10 @@ impl<T> Board<T> {
     /// with their capacities, its groups, domains and limits bind. Its workers and kept requests are for other engines.
     /// The bodies are as many as its shards. Nobody owns a shard yet.
     ///
+    /// # Errors
+    ///
+    /// The first rule that the line breaks, `BadCount` where the bodies aren't as many as its shards, or `NoMemory`.
+    ///
     /// ```
     /// use durkenzo::Board;
     ///
@@ -176,6 +184,10 @@ impl<T> Board<T> {
     }
 
     /// A new pass, admitted as this server.
+    ///
+    /// # Errors
+    ///
+    /// `BadServer` where no server has the number, or `NoMemory`.
     pub fn pass(&self, server: u16) -> Result<Pass<T>, PassFault> {
         let mut handle = Handle::empty();
         // SAFETY: the control's handle is locked, and the other is this call's alone.
@@ -190,7 +202,11 @@ impl<T> Board<T> {
         Control::new(self.shared.clone())
     }
 
-    /// The bodies, where nothing else belongs to the board: no clone, no pass and no control; else the board again.
+    /// The bodies, where nothing else belongs to the board: no clone, no pass and no control.
+    ///
+    /// # Errors
+    ///
+    /// The board again, where something else belongs to it.
     pub fn into_bodies(self) -> Result<Vec<T>, Board<T>> {
         let shared = Arc::try_unwrap(self.shared).map_err(|shared| Board { shared })?;
         Ok(shared

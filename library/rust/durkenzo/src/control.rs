@@ -4,9 +4,17 @@ use crate::plan::Plan;
 use crate::raw::{self, Handle, RecordParts};
 use crate::record::{Record, Stand};
 use crate::restore_fault::RestoreFault;
+use std::fmt;
 use std::sync::Arc;
 
 /// The control of a board: it alone changes who owns a shard. Each call takes the control's lock for its own time.
+///
+/// # Errors
+///
+/// A change is refused by `UnknownShard` or `UnknownServer` where there is none, `WrongPhase` or `SameServer` where it
+/// doesn't begin from the shard's stand, `Leaving`, `NoCapacity` or `DomainLimit` by the server that it names, and
+/// `Spent`, `Busy` or `Raced` by the record that was read. A step of a restart is refused by `UnknownServer`, by a cap,
+/// or by how far the server's restart is. What is refused changes no stand.
 pub struct Control<T> {
     shared: Arc<Shared<T>>,
 }
@@ -17,51 +25,95 @@ impl<T> Control<T> {
     }
 
     /// Gives a vacant shard this owner.
+    ///
+    /// # Errors
+    ///
+    /// As [a change](Control#errors).
     pub fn assign(&self, shard: u16, server: u16) -> Result<(), ChangeFault> {
         self.change(shard, 1, server)
     }
 
     /// Begins a migration of the shard to this server.
+    ///
+    /// # Errors
+    ///
+    /// As [a change](Control#errors).
     pub fn prepare_add_shard(&self, shard: u16, server: u16) -> Result<(), ChangeFault> {
         self.change(shard, 2, server)
     }
 
     /// Has the shard's owner stop executing, and forward to the next owner.
+    ///
+    /// # Errors
+    ///
+    /// As [a change](Control#errors).
     pub fn prepare_drop_shard(&self, shard: u16) -> Result<(), ChangeFault> {
         self.change(shard, 3, 0)
     }
 
     /// Makes the next owner the owner, to whom the previous one forwards.
+    ///
+    /// # Errors
+    ///
+    /// As [a change](Control#errors).
     pub fn add_shard(&self, shard: u16) -> Result<(), ChangeFault> {
         self.change(shard, 4, 0)
     }
 
     /// Ends the migration, as the previous owner drops the shard.
+    ///
+    /// # Errors
+    ///
+    /// As [a change](Control#errors).
     pub fn drop_shard(&self, shard: u16) -> Result<(), ChangeFault> {
         self.change(shard, 5, 0)
     }
 
     /// Gives up a migration that hasn't reached `add_shard`.
+    ///
+    /// # Errors
+    ///
+    /// As [a change](Control#errors).
     pub fn cancel(&self, shard: u16) -> Result<(), ChangeFault> {
         self.change(shard, 6, 0)
     }
 
     /// Has nobody execute the shard's requests.
+    ///
+    /// # Errors
+    ///
+    /// As [a change](Control#errors).
     pub fn pause(&self, shard: u16) -> Result<(), ChangeFault> {
         self.change(shard, 7, 0)
     }
 
     /// Has the owner of a paused shard execute again.
+    ///
+    /// # Errors
+    ///
+    /// As [a change](Control#errors).
     pub fn resume(&self, shard: u16) -> Result<(), ChangeFault> {
         self.change(shard, 8, 0)
     }
 
     /// Gives a paused shard this owner.
+    ///
+    /// # Errors
+    ///
+    /// As [a change](Control#errors).
     pub fn reassign(&self, shard: u16, server: u16) -> Result<(), ChangeFault> {
         self.change(shard, 9, server)
     }
 
-    /// Moves the shard to this server by a whole migration, whose steps are tried again while the shard is admitted.
+    /// Moves the shard to this server by a whole migration, whose steps are tried again while the shard is admitted:
+    /// for ever where that admission doesn't end, as where the calling thread holds the permit, or has forgotten it and
+    /// its pass lives.
+    ///
+    /// # Errors
+    ///
+    /// As [a change](Control#errors), but for `Busy` and `Raced`. The steps before the refused one stay made, and leave
+    /// the shard in the midst of its migration: [`Control::cancel`] goes back from before `add_shard`, and
+    /// [`Control::drop_shard`] ends what comes after it.
     pub fn migrate(&self, shard: u16, server: u16) -> Result<(), ChangeFault> {
         again(|| self.prepare_add_shard(shard, server))?;
         again(|| self.prepare_drop_shard(shard))?;
@@ -70,7 +122,11 @@ impl<T> Control<T> {
     }
 
     /// Makes the changes that lead a vacant shard, or one on its way, to the stand, as where an older board's is to be
-    /// reached anew: its generations aren't. The changes before a refused one stay made.
+    /// reached anew: its generations aren't.
+    ///
+    /// # Errors
+    ///
+    /// `Change` with the first change that is refused, before which those stay made, or `NoMemory`.
     pub fn restore(&self, shard: u16, to: Stand) -> Result<(), RestoreFault> {
         let (from, mut at) = (self.stand(shard)?, to);
         let mut steps = Vec::new();
@@ -86,37 +142,65 @@ impl<T> Control<T> {
     }
 
     /// Asks for a restart of the server.
+    ///
+    /// # Errors
+    ///
+    /// As [a step](Control#errors).
     pub fn ask(&self, server: u16) -> Result<(), RestartFault> {
         self.restart(1, server)
     }
 
     /// Approves the restart of the server, within the caps.
+    ///
+    /// # Errors
+    ///
+    /// As [a step](Control#errors).
     pub fn approve(&self, server: u16) -> Result<(), RestartFault> {
         self.restart(2, server)
     }
 
     /// Notes that the server was stopped for its restart.
+    ///
+    /// # Errors
+    ///
+    /// As [a step](Control#errors).
     pub fn stopped(&self, server: u16) -> Result<(), RestartFault> {
         self.restart(3, server)
     }
 
     /// Notes that the server is up again.
+    ///
+    /// # Errors
+    ///
+    /// As [a step](Control#errors).
     pub fn back(&self, server: u16) -> Result<(), RestartFault> {
         self.restart(4, server)
     }
 
     /// Notes that the server failed.
+    ///
+    /// # Errors
+    ///
+    /// As [a step](Control#errors).
     pub fn fail(&self, server: u16) -> Result<(), RestartFault> {
         self.restart(5, server)
     }
 
     /// Plans where the vacant shards go: each by number to the lowest server that it fits, earlier moves counted as
     /// made. Nothing is moved.
+    ///
+    /// # Errors
+    ///
+    /// `NoMemory`.
     pub fn plan_assign(&self) -> Result<Plan, PlanFault> {
         self.plan(0)
     }
 
     /// Plans where the shards go that this server serves, to other servers. Nothing is moved.
+    ///
+    /// # Errors
+    ///
+    /// `UnknownServer` where there is none, or `NoMemory`.
     pub fn plan_drain(&self, server: u16) -> Result<Plan, PlanFault> {
         match server {
             0 => Err(PlanFault::UnknownServer),
@@ -173,6 +257,12 @@ impl<T> Clone for Control<T> {
         Control {
             shared: self.shared.clone(),
         }
+    }
+}
+
+impl<T> fmt::Debug for Control<T> {
+    fn fmt(&self, f: &mut fmt::Formatter<'_>) -> fmt::Result {
+        f.debug_struct("Control").finish_non_exhaustive()
     }
 }
 

@@ -22,7 +22,7 @@ impl AdmitFault {
         match *self {
             Vacant(it) | Paused(it) | NotExecutor(it) | NotYet(it) | Admitted(it) | Spent(it)
             | Raced(it) => Some(it),
-            UnknownShard | BadServer | Holding => None,
+            UnknownShard | BadServer | Holding | Other(_) => None,
         }
     }
 
@@ -51,6 +51,7 @@ impl ChangeFault {
 
 /// Why there is no board.
 #[derive(Clone, Copy, Debug, PartialEq, Eq)]
+#[non_exhaustive]
 pub enum BuildFault {
     /// A board has 1 to 4,095 servers, and as many restarts at once at most.
     BadServers,
@@ -62,6 +63,8 @@ pub enum BuildFault {
     NoShard,
     /// A board has at most 4,096 shards.
     TooMany,
+    /// The library answered this code, which this version doesn't know.
+    Other(u32),
 }
 
 impl BuildFault {
@@ -73,7 +76,7 @@ impl BuildFault {
             5 => BuildFault::BadCeiling,
             6 => BuildFault::NoShard,
             7 => BuildFault::TooMany,
-            other => unreachable!("no BuildFault has code {other}"),
+            code => BuildFault::Other(code),
         }
     }
 }
@@ -88,6 +91,7 @@ impl fmt::Display for BuildFault {
             BuildFault::BadCeiling => "the ceiling of generations is 3 to 68,719,476,735",
             BuildFault::NoShard => "a board has at least one shard",
             BuildFault::TooMany => "a board has at most 4,096 shards",
+            BuildFault::Other(code) => return write!(f, "the library answered code {code}"),
         })
     }
 }
@@ -96,11 +100,14 @@ impl Error for BuildFault {}
 
 /// Why there is no pass.
 #[derive(Clone, Copy, Debug, PartialEq, Eq)]
+#[non_exhaustive]
 pub enum PassFault {
     /// A server has a number from 1 to 4,095.
     BadServer,
     /// Out of memory.
     NoMemory,
+    /// The library answered this code, which this version doesn't know.
+    Other(u32),
 }
 
 impl PassFault {
@@ -109,7 +116,7 @@ impl PassFault {
         match code {
             2 => PassFault::BadServer,
             3 => PassFault::NoMemory,
-            other => unreachable!("no PassFault has code {other}"),
+            code => PassFault::Other(code),
         }
     }
 }
@@ -119,6 +126,7 @@ impl fmt::Display for PassFault {
         f.write_str(match self {
             PassFault::BadServer => "a server has a number from 1 to 4,095",
             PassFault::NoMemory => "out of memory",
+            PassFault::Other(code) => return write!(f, "the library answered code {code}"),
         })
     }
 }
@@ -127,6 +135,7 @@ impl Error for PassFault {}
 
 /// Why a pass isn't admitted to a shard, with the record that was read.
 #[derive(Clone, Copy, Debug, PartialEq, Eq)]
+#[non_exhaustive]
 pub enum AdmitFault {
     /// The pass holds a permit that was forgotten.
     Holding,
@@ -148,6 +157,8 @@ pub enum AdmitFault {
     Admitted(Record),
     /// The shard's generations are spent.
     Spent(Record),
+    /// The library answered this code, which this version doesn't know.
+    Other(u32),
 }
 
 impl AdmitFault {
@@ -164,7 +175,7 @@ impl AdmitFault {
             24 => AdmitFault::NotYet(read),
             25 => AdmitFault::Admitted(read),
             26 => AdmitFault::Spent(read),
-            other => unreachable!("no AdmitFault has code {other}"),
+            code => AdmitFault::Other(code),
         }
     }
 }
@@ -182,6 +193,7 @@ impl fmt::Display for AdmitFault {
             AdmitFault::NotYet(_) => "the server executes only what the owner forwards",
             AdmitFault::Admitted(_) => "the shard is admitted",
             AdmitFault::Spent(_) => "the shard's generations are spent",
+            AdmitFault::Other(code) => return write!(f, "the library answered code {code}"),
         })
     }
 }
@@ -190,6 +202,7 @@ impl Error for AdmitFault {}
 
 /// Why a change of a shard isn't made, with the record that was read where one was.
 #[derive(Clone, Copy, Debug, PartialEq, Eq)]
+#[non_exhaustive]
 pub enum ChangeFault {
     /// There is no such server.
     UnknownServer,
@@ -211,6 +224,8 @@ pub enum ChangeFault {
     NoCapacity,
     /// The server's domain has its share of the group.
     DomainLimit,
+    /// The library answered this code, which this version doesn't know.
+    Other(u32),
 }
 
 impl ChangeFault {
@@ -227,7 +242,7 @@ impl ChangeFault {
             31 => ChangeFault::Leaving,
             32 => ChangeFault::NoCapacity,
             33 => ChangeFault::DomainLimit,
-            other => unreachable!("no ChangeFault has code {other}"),
+            code => ChangeFault::Other(code),
         }
     }
 }
@@ -245,6 +260,7 @@ impl fmt::Display for ChangeFault {
             ChangeFault::Leaving => "the server is leaving",
             ChangeFault::NoCapacity => "the server has no room",
             ChangeFault::DomainLimit => "the server's domain has its share of the group",
+            ChangeFault::Other(code) => return write!(f, "the library answered code {code}"),
         })
     }
 }
@@ -253,6 +269,7 @@ impl Error for ChangeFault {}
 
 /// Why a step of a server's restart isn't made.
 #[derive(Clone, Copy, Debug, PartialEq, Eq)]
+#[non_exhaustive]
 pub enum RestartFault {
     /// There is no such server.
     UnknownServer,
@@ -276,6 +293,8 @@ pub enum RestartFault {
     AlreadyUp,
     /// The server has failed already.
     AlreadyFailed,
+    /// The library answered this code, which this version doesn't know.
+    Other(u32),
 }
 
 impl RestartFault {
@@ -293,7 +312,7 @@ impl RestartFault {
             47 => RestartFault::StillServing,
             48 => RestartFault::AlreadyUp,
             49 => RestartFault::AlreadyFailed,
-            other => unreachable!("no RestartFault has code {other}"),
+            code => RestartFault::Other(code),
         }
     }
 }
@@ -312,6 +331,7 @@ impl fmt::Display for RestartFault {
             RestartFault::StillServing => "a shard that names the server isn't paused",
             RestartFault::AlreadyUp => "the server is up already",
             RestartFault::AlreadyFailed => "the server has failed already",
+            RestartFault::Other(code) => return write!(f, "the library answered code {code}"),
         })
     }
 }
@@ -320,6 +340,7 @@ impl Error for RestartFault {}
 
 /// Why bounds are no layout.
 #[derive(Clone, Copy, Debug, PartialEq, Eq)]
+#[non_exhaustive]
 pub enum LayoutFault {
     /// Out of memory.
     NoMemory,
@@ -333,6 +354,8 @@ pub enum LayoutFault {
     NotRising,
     /// A bound has more than 255 bytes.
     BoundTooLong,
+    /// The library answered this code, which this version doesn't know.
+    Other(u32),
 }
 
 impl LayoutFault {
@@ -345,7 +368,7 @@ impl LayoutFault {
             51 => LayoutFault::FirstNotEmpty,
             52 => LayoutFault::NotRising,
             53 => LayoutFault::BoundTooLong,
-            other => unreachable!("no LayoutFault has code {other}"),
+            code => LayoutFault::Other(code),
         }
     }
 }
@@ -359,6 +382,7 @@ impl fmt::Display for LayoutFault {
             LayoutFault::FirstNotEmpty => "the first bound is not empty",
             LayoutFault::NotRising => "a bound is not above the one before it",
             LayoutFault::BoundTooLong => "a bound has more than 255 bytes",
+            LayoutFault::Other(code) => return write!(f, "the library answered code {code}"),
         })
     }
 }
@@ -367,6 +391,7 @@ impl Error for LayoutFault {}
 
 /// Why a request to a map is refused, which then changes nothing.
 #[derive(Clone, Copy, Debug, PartialEq, Eq)]
+#[non_exhaustive]
 pub enum MapFault {
     /// Out of memory.
     NoMemory,
@@ -380,6 +405,8 @@ pub enum MapFault {
     Overflow,
     /// The text would have more than 65,535 bytes.
     TextTooLong,
+    /// The library answered this code, which this version doesn't know.
+    Other(u32),
 }
 
 impl MapFault {
@@ -389,7 +416,7 @@ impl MapFault {
             3 => MapFault::NoMemory,
             57 => MapFault::EmptyKey,
             58 => MapFault::KeyTooLong,
-            other => unreachable!("no MapFault has code {other}"),
+            code => MapFault::Other(code),
         }
     }
 }
@@ -403,6 +430,7 @@ impl fmt::Display for MapFault {
             MapFault::WrongKind => "the key holds a value of the other kind",
             MapFault::Overflow => "the count would have more than 64 bits",
             MapFault::TextTooLong => "the text would have more than 65,535 bytes",
+            MapFault::Other(code) => return write!(f, "the library answered code {code}"),
         })
     }
 }
@@ -411,6 +439,7 @@ impl Error for MapFault {}
 
 /// Why there is no envelope.
 #[derive(Clone, Copy, Debug, PartialEq, Eq)]
+#[non_exhaustive]
 pub enum SendFault {
     /// No envelope comes so.
     NotSent,
@@ -420,6 +449,8 @@ pub enum SendFault {
     EmptyKey,
     /// A key has at most 255 bytes.
     KeyTooLong,
+    /// The library answered this code, which this version doesn't know.
+    Other(u32),
 }
 
 impl SendFault {
@@ -430,7 +461,7 @@ impl SendFault {
             3 => SendFault::NoMemory,
             57 => SendFault::EmptyKey,
             58 => SendFault::KeyTooLong,
-            other => unreachable!("no SendFault has code {other}"),
+            code => SendFault::Other(code),
         }
     }
 }
@@ -442,6 +473,7 @@ impl fmt::Display for SendFault {
             SendFault::NoMemory => "out of memory",
             SendFault::EmptyKey => "a key has at least one byte",
             SendFault::KeyTooLong => "a key has at most 255 bytes",
+            SendFault::Other(code) => return write!(f, "the library answered code {code}"),
         })
     }
 }
@@ -450,6 +482,7 @@ impl Error for SendFault {}
 
 /// Why a server refused an envelope.
 #[derive(Clone, Copy, Debug, PartialEq, Eq)]
+#[non_exhaustive]
 pub enum ServeFault {
     /// Out of memory.
     NoMemory,
@@ -491,10 +524,18 @@ impl fmt::Display for ServeFault {
     }
 }
 
-impl Error for ServeFault {}
+impl Error for ServeFault {
+    fn source(&self) -> Option<&(dyn Error + 'static)> {
+        match self {
+            ServeFault::Admit(fault) => Some(fault),
+            _ => None,
+        }
+    }
+}
 
 /// Why a shard made no checkpoint.
 #[derive(Clone, Copy, Debug, PartialEq, Eq)]
+#[non_exhaustive]
 pub enum CheckpointFault {
     /// Out of memory.
     NoMemory,
@@ -521,15 +562,25 @@ impl fmt::Display for CheckpointFault {
     }
 }
 
-impl Error for CheckpointFault {}
+impl Error for CheckpointFault {
+    fn source(&self) -> Option<&(dyn Error + 'static)> {
+        match self {
+            CheckpointFault::Admit(fault) => Some(fault),
+            _ => None,
+        }
+    }
+}
 
 /// Why there is no plan.
 #[derive(Clone, Copy, Debug, PartialEq, Eq)]
+#[non_exhaustive]
 pub enum PlanFault {
     /// There is no such server.
     UnknownServer,
     /// Out of memory.
     NoMemory,
+    /// The library answered this code, which this version doesn't know.
+    Other(u32),
 }
 
 impl PlanFault {
@@ -538,7 +589,7 @@ impl PlanFault {
         match code {
             2 | 30 => PlanFault::UnknownServer,
             3 => PlanFault::NoMemory,
-            other => unreachable!("no PlanFault has code {other}"),
+            code => PlanFault::Other(code),
         }
     }
 }
@@ -548,6 +599,7 @@ impl fmt::Display for PlanFault {
         f.write_str(match self {
             PlanFault::UnknownServer => "there is no such server",
             PlanFault::NoMemory => "out of memory",
+            PlanFault::Other(code) => return write!(f, "the library answered code {code}"),
         })
     }
 }
@@ -556,6 +608,7 @@ impl Error for PlanFault {}
 
 /// Why a note isn't made, or isn't told.
 #[derive(Clone, Copy, Debug, PartialEq, Eq)]
+#[non_exhaustive]
 pub enum NoteFault {
     /// The pass holds a permit that was forgotten.
     Holding,
@@ -563,6 +616,8 @@ pub enum NoteFault {
     NoMemory,
     /// The note is of another board.
     OtherBoard,
+    /// The library answered this code, which this version doesn't know.
+    Other(u32),
 }
 
 impl NoteFault {
@@ -571,7 +626,7 @@ impl NoteFault {
         match code {
             1 => NoteFault::Holding,
             3 => NoteFault::NoMemory,
-            other => unreachable!("no NoteFault has code {other}"),
+            code => NoteFault::Other(code),
         }
     }
 }
@@ -582,6 +637,7 @@ impl fmt::Display for NoteFault {
             NoteFault::Holding => "the pass holds a permit that was forgotten",
             NoteFault::NoMemory => "out of memory",
             NoteFault::OtherBoard => "the note is of another board",
+            NoteFault::Other(code) => return write!(f, "the library answered code {code}"),
         })
     }
 }
@@ -590,6 +646,7 @@ impl Error for NoteFault {}
 
 /// Why a route isn't published.
 #[derive(Clone, Copy, Debug, PartialEq, Eq)]
+#[non_exhaustive]
 pub enum PublishFault {
     /// There is no such shard.
     UnknownShard,
@@ -611,3 +668,23 @@ impl fmt::Display for PublishFault {
 
 impl Error for PublishFault {}
 // End of them.
+
+#[cfg(test)]
+mod tests {
+    use super::{AdmitFault, BuildFault, CheckpointFault, ServeFault};
+    use crate::record::Record;
+    use crate::settings_fault::SettingsFault;
+
+    #[test]
+    fn codes_that_nobody_knows_are_told() {
+        let read = Record::of_word(0);
+        let fault = AdmitFault::of(9_999, read);
+        assert_eq!(fault, AdmitFault::Other(9_999));
+        assert_eq!((fault.record(), fault.is_passing()), (None, false));
+        assert_eq!(ServeFault::of(9_999, read), ServeFault::Admit(fault));
+        let unmade = CheckpointFault::of(9_999, read);
+        assert_eq!(unmade.to_string(), "the library answered code 9999");
+        assert_eq!(BuildFault::of(9_999), BuildFault::Other(9_999));
+        assert_eq!(SettingsFault::of(9_999), SettingsFault::Other(9_999));
+    }
+}

@@ -67,6 +67,11 @@ fn locked(handle: &Mutex<Handle>) -> MutexGuard<'_, Handle> {
 
 impl Layout {
     /// The layout with these bounds: 1 to 4,096 of at most 255 bytes, which rise from the empty one.
+    ///
+    /// # Errors
+    ///
+    /// `Empty`, `TooMany`, `FirstNotEmpty`, `NotRising` or `BoundTooLong` by the rule that the bounds break, or
+    /// `NoMemory`.
     pub fn new<B: AsRef<[u8]>>(bounds: impl IntoIterator<Item = B>) -> Result<Layout, LayoutFault> {
         match cut(bounds) {
             (Ok(handle), count) => Ok(Layout::of(handle, count)),

@@ -72,6 +72,7 @@
 //! std::thread::spawn(move || drop(board));
 //! ```
 #![warn(missing_docs)]
+#![warn(clippy::missing_errors_doc)]
 mod board;
 mod control;
 mod envelope;
@@ -93,7 +94,7 @@ mod service_pass;
 mod settings_fault;
 pub mod word;
 
-pub use board::{Board, Builder};
+pub use board::{Board, Builder, MAX_GENERATION};
 pub use control::Control;
 pub use envelope::{Answer, Envelope};
 pub use fault::{
@@ -106,7 +107,7 @@ pub use note::Note;
 pub use pass::{Front, Mode, Pass, Permit};
 pub use plan::{Move, Plan};
 pub use record::{Record, Stand};
-pub use reply::{Held, LentReply, LentText, Measure, Reply, Value};
+pub use reply::{Held, LentReply, LentText, Measure, Reply, Value, MAX_KEY};
 pub use request::Request;
 pub use restore_fault::RestoreFault;
 pub use routes::{Route, Routes};

@@ -28,7 +28,11 @@ pub struct Map {
 }
 
 impl Map {
-    /// An empty map; or `NoMemory`.
+    /// An empty map.
+    ///
+    /// # Errors
+    ///
+    /// `NoMemory`.
     pub fn new() -> Result<Map, MapFault> {
         let mut handle = Handle::empty();
         // SAFETY: the handle is this call's alone.
@@ -56,12 +60,20 @@ impl Map {
         self.len() == 0
     }
 
-    /// The reply to the request; or `EmptyKey`, `KeyTooLong` or `NoMemory`.
+    /// The reply to the request.
+    ///
+    /// # Errors
+    ///
+    /// `EmptyKey`, `KeyTooLong` or `NoMemory`.
     pub fn ask(&mut self, request: &Request<'_>) -> Result<Reply, MapFault> {
         self.lend(request).map(Into::into)
     }
 
-    /// The same, with a text that is copied where and when you want it; or the faults of `ask`.
+    /// The same, with a text that is copied where and when you want it.
+    ///
+    /// # Errors
+    ///
+    /// `EmptyKey`, `KeyTooLong` or `NoMemory`.
     // Where it is inlined, a reply is told from others by its number alone.
     #[inline]
     pub fn lend(&mut self, request: &Request<'_>) -> Result<LentReply<'_>, MapFault> {
@@ -94,8 +106,12 @@ impl Map {
         }
     }
 
-    /// What the key holds, if anything, where a text stands in front of your room, which grows where it has fewer bytes;
-    /// or `EmptyKey` or `KeyTooLong`.
+    /// What the key holds, if anything, where a text stands in front of your room, which grows where it has too few
+    /// bytes.
+    ///
+    /// # Errors
+    ///
+    /// `EmptyKey` or `KeyTooLong`.
     #[inline]
     pub fn get_in<'a>(
         &mut self,
@@ -104,7 +120,8 @@ impl Map {
     ) -> Result<Option<Held<'a>>, MapFault> {
         let key = key.as_ref();
         let mut parts = self.parts_in(key, room)?;
-        if parts.length > room.len() {
+        // A text alone has a length.
+        if parts.kind == 2 && parts.length > room.len() {
             room.resize(parts.length.next_power_of_two(), 0);
             parts = self.parts_in(key, room)?;
         }
@@ -116,8 +133,11 @@ impl Map {
         })
     }
 
-    /// What the key holds, if anything, where a text is told by its length alone and none of it is copied; or `EmptyKey`
-    /// or `KeyTooLong`.
+    /// What the key holds, if anything, where a text is told by its length alone and none of it is copied.
+    ///
+    /// # Errors
+    ///
+    /// `EmptyKey` or `KeyTooLong`.
     #[inline]
     pub fn measure(&mut self, key: impl AsRef<[u8]>) -> Result<Option<Measure>, MapFault> {
         let parts = self.parts_in(key.as_ref(), &mut [])?;
@@ -150,7 +170,11 @@ impl Map {
         }
     }
 
-    /// What the key holds, if anything; or the faults of `ask`.
+    /// What the key holds, if anything.
+    ///
+    /// # Errors
+    ///
+    /// `EmptyKey`, `KeyTooLong` or `NoMemory`.
     pub fn get(&mut self, key: impl AsRef<[u8]>) -> Result<Option<Value>, MapFault> {
         match self.ask(&Request::Get(key.as_ref()))? {
             Reply::Value(value) => Ok(Some(value)),
@@ -158,15 +182,21 @@ impl Map {
         }
     }
 
-    /// Has the key hold the text, in place of the text that it held; or the faults of `ask`, `WrongKind` where the key
-    /// holds a count, or `TextTooLong`.
+    /// Has the key hold the text, in place of the text that it held.
+    ///
+    /// # Errors
+    ///
+    /// Those of [`Map::ask`], `WrongKind` where the key holds a count, or `TextTooLong`.
     pub fn put(&mut self, key: impl AsRef<[u8]>, text: impl AsRef<[u8]>) -> Result<(), MapFault> {
         self.made(&Request::Put(key.as_ref(), text.as_ref()))
             .map(drop)
     }
 
-    /// Has the key hold its text followed by this one, where a key that holds nothing counts as the empty text; or the
-    /// faults of `put`.
+    /// Has the key hold its text followed by this one, where a key that holds nothing counts as the empty text.
+    ///
+    /// # Errors
+    ///
+    /// Those of [`Map::put`].
     pub fn append(
         &mut self,
         key: impl AsRef<[u8]>,
@@ -176,8 +206,11 @@ impl Map {
             .map(drop)
     }
 
-    /// Adds to the key's count, where a key that holds nothing counts as 0: the sum; or the faults of `ask`,
-    /// `WrongKind` where the key holds a text, or `Overflow`.
+    /// Adds to the key's count, where a key that holds nothing counts as 0: the sum.
+    ///
+    /// # Errors
+    ///
+    /// Those of [`Map::ask`], `WrongKind` where the key holds a text, or `Overflow`.
     pub fn add(&mut self, key: impl AsRef<[u8]>, amount: i64) -> Result<i64, MapFault> {
         let parts = self.made(&Request::Add(key.as_ref(), amount))?;
         match LentReply::of(&mut self.reply, &parts) {
@@ -186,13 +219,20 @@ impl Map {
         }
     }
 
-    /// Has the key hold nothing: whether it held something; or the faults of `ask`.
+    /// Has the key hold nothing: whether it held something.
+    ///
+    /// # Errors
+    ///
+    /// Those of [`Map::ask`].
     pub fn remove(&mut self, key: impl AsRef<[u8]>) -> Result<bool, MapFault> {
         Ok(self.ask(&Request::Remove(key.as_ref()))? == Reply::Done)
     }
 
-    /// The first pairs with keys from `low` on and below `high`, `most` of them and at most 100; or the faults of
-    /// `ask`.
+    /// The first pairs with keys from `low` on and below `high`, `most` of them and at most 100.
+    ///
+    /// # Errors
+    ///
+    /// Those of [`Map::ask`].
     pub fn scan(
         &mut self,
         low: impl AsRef<[u8]>,

@@ -3,6 +3,7 @@ use crate::fault::{AdmitFault, NoteFault, UnknownShard};
 use crate::note::Note;
 use crate::raw::{self, Handle};
 use crate::record::Record;
+use std::fmt;
 use std::marker::PhantomData;
 use std::mem::ManuallyDrop;
 use std::ops::{Deref, DerefMut};
@@ -39,6 +40,10 @@ impl<T> Pass<T> {
     }
 
     /// The shard's record, as the pass then sees it.
+    ///
+    /// # Errors
+    ///
+    /// Where there is no such shard.
     pub fn look(&mut self, shard: u16) -> Result<Record, UnknownShard> {
         // SAFETY: the handle is this pass's, which is borrowed alone.
         match unsafe { raw::durkenzo_look_word(&mut self.handle, shard) } {
@@ -47,8 +52,11 @@ impl<T> Pass<T> {
         }
     }
 
-    /// A note of all that the pass has seen. It is refused for want of memory, or while a permit of this pass was
-    /// forgotten.
+    /// A note of all that the pass has seen.
+    ///
+    /// # Errors
+    ///
+    /// `Holding` while a permit of this pass was forgotten, or `NoMemory`.
     pub fn note(&mut self) -> Result<Note<T>, NoteFault> {
         let mut handle = Handle::empty();
         // SAFETY: one handle is this pass's, which is borrowed alone, and the other this call's.
@@ -61,8 +69,11 @@ impl<T> Pass<T> {
         }
     }
 
-    /// Tells the pass all that the note tells. It is refused for a note of another board, or while a permit of this
-    /// pass was forgotten.
+    /// Tells the pass all that the note tells.
+    ///
+    /// # Errors
+    ///
+    /// `OtherBoard` for a note of another board, or `Holding` while a permit of this pass was forgotten.
     pub fn meet(&mut self, mut note: Note<T>) -> Result<(), NoteFault> {
         if !Arc::ptr_eq(&self.shared, &note.shared) {
             return Err(NoteFault::OtherBoard);
@@ -74,7 +85,12 @@ impl<T> Pass<T> {
         }
     }
 
-    /// Admits the pass's server to the shard, for a request that came so; or says why not.
+    /// Admits the pass's server to the shard, for a request that came so.
+    ///
+    /// # Errors
+    ///
+    /// `UnknownShard` or `BadServer` where there is none, `Holding` while a permit of this pass was forgotten, and the
+    /// others by the record that was read.
     // Where it is inlined, who is admitted waits for no permit in memory, and a refusal is made as far as it is read.
     #[inline(always)]
     pub fn admit(&mut self, shard: u16, mode: Mode) -> Result<Permit<'_, T>, AdmitFault> {
@@ -83,6 +99,10 @@ impl<T> Pass<T> {
     }
 
     /// Admits the pass, again while another thread has the shard or was first, and has the closure work on the body.
+    ///
+    /// # Errors
+    ///
+    /// As [`Pass::admit`], but for `Admitted` and `Raced`.
     pub fn with<R>(
         &mut self,
         shard: u16,
@@ -131,6 +151,9 @@ fn wait_after(code: u32, word: u64) -> Result<(), AdmitFault> {
 
 /// The right to a shard's body, which nobody else has. The admission ends where the permit is dropped, also by a
 /// panic: the body then stays as the panic left it, and others are admitted to it.
+///
+/// It derefs to the body, of which its own [`shard`](Permit::shard), [`generation`](Permit::generation) and
+/// [`finish`](Permit::finish) hide methods of these names: `(*permit).finish()` is the body's.
 #[must_use = "the admission ends where the permit is dropped"]
 pub struct Permit<'a, T> {
     pass: &'a mut Pass<T>,
@@ -185,6 +208,20 @@ impl<T> Permit<'_, T> {
     }
 }
 
+impl<T> fmt::Debug for Pass<T> {
+    fn fmt(&self, f: &mut fmt::Formatter<'_>) -> fmt::Result {
+        f.debug_struct("Pass").finish_non_exhaustive()
+    }
+}
+
+impl<T> fmt::Debug for Permit<'_, T> {
+    fn fmt(&self, f: &mut fmt::Formatter<'_>) -> fmt::Result {
+        f.debug_struct("Permit")
+            .field("shard", &self.shard)
+            .finish_non_exhaustive()
+    }
+}
+
 impl<T> Drop for Permit<'_, T> {
     fn drop(&mut self) {
         self.end();
@@ -196,8 +233,7 @@ impl<T> Deref for Permit<'_, T> {
 
     fn deref(&self) -> &T {
         // SAFETY: the number of the body is the one that the board was given for the shard, no other permit of the
-        // shard
-        // lives, and the pass keeps the bodies.
+        // shard lives, and the pass keeps the bodies.
         unsafe { &*self.body }
     }
 }

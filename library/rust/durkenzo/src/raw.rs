@@ -1,5 +1,5 @@
 //! The calls of the proved library, as `durkenzo.h` declares them.
-use std::mem::MaybeUninit;
+use std::mem::{offset_of, size_of};
 
 /// What the library keeps between calls. It begins as zeros, isn't copied, and is used by one call at a time.
 #[repr(C)]
@@ -76,6 +76,35 @@ pub(crate) struct AnswerParts {
     pub(crate) place: u64,
     pub(crate) server: u16,
 }
+
+// As durkenzo.h has them, where library/c/test.c sees it.
+const _: () = {
+    assert!(size_of::<Handle>() == 16);
+    assert!(offset_of!(Handle, full) == 0);
+    assert!(offset_of!(Handle, owned) == 8);
+    assert!(size_of::<RecordParts>() == 16);
+    assert!(offset_of!(RecordParts, generation) == 0);
+    assert!(offset_of!(RecordParts, owner) == 8);
+    assert!(offset_of!(RecordParts, other) == 10);
+    assert!(offset_of!(RecordParts, phase) == 12);
+    assert!(offset_of!(RecordParts, admitted) == 13);
+    assert!(size_of::<Part>() == 16);
+    assert!(offset_of!(Part, start) == 0);
+    assert!(offset_of!(Part, end) == 8);
+    assert!(size_of::<ReplyParts>() == 24);
+    assert!(offset_of!(ReplyParts, count) == 0);
+    assert!(offset_of!(ReplyParts, length) == 8);
+    assert!(offset_of!(ReplyParts, kind) == 16);
+    assert!(size_of::<SentParts>() == 16);
+    assert!(offset_of!(SentParts, number) == 0);
+    assert!(offset_of!(SentParts, shard) == 8);
+    assert!(offset_of!(SentParts, from) == 10);
+    assert!(offset_of!(SentParts, hops) == 12);
+    assert!(size_of::<AnswerParts>() == 24);
+    assert!(offset_of!(AnswerParts, number) == 0);
+    assert!(offset_of!(AnswerParts, place) == 8);
+    assert!(offset_of!(AnswerParts, server) == 16);
+};
 
 /// What a call answers where a server is out of bounds.
 pub(crate) const BAD_ARGUMENT: u32 = 2;
@@ -262,12 +291,10 @@ extern "C" {
 /// record that was read, or 0.
 #[inline(always)]
 pub(crate) fn admit(pass: &mut Handle, shard: u16, from: u16) -> Result<u64, (u32, u64)> {
-    let (mut number, mut word) = (MaybeUninit::uninit(), 0);
-    // SAFETY: the handle is borrowed alone, and the call writes the number where it answers 0.
-    unsafe {
-        match durkenzo_admit_word(pass, shard, from, number.as_mut_ptr(), &mut word) {
-            0 => Ok(number.assume_init()),
-            code => Err((code, word)),
-        }
+    let (mut number, mut word) = (0, 0);
+    // SAFETY: the handle is borrowed alone, and the numbers are this call's.
+    match unsafe { durkenzo_admit_word(pass, shard, from, &mut number, &mut word) } {
+        0 => Ok(number),
+        code => Err((code, word)),
     }
 }

@@ -5,6 +5,7 @@ use std::fmt;
 
 /// Why a stand isn't reached anew.
 #[derive(Clone, Copy, Debug, PartialEq, Eq)]
+#[non_exhaustive]
 pub enum RestoreFault {
     /// A change on the way is refused; `WrongPhase` also where no way leads from where the shard stands.
     Change(ChangeFault),
@@ -21,7 +22,14 @@ impl fmt::Display for RestoreFault {
     }
 }
 
-impl Error for RestoreFault {}
+impl Error for RestoreFault {
+    fn source(&self) -> Option<&(dyn Error + 'static)> {
+        match self {
+            RestoreFault::Change(fault) => Some(fault),
+            RestoreFault::NoMemory => None,
+        }
+    }
+}
 
 impl From<ChangeFault> for RestoreFault {
     fn from(fault: ChangeFault) -> RestoreFault {

@@ -51,7 +51,13 @@ impl Routes {
         *map.get(usize::from(shard))?
     }
 
-    /// Publishes the shard's owner at its generation, as the pass sees it; or says why not, and the map is as it was.
+    /// Publishes the shard's owner at its generation, as the pass sees it. Give it passes of one board alone: whether a
+    /// route is older is told by generations, which are those of a board, and nothing here tells boards apart.
+    ///
+    /// # Errors
+    ///
+    /// `UnknownShard` where the board or the map has no such shard, `WrongPhase` where nobody owns it, or `OldRoute`
+    /// where its last route is as new. The map is then as it was.
     pub fn publish<T>(&self, pass: &mut Pass<T>, shard: u16) -> Result<Route, PublishFault> {
         let mut map = self.map.write().unwrap_or_else(PoisonError::into_inner);
         let index = usize::from(shard);

@@ -19,6 +19,7 @@ pub struct Sent {
 
 /// Why bytes tell no envelope.
 #[derive(Clone, Copy, Debug, PartialEq, Eq)]
+#[non_exhaustive]
 pub enum SentFault {
     /// They aren't [`Sent::BYTES`].
     Length,
@@ -44,7 +45,11 @@ impl Sent {
         bytes
     }
 
-    /// What [`Sent::to_bytes`] made the bytes of; or the first reason why there is no such envelope.
+    /// What [`Sent::to_bytes`] made the bytes of.
+    ///
+    /// # Errors
+    ///
+    /// The first reason why there is no such envelope.
     pub fn from_bytes(bytes: &[u8]) -> Result<Sent, SentFault> {
         let bytes: [u8; Sent::BYTES] = bytes.try_into().map_err(|_| SentFault::Length)?;
         let pair = |at: usize| u16::from_be_bytes([bytes[at], bytes[at + 1]]);

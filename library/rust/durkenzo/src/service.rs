@@ -40,6 +40,7 @@ pub struct Service {
 
 /// The sizes of a board of the sample service that is to be built.
 #[derive(Debug)]
+#[must_use = "there is no board before `build`"]
 pub struct ServiceBuilder {
     layout: Layout,
     kept: usize,
@@ -74,6 +75,10 @@ impl ServiceBuilder {
     }
 
     /// A board with a shard for each of the layout's. None holds a key, and nobody owns one yet.
+    ///
+    /// # Errors
+    ///
+    /// `BadServers` and `BadCeiling` by the sizes, or `NoMemory`.
     pub fn build(self) -> Result<Service, BuildFault> {
         if self.servers == 0 {
             return Err(BuildFault::BadServers);
@@ -114,6 +119,10 @@ impl Service {
 
     /// A new board as the line of settings says with which a script begins: its layout, servers, groups, domains and
     /// limits, but for its workers. Nobody owns a shard yet.
+    ///
+    /// # Errors
+    ///
+    /// The first rule that the line breaks, or `NoMemory`.
     pub fn by_settings(line: impl AsRef<[u8]>) -> Result<Service, SettingsFault> {
         let (mut chief, mut layout, mut count) = (Handle::empty(), Handle::empty(), 0);
         let line = line.as_ref();
@@ -142,6 +151,10 @@ impl Service {
     }
 
     /// A new pass, which serves as this server, and makes envelopes.
+    ///
+    /// # Errors
+    ///
+    /// `BadServer` where no server has the number, or `NoMemory`.
     pub fn pass(&self, server: u16) -> Result<ServicePass, PassFault> {
         let mut handle = Handle::empty();
         // SAFETY: the control's handle is locked, and the other is this call's alone.

@@ -52,6 +52,10 @@ impl ServicePass {
     }
 
     /// The shard's record, as the pass then sees it.
+    ///
+    /// # Errors
+    ///
+    /// Where there is no such shard.
     pub fn look(&mut self, shard: u16) -> Result<Record, UnknownShard> {
         // SAFETY: the handle is this pass's, which is borrowed alone.
         match unsafe { raw::durkenzo_look_word(&mut self.handle, shard) } {
@@ -60,8 +64,11 @@ impl ServicePass {
         }
     }
 
-    /// An envelope with your number for the request's shard, with a note of all that the pass has seen; or `EmptyKey`,
-    /// `KeyTooLong` or `NoMemory`.
+    /// An envelope with your number for the request's shard, with a note of all that the pass has seen.
+    ///
+    /// # Errors
+    ///
+    /// `EmptyKey` or `KeyTooLong` by the request's key, or `NoMemory`.
     pub fn envelope(&mut self, number: u64, request: &Request<'_>) -> Result<Envelope, SendFault> {
         let sent = Sent {
             number,
@@ -73,8 +80,16 @@ impl ServicePass {
     }
 
     /// The envelope that came so with this request, as [`Envelope::sent`] told another process, with a note of all that
-    /// the pass has seen; or, beside the faults of [`ServicePass::envelope`], `NotSent` where no envelope comes so.
+    /// the pass has seen.
+    ///
+    /// # Errors
+    ///
+    /// Those of [`ServicePass::envelope`], and `NotSent` where no envelope comes so.
     pub fn received(&mut self, sent: &Sent, request: &Request<'_>) -> Result<Envelope, SendFault> {
+        // The library would read this server as none.
+        if sent.mode == Mode::Forwarded(0) {
+            return Err(SendFault::NotSent);
+        }
         let (kind, key, other, amount) = request.parts();
         let mut handle = Handle::empty();
         // SAFETY: one handle is this pass's, which is borrowed alone, the other this call's, and the slices last as
@@ -99,7 +114,13 @@ impl ServicePass {
     }
 
     /// Has the pass's server serve the envelope: it executes the request, or names the server that the envelope goes
-    /// to; or says why not, and gives the envelope back. An envelope of another board is refused.
+    /// to.
+    ///
+    /// # Errors
+    ///
+    /// Why it does neither, with the envelope: `OtherBoard`, `WrongShard`, `TooManyHops`, or why the server isn't
+    /// admitted. Before `KeptFull` and `NoMemory` it was, and its admission ended with nothing: these took 2 of the
+    /// shard's generations.
     pub fn serve(&mut self, mut envelope: Envelope) -> Result<Served, ServeRefused> {
         if !Arc::ptr_eq(&self.shared, &envelope.shared) {
             return Err(ServeRefused {
@@ -130,8 +151,11 @@ impl ServicePass {
         }
     }
 
-    /// Tells the pass all that the answer has seen, so that what it asks next comes after the answered request. An
-    /// answer of another board is refused.
+    /// Tells the pass all that the answer has seen, so that what it asks next comes after the answered request.
+    ///
+    /// # Errors
+    ///
+    /// `OtherBoard` for an answer of another board.
     pub fn hear(&mut self, mut answer: Answer) -> Result<(), NoteFault> {
         if !Arc::ptr_eq(&self.shared, &answer.shared) {
             return Err(NoteFault::OtherBoard);
@@ -143,7 +167,12 @@ impl ServicePass {
         }
     }
 
-    /// Makes the shard's state its base, so that it keeps no request: its generation since then; or why not.
+    /// Makes the shard's state its base, so that it keeps no request: its generation since then.
+    ///
+    /// # Errors
+    ///
+    /// Why the server isn't admitted, or `NoMemory`, before which it was: its admission ended with nothing, and took 2
+    /// of the shard's generations.
     pub fn checkpoint(&mut self, shard: u16) -> Result<u64, CheckpointFault> {
         let (mut generation, mut read) = (0, RecordParts::default());
         // SAFETY: the handle is this pass's, which is borrowed alone.
@@ -179,4 +208,8 @@ impl fmt::Display for ServeRefused {
     }
 }
 
-impl Error for ServeRefused {}
+impl Error for ServeRefused {
+    fn source(&self) -> Option<&(dyn Error + 'static)> {
+        Some(&self.fault)
+    }
+}

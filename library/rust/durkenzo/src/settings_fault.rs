@@ -2,12 +2,15 @@
 use std::error::Error;
 use std::fmt;
 
+// By tools/library-codes, the settings of library/codes.txt:
+
 /// Why a line of settings opens no board: the first rule that it breaks.
 #[derive(Clone, Copy, Debug, PartialEq, Eq)]
+#[non_exhaustive]
 pub enum SettingsFault {
     /// The line has more than 1,048,576 bytes.
     TooLong,
-    /// The line is no JSON in UTF-8, is too deep, or has a number that is too large.
+    /// The line is no JSON in UTF-8, is too deep, or has too large a number.
     BadJson,
     /// The value is no object with the number 1 or 2 as its `version`.
     BadVersion,
@@ -35,39 +38,39 @@ pub enum SettingsFault {
     BadCount,
     /// Memory was refused.
     NoMemory,
+    /// The library answered this code, which this version doesn't know.
+    Other(u32),
 }
-
-const NAMED: [(u32, SettingsFault, &str); 14] = [
-    (9, SettingsFault::BadCount, "BadCount"),
-    (70, SettingsFault::TooLong, "TooLong"),
-    (71, SettingsFault::BadJson, "BadJson"),
-    (72, SettingsFault::BadVersion, "BadVersion"),
-    (73, SettingsFault::BadShape, "BadShape"),
-    (74, SettingsFault::BadLayout, "BadLayout"),
-    (75, SettingsFault::BadServers, "BadServers"),
-    (76, SettingsFault::BadGroups, "BadGroups"),
-    (77, SettingsFault::BadShards, "BadShards"),
-    (78, SettingsFault::BadOps, "BadOps"),
-    (79, SettingsFault::BadKept, "BadKept"),
-    (80, SettingsFault::BadCeiling, "BadCeiling"),
-    (81, SettingsFault::BadWorkers, "BadWorkers"),
-    (82, SettingsFault::BadDomains, "BadDomains"),
-];
 
 impl SettingsFault {
+    #[inline]
     pub(crate) fn of(code: u32) -> SettingsFault {
-        NAMED
-            .iter()
-            .find(|named| named.0 == code)
-            .map_or(SettingsFault::NoMemory, |named| named.1)
+        match code {
+            70 => SettingsFault::TooLong,
+            71 => SettingsFault::BadJson,
+            72 => SettingsFault::BadVersion,
+            73 => SettingsFault::BadShape,
+            74 => SettingsFault::BadLayout,
+            75 => SettingsFault::BadServers,
+            76 => SettingsFault::BadGroups,
+            77 => SettingsFault::BadShards,
+            78 => SettingsFault::BadOps,
+            79 => SettingsFault::BadKept,
+            80 => SettingsFault::BadCeiling,
+            81 => SettingsFault::BadWorkers,
+            82 => SettingsFault::BadDomains,
+            9 => SettingsFault::BadCount,
+            3 => SettingsFault::NoMemory,
+            code => SettingsFault::Other(code),
+        }
     }
 }
+// End of them.
 
 impl fmt::Display for SettingsFault {
     /// The fault's name, which is that of scripts where they have it.
     fn fmt(&self, f: &mut fmt::Formatter<'_>) -> fmt::Result {
-        let named = NAMED.iter().find(|named| named.1 == *self);
-        f.write_str(named.map_or("NoMemory", |named| named.2))
+        fmt::Debug::fmt(self, f)
     }
 }
 

@@ -1,7 +1,7 @@
 //! One decision on one record, packed into a word of 64 bits, which a program may keep and exchange itself.
 //!
 //! ```
-//! use durkenzo::{word, ChangeFault, Stand};
+//! use durkenzo::{word, Stand};
 //!
 //! let served = word::changed(0, word::Change::Assign(7), 100)?;
 //! let admitted = word::admitted(served, 7, durkenzo::Mode::Direct, 100)?;
@@ -13,6 +13,50 @@
 //! ```
 use crate::raw::{self, RecordParts};
 use crate::{AdmitFault, ChangeFault, Mode, Record};
+use std::error::Error;
+use std::fmt;
+
+/// Why there is no next word.
+#[derive(Clone, Copy, Debug, PartialEq, Eq)]
+#[non_exhaustive]
+pub enum WordFault<F> {
+    /// No record has the word.
+    BadWord,
+    /// The ceiling of generations is above [`MAX_GENERATION`](crate::MAX_GENERATION).
+    BadCeiling,
+    /// The word's record doesn't allow it, or there is no such server.
+    Refused(F),
+}
+
+impl<F> WordFault<F> {
+    // What the code says of the word, whose record refuses as the closure says.
+    fn of(code: u32, word: u64, refused: impl FnOnce(u32, Record) -> F) -> WordFault<F> {
+        match (code, record(word)) {
+            (5, _) => WordFault::BadCeiling,
+            (_, None) => WordFault::BadWord,
+            (code, Some(read)) => WordFault::Refused(refused(code, read)),
+        }
+    }
+}
+
+impl<F: fmt::Display> fmt::Display for WordFault<F> {
+    fn fmt(&self, f: &mut fmt::Formatter<'_>) -> fmt::Result {
+        match self {
+            WordFault::BadWord => f.write_str("no record has the word"),
+            WordFault::BadCeiling => f.write_str("the ceiling of generations is above 2^36 - 1"),
+            WordFault::Refused(fault) => fault.fmt(f),
+        }
+    }
+}
+
+impl<F: Error + 'static> Error for WordFault<F> {
+    fn source(&self) -> Option<&(dyn Error + 'static)> {
+        match self {
+            WordFault::Refused(fault) => Some(fault),
+            _ => None,
+        }
+    }
+}
 
 /// A change of a shard's stand.
 #[derive(Clone, Copy, Debug, PartialEq, Eq)]
@@ -89,35 +133,47 @@ pub fn accepts(word: u64, server: u16, mode: Mode) -> Option<bool> {
     }
 }
 
-/// The word after the change, below a ceiling of generations of at most 2^36 - 1.
-pub fn changed(word: u64, change: Change, ceiling: u64) -> Result<u64, ChangeFault> {
-    let read = record(word).ok_or(ChangeFault::UnknownShard)?;
+/// The word after the change, with a ceiling of generations of at most
+/// [`MAX_GENERATION`](crate::MAX_GENERATION).
+///
+/// # Errors
+///
+/// `BadWord` where no record has the word, `BadCeiling`, or why the record doesn't allow the change.
+pub fn changed(word: u64, change: Change, ceiling: u64) -> Result<u64, WordFault<ChangeFault>> {
     let ((kind, server), mut next) = (change.parts(), 0);
     // SAFETY: the number is this call's alone.
     match unsafe { raw::durkenzo_changed(word, kind, server, ceiling, &mut next) } {
         0 => Ok(next),
-        5 => Err(ChangeFault::Spent(read)),
-        code => Err(ChangeFault::of(code, read)),
+        code => Err(WordFault::of(code, word, ChangeFault::of)),
     }
 }
 
-/// The word after an admission of the server, for a request that came so.
-pub fn admitted(word: u64, server: u16, mode: Mode, ceiling: u64) -> Result<u64, AdmitFault> {
-    let read = record(word).ok_or(AdmitFault::UnknownShard)?;
+/// The word after an admission of the server, for a request that came so, with a ceiling of generations of at most
+/// [`MAX_GENERATION`](crate::MAX_GENERATION).
+///
+/// # Errors
+///
+/// `BadWord` where no record has the word, `BadCeiling`, or why the record doesn't admit the server.
+pub fn admitted(
+    word: u64,
+    server: u16,
+    mode: Mode,
+    ceiling: u64,
+) -> Result<u64, WordFault<AdmitFault>> {
     let from = match mode {
         Mode::Direct => 0,
-        Mode::Forwarded(0) => return Err(AdmitFault::BadServer),
+        Mode::Forwarded(0) => return Err(WordFault::Refused(AdmitFault::BadServer)),
         Mode::Forwarded(server) => server,
     };
     let mut next = 0;
     // SAFETY: the number is this call's alone.
     match unsafe { raw::durkenzo_admitted(word, server, from, ceiling, &mut next) } {
         0 => Ok(next),
-        code => Err(AdmitFault::of(code, read)),
+        code => Err(WordFault::of(code, word, AdmitFault::of)),
     }
 }
 
-/// The word after the end of its admission, if it has one.
+/// The word after the end of its admission, if it has one that can end.
 pub fn ended(word: u64) -> Option<u64> {
     let mut next = 0;
     // SAFETY: the number is this call's alone.

@@ -1,6 +1,7 @@
+use durkenzo::word::{Change, WordFault};
 use durkenzo::{
     word, AdmitFault, Board, BuildFault, ChangeFault, Layout, LayoutFault, Mode, Move, NoteFault,
-    PlanFault, PublishFault, Record, RestartFault, Route, Routes, Stand,
+    PlanFault, PublishFault, Record, RestartFault, Route, Routes, Stand, MAX_GENERATION, MAX_KEY,
 };
 use std::error::Error;
 use std::panic::{catch_unwind, AssertUnwindSafe};
@@ -345,4 +346,59 @@ fn what_may_pass_between_threads() {
     is_sync(&board);
     is_sync(&board.control());
     is_send(&board.pass(1).unwrap());
+}
+
+#[test]
+fn words_are_refused_by_name() {
+    let (assign, wide) = (Change::Assign(1), MAX_GENERATION + 1);
+    assert_eq!(word::changed(u64::MAX, assign, 9), Err(WordFault::BadWord));
+    assert_eq!(word::changed(0, assign, wide), Err(WordFault::BadCeiling));
+    assert_eq!(
+        word::changed(0, Change::Pause, 9),
+        Err(WordFault::Refused(ChangeFault::WrongPhase))
+    );
+    assert_eq!(
+        word::changed(0, Change::Assign(0), 9),
+        Err(WordFault::Refused(ChangeFault::UnknownServer))
+    );
+    let serving = word::changed(0, assign, MAX_GENERATION).unwrap();
+    assert_eq!(
+        word::admitted(u64::MAX, 1, Mode::Direct, 9),
+        Err(WordFault::BadWord)
+    );
+    for (server, mode) in [(0, Mode::Direct), (1, Mode::Forwarded(0))] {
+        assert_eq!(
+            word::admitted(serving, server, mode, 9),
+            Err(WordFault::Refused(AdmitFault::BadServer))
+        );
+    }
+    let read = word::record(serving).unwrap();
+    let refused = word::admitted(serving, 2, Mode::Direct, 9).unwrap_err();
+    assert_eq!(refused, WordFault::Refused(AdmitFault::NotExecutor(read)));
+    let source = refused.source().unwrap();
+    assert_eq!(source.to_string(), refused.to_string());
+    let admitted = word::admitted(serving, 1, Mode::Direct, 9).unwrap();
+    assert!(word::ended(admitted).is_some());
+    assert_eq!((word::ended(serving), word::ended(u64::MAX)), (None, None));
+}
+
+#[test]
+fn what_is_shown_of_what_has_handles() {
+    let board = board(2);
+    board.control().assign(1, 1).unwrap();
+    let mut pass = board.pass(1).unwrap();
+    assert_eq!(format!("{:?}", board.control()), "Control { .. }");
+    assert_eq!(format!("{pass:?}"), "Pass { .. }");
+    let permit = pass.admit(1, Mode::Direct).unwrap();
+    assert_eq!(format!("{permit:?}"), "Permit { shard: 1, .. }");
+}
+
+#[test]
+fn limits_are_those_of_calls() {
+    let most = Board::builder().ceiling(MAX_GENERATION).build([0]);
+    assert!(most.is_ok());
+    let longest = Layout::new([vec![], vec![7; MAX_KEY]]);
+    assert!(longest.is_ok());
+    let longer = Layout::new([vec![], vec![7; MAX_KEY + 1]]);
+    assert_eq!(longer.unwrap_err(), LayoutFault::BoundTooLong);
 }

@@ -4,6 +4,7 @@ use durkenzo::{
     Request, RestoreFault, SendFault, Sent, SentFault, ServeFault, Served, Service, ServicePass,
     SettingsFault, Stand, Value,
 };
+use std::error::Error;
 
 const SETTINGS: &str = r#"{"version":2,"bounds":["","n"],"servers":[{"id":1,"domain":0,"capacity":1},{"id":7,"domain":1,"capacity":2}],"groups":[{"limit":2,"down":1}],"shards":[{"group":0,"load":1,"cap":1},{"group":0,"load":1,"cap":1}],"ops":1,"kept":1,"ceiling":100,"workers":1,"domains":[{"domain":0,"down":1},{"domain":1,"down":0}]}"#;
 
@@ -140,8 +141,10 @@ fn a_full_shard_wants_a_checkpoint() {
     executed(&mut owner, &Request::Put(b"a", b"1"));
     executed(&mut owner, &Request::Put(b"b", b"2"));
     let third = owner.envelope(3, &Request::Get(b"a")).unwrap();
+    let before = owner.look(0).unwrap().generation;
     let refused = owner.serve(third).unwrap_err();
     assert_eq!(refused.fault, ServeFault::KeptFull);
+    assert_eq!(owner.look(0).unwrap().generation, before + 2);
     let generation = owner.checkpoint(0).unwrap();
     assert_eq!(owner.look(0).unwrap().generation, generation);
     let Ok(Served::Answered(answer)) = owner.serve(refused.envelope) else {
@@ -331,6 +334,27 @@ fn stands_are_reached_anew() {
 }
 
 #[test]
+fn faults_tell_their_sources() {
+    let service = service(&[""], 2);
+    let mut other = service.pass(2).unwrap();
+    let sent = other.envelope(0, &Request::Get(b"a")).unwrap();
+    let refused = other.serve(sent).unwrap_err();
+    let fault = refused.source().unwrap();
+    assert_eq!(fault.downcast_ref(), Some(&refused.fault));
+    let admission = fault.source().unwrap();
+    assert!(matches!(
+        admission.downcast_ref(),
+        Some(AdmitFault::NotExecutor(_))
+    ));
+    assert!(admission.source().is_none());
+    let unmade = other.checkpoint(0).unwrap_err();
+    assert!(unmade.source().unwrap().is::<AdmitFault>());
+    let unreached = service.control().restore(9, Stand::Vacant).unwrap_err();
+    assert!(unreached.source().unwrap().is::<ChangeFault>());
+    assert!(ServeFault::KeptFull.source().is_none());
+}
+
+#[test]
 fn an_envelope_tells_how_it_came() {
     let service = service(&[""], 2);
     let control = service.control();
@@ -372,6 +396,7 @@ fn an_envelope_travels_as_bytes() {
         (Mode::Direct, 1),
         (Mode::Forwarded(9), 0),
         (Mode::Forwarded(9), 5),
+        (Mode::Forwarded(0), 1),
     ] {
         let sent = Sent {
             number: 0,
@@ -380,6 +405,16 @@ fn an_envelope_travels_as_bytes() {
             hops,
         };
         assert_eq!(Sent::from_bytes(&sent.to_bytes()), Err(SentFault::Hops));
+        let refused = owner.received(&sent, &request).unwrap_err();
+        assert_eq!(refused, SendFault::NotSent);
+    }
+    for mode in [Mode::Forwarded(0), Mode::Forwarded(4_096)] {
+        let sent = Sent {
+            number: 0,
+            shard: 0,
+            mode,
+            hops: 0,
+        };
         let refused = owner.received(&sent, &request).unwrap_err();
         assert_eq!(refused, SendFault::NotSent);
     }
