@@ -6,7 +6,7 @@ use common::{add, ask, held, step, Told};
 use durkenzo_driver::{Begin, Command, Control, Key, NotDone, Reads, Reply, Request};
 use durkenzo_store::{Embedded, Store};
 use std::sync::atomic::Ordering;
-use std::sync::Arc;
+use std::sync::{mpsc, Arc};
 use std::thread;
 use std::time::{Duration, Instant};
 
@@ -92,6 +92,32 @@ fn a_server_that_sees_no_change_tells_what_is_stale_for_no_longer_than_a_lease()
         assert!(after < LEASE, "it is stale after {after:?}");
     }
     assert!(stale > 0);
+}
+
+/// It has the key hold 3, which it does by all that a server knows that has missed what was written since.
+#[test]
+fn a_change_that_writes_nothing_is_decided_by_what_is_there() {
+    let (nodes, mut control) = three(Reads::Lease);
+    transactions(&nodes[0], 2, 3);
+    nodes[0].is_deaf.store(true, Ordering::Release);
+    take(&mut control);
+    assert!(is_count(add(&nodes[1].durable, 0, b"a", 1), 4));
+    let (tell, seen) = mpsc::channel();
+    let decide = move |held: Vec<Reply>| {
+        let [Reply::Count(count)] = held[..] else {
+            panic!("{held:?}");
+        };
+        let _ = tell.send(count);
+        match count {
+            3 => Vec::new(),
+            other => vec![Request::Add(Key::from(&b"a"[..]), 3 - other)],
+        }
+    };
+    let begin = Begin::Change(vec![Key::from(&b"a"[..])]);
+    let told = ask(&nodes[0].durable, 0, begin, Some(Box::new(decide)));
+    assert!(is_count(told, 3));
+    assert_eq!(seen.try_iter().last(), Some(4));
+    assert!(is_count(held(&nodes[1].durable, 0, b"a"), 3));
 }
 
 #[test]

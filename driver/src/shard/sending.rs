@@ -23,7 +23,8 @@ impl Shard {
             return Ok(());
         }
         let sent = core.sending().map_err(|_| server)?;
-        if sent.head.is_empty() && self.is_leased() {
+        let only_reads = self.round.as_ref().is_some_and(Round::only_reads);
+        if sent.head.is_empty() && only_reads && self.is_leased() {
             return self.answer_by_lease(server);
         }
         self.tickets += 1;
