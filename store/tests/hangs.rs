@@ -1,5 +1,5 @@
-//! What becomes of a watch on etcd whose member hangs with its connections open. Nothing is tried where etcd isn't
-//! installed.
+//! What becomes of watches and leases on etcd whose member hangs with its connections open. Nothing is tried where etcd
+//! isn't installed.
 mod beside;
 
 use beside::relay::Relay;
@@ -103,6 +103,30 @@ fn keeps_a_lease_though_a_member_hangs() {
         thread::sleep(LEASE / 6);
     }
     store.keep(lease).expect("another one keeps it");
+}
+
+/// Whoever is told what became of a transaction may hold up what others are told, and no lease.
+#[test]
+fn keeps_a_lease_though_somebody_who_is_told_hangs() {
+    let Some(member) = Member::start(&[]) else {
+        return;
+    };
+    let store = member.store();
+    let lease = store.grant(LEASE).expect("a lease");
+    let ((tell, told), (let_go, waits)) = (mpsc::channel(), mpsc::channel::<()>());
+    let hangs = move |_| {
+        let _ = tell.send(());
+        // It goes on at the test's end.
+        let _ = waits.recv_timeout(3 * LEASE);
+    };
+    store.submit(Transaction::new().put("a", "1"), Box::new(hangs));
+    told.recv_timeout(PATIENCE).expect("it is told");
+    let end = Instant::now() + LEASE + LEASE / 2;
+    while Instant::now() < end {
+        store.keep(lease).expect("it is kept");
+        thread::sleep(LEASE / 6);
+    }
+    drop(let_go);
 }
 
 #[test]

@@ -1,7 +1,7 @@
 use super::call_error::{CallError, Refusal};
 use super::pulse::Pulse;
 use super::stream::{Stream, LONGEST};
-use super::wire::Range;
+use super::wire::{Range, Streamed};
 use super::{Access, StartError};
 use hyper::body::HttpBody;
 use hyper::client::HttpConnector;
@@ -122,7 +122,9 @@ impl Gateway {
     ) -> Result<T, CallError> {
         let call = |member| async move {
             let found = self.send(member, path, asked).await?;
-            Stream::new(found.into_body()).next().await
+            let told: Streamed<T> = Stream::new(found.into_body()).next().await?;
+            let error = || CallError::Unknown("a member's stream begins with an error".to_owned());
+            told.result.ok_or_else(error)
         };
         let patience = self.access.patience;
         match self.in_turn(patience.min(BRIEF), &call).await {

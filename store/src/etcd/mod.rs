@@ -1,6 +1,7 @@
 //! A store on the members of a cluster of etcd, reached by their JSON gateway.
 mod access;
 mod call_error;
+mod caller;
 mod gateway;
 mod pulse;
 mod stream;
@@ -15,17 +16,14 @@ use crate::{
     Transaction, Watch, Watcher, WriteError,
 };
 use call_error::CallError;
+use caller::Caller;
 use gateway::{Gateway, RANGE};
 use serde::de::IgnoredAny;
 use std::fmt;
-use std::future::Future;
-use std::sync::mpsc;
-use std::sync::Arc;
 use std::time::Duration;
-use tokio::runtime::{Builder, Runtime};
 use watching::watch;
 use wire::{
-    AlarmRequest, Alarms, Compaction, Granted, Kept, Lease, Nothing, Range, RangeResult, Streamed,
+    AlarmRequest, Alarms, Compaction, Granted, Kept, Lease, Nothing, Range, RangeResult,
     TransactionRequest, TransactionResult,
 };
 
@@ -42,8 +40,10 @@ const KEYS: usize = 8_192;
 /// A member that can't be reached is passed over for the next one. A transaction that a member may have got is never
 /// sent again: its outcome is then [`WriteError::Unknown`](crate::WriteError::Unknown).
 pub struct Etcd {
-    gateway: Arc<Gateway>,
-    runtime: Runtime,
+    caller: Caller,
+    /// Who grants, keeps and ends leases: whoever is told of something by the other one may hold that up for longer than
+    /// a lease.
+    keeper: Caller,
 }
 
 impl Etcd {
@@ -53,34 +53,16 @@ impl Etcd {
     ///
     /// Where an address can't be read, a file of certificates can't be used, or the system gives no thread.
     pub fn new(access: Access) -> Result<Etcd, StartError> {
-        let gateway = Arc::new(Gateway::new(access)?);
-        // A second one would be woken for each call, and find nothing to do.
-        let runtime = Builder::new_multi_thread()
-            .worker_threads(1)
-            .thread_name("etcd")
-            .enable_all()
-            .build()?;
-        Ok(Etcd { gateway, runtime })
-    }
-
-    /// Runs this on the store's threads, and waits for what it gives; none where they have ended.
-    fn wait_for<A: Send + 'static>(
-        &self,
-        work: impl Future<Output = A> + Send + 'static,
-    ) -> Option<A> {
-        let (tell, told) = mpsc::sync_channel(1);
-        self.runtime.spawn(async move {
-            // Who asked waits until it is told.
-            let _ = tell.send(work.await);
-        });
-        told.recv().ok()
+        let keeper = Caller::new("leases", access.clone())?;
+        let caller = Caller::new("etcd", access)?;
+        Ok(Etcd { caller, keeper })
     }
 }
 
 impl Store for Etcd {
     fn submit(&self, transaction: Transaction, done: Done) {
-        let gateway = Arc::clone(&self.gateway);
-        self.runtime.spawn(async move {
+        let gateway = self.caller.gateway();
+        self.caller.spawn(async move {
             let request = TransactionRequest::of(&transaction);
             let found = gateway
                 .once::<TransactionResult>("/v3/kv/txn", &request)
@@ -99,78 +81,80 @@ impl Store for Etcd {
 
     fn read(&self, keys: &[&[u8]]) -> Result<Reading, ReadError> {
         let keys: Vec<_> = keys.iter().map(|it| it.to_vec()).collect();
-        let gateway = Arc::clone(&self.gateway);
-        self.wait_for(async move { read(&gateway, &keys).await })
+        let gateway = self.caller.gateway();
+        self.caller
+            .wait_for(async move { read(&gateway, &keys).await })
             .unwrap_or(Err(ReadError::Stopped))
     }
 
     fn read_all(&self, prefix: &[u8]) -> Result<Reading, ReadError> {
-        let (gateway, prefix) = (Arc::clone(&self.gateway), prefix.to_vec());
-        self.wait_for(async move { read_all(&gateway, &prefix).await })
+        let (gateway, prefix) = (self.caller.gateway(), prefix.to_vec());
+        self.caller
+            .wait_for(async move { read_all(&gateway, &prefix).await })
             .unwrap_or(Err(ReadError::Stopped))
     }
 
     fn read_range(&self, from: &[u8], end: &[u8], most: usize) -> Result<Reading, ReadError> {
-        let (gateway, asked) = (Arc::clone(&self.gateway), Range::part(from, end, most));
-        self.wait_for(async move { read_range(&gateway, &asked).await })
+        let (gateway, asked) = (self.caller.gateway(), Range::part(from, end, most));
+        self.caller
+            .wait_for(async move { read_range(&gateway, &asked).await })
             .unwrap_or(Err(ReadError::Stopped))
     }
 
     fn read_keys(&self, from: &[u8], end: &[u8]) -> Result<Vec<Vec<u8>>, ReadError> {
-        let gateway = Arc::clone(&self.gateway);
+        let gateway = self.caller.gateway();
         let (from, end) = (from.to_vec(), end.to_vec());
-        self.wait_for(async move { read_keys(&gateway, from, &end).await })
+        self.caller
+            .wait_for(async move { read_keys(&gateway, from, &end).await })
             .unwrap_or(Err(ReadError::Stopped))
     }
 
     fn watch(&self, prefix: &[u8], watcher: Watcher) -> Result<Watch, ReadError> {
-        let (gateway, prefix) = (Arc::clone(&self.gateway), prefix.to_vec());
+        let (gateway, prefix) = (self.caller.gateway(), prefix.to_vec());
         let reading = self.read_all(&prefix)?;
-        let task = self.runtime.spawn(watch(gateway, prefix, reading, watcher));
+        let task = self.caller.spawn(watch(gateway, prefix, reading, watcher));
         Ok(Watch::ended_by(move || task.abort()))
     }
 
     fn grant(&self, length: Duration) -> Result<LeaseId, LeaseError> {
-        let (gateway, asked) = (Arc::clone(&self.gateway), Lease::of_length(length));
-        self.wait_for(async move { gateway.again::<Granted>("/v3/lease/grant", &asked).await })
+        let (gateway, asked) = (self.keeper.gateway(), Lease::of_length(length));
+        self.keeper
+            .wait_for(async move { gateway.again::<Granted>("/v3/lease/grant", &asked).await })
             .ok_or(LeaseError::Stopped)?
             .map(|it| LeaseId(it.id))
             .map_err(|error| error.of_lease(LeaseId(0)))
     }
 
     fn keep(&self, lease: LeaseId) -> Result<(), LeaseError> {
-        let gateway = Arc::clone(&self.gateway);
-        let work = async move {
-            gateway
-                .first::<Streamed<Kept>>("/v3/lease/keepalive", &Lease::of(lease))
-                .await
-        };
+        let (gateway, asked) = (self.keeper.gateway(), Lease::of(lease));
         let found = self
-            .wait_for(work)
+            .keeper
+            .wait_for(async move { gateway.first::<Kept>("/v3/lease/keepalive", &asked).await })
             .ok_or(LeaseError::Stopped)?
             .map_err(|error| error.of_lease(lease))?;
-        match found.result.is_some_and(|it| it.length > 0) {
+        match found.length > 0 {
             true => Ok(()),
             false => Err(LeaseError::Ended(lease)),
         }
     }
 
     fn revoke(&self, lease: LeaseId) -> Result<(), LeaseError> {
-        let gateway = Arc::clone(&self.gateway);
-        let work = async move {
-            gateway
-                .again::<IgnoredAny>("/v3/lease/revoke", &Lease::of(lease))
-                .await
-        };
-        self.wait_for(work)
+        let (gateway, asked) = (self.keeper.gateway(), Lease::of(lease));
+        self.keeper
+            .wait_for(async move {
+                gateway
+                    .again::<IgnoredAny>("/v3/lease/revoke", &asked)
+                    .await
+            })
             .ok_or(LeaseError::Stopped)?
             .map(drop)
             .map_err(|error| error.of_lease(lease))
     }
 
     fn compact(&self) -> Result<(), CompactError> {
-        let gateway = Arc::clone(&self.gateway);
-        self.wait_for(async move { compact(&gateway).await })
+        let gateway = self.caller.gateway();
+        self.caller
+            .wait_for(async move { compact(&gateway).await })
             .unwrap_or(Err(CompactError::Stopped))
     }
 }

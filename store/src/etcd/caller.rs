@@ -1,0 +1,48 @@
+use super::gateway::Gateway;
+use super::{Access, StartError};
+use std::future::Future;
+use std::sync::mpsc;
+use std::sync::Arc;
+use tokio::runtime::{Builder, Runtime};
+use tokio::task::JoinHandle;
+
+/// Who calls members: a thread, and connections that it has alone.
+pub(super) struct Caller {
+    gateway: Arc<Gateway>,
+    runtime: Runtime,
+}
+
+impl Caller {
+    pub(super) fn new(thread: &str, access: Access) -> Result<Caller, StartError> {
+        let gateway = Arc::new(Gateway::new(access)?);
+        // A second thread would be woken for each call, and find nothing to do.
+        let runtime = Builder::new_multi_thread()
+            .worker_threads(1)
+            .thread_name(thread)
+            .enable_all()
+            .build()?;
+        Ok(Caller { gateway, runtime })
+    }
+
+    pub(super) fn gateway(&self) -> Arc<Gateway> {
+        Arc::clone(&self.gateway)
+    }
+
+    /// Runs this on the thread.
+    pub(super) fn spawn(&self, work: impl Future<Output = ()> + Send + 'static) -> JoinHandle<()> {
+        self.runtime.spawn(work)
+    }
+
+    /// Runs this on the thread, and waits for what it gives; none where that has ended.
+    pub(super) fn wait_for<A: Send + 'static>(
+        &self,
+        work: impl Future<Output = A> + Send + 'static,
+    ) -> Option<A> {
+        let (tell, told) = mpsc::sync_channel(1);
+        self.spawn(async move {
+            // Who asked waits until it is told.
+            let _ = tell.send(work.await);
+        });
+        told.recv().ok()
+    }
+}
