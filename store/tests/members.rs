@@ -3,9 +3,10 @@ mod beside;
 
 use beside::{free_port, Folder, Member, PATIENCE};
 use durkenzo_store::{
-    Access, Etcd, Outcome, ReadError, Revision, Seen, StartError, Store, Transaction, WriteError,
+    Access, Etcd, LeaseError, Outcome, ReadError, Revision, Seen, StartError, Store, Transaction,
+    WriteError,
 };
-use std::io::Read;
+use std::io::{Read, Write};
 use std::net::TcpListener;
 use std::path::Path;
 use std::process::Command;
@@ -102,6 +103,55 @@ fn passes_over_members_that_are_not_there() {
             .expect("the second one has it");
     }
     assert_eq!(store.read(&[b"a"]).expect("a reading").pairs.len(), 1);
+}
+
+/// What a learner answers, and in place of a stream a member that reaches none that leads.
+const FOR_ITSELF: [&str; 2] = [
+    r#"{"error":"no","message":"etcdserver: rpc not supported for learner","code":14}"#,
+    r#"{"error":{"grpc_code":14,"http_code":503,"message":"etcdserver: no leader"}}"#,
+];
+
+/// A member that answers each call so.
+fn refuser(told: &'static str) -> String {
+    let listener = TcpListener::bind(("127.0.0.1", 0)).expect("a port");
+    let endpoint = format!("http://{}", listener.local_addr().expect("its address"));
+    thread::spawn(move || {
+        for stream in listener.incoming() {
+            let mut stream = stream.expect("a caller");
+            let (mut asked, mut some) = (Vec::new(), [0; 4_096]);
+            // A call is over with its JSON.
+            while !asked.ends_with(b"}") {
+                match stream.read(&mut some) {
+                    Ok(length @ 1..) => asked.extend_from_slice(&some[..length]),
+                    _ => break,
+                }
+            }
+            let head = format!("Content-Length: {}\r\nConnection: close", told.len());
+            let _ = write!(stream, "HTTP/1.1 503 No\r\n{head}\r\n\r\n{told}");
+        }
+    });
+    endpoint
+}
+
+#[test]
+fn passes_over_members_that_refuse_for_themselves() {
+    let Some(member) = Member::start(&[]) else {
+        return;
+    };
+    for told in FOR_ITSELF {
+        let beside = || on(&[&refuser(told), &member.endpoint], PATIENCE);
+        beside().read(&[b"a"]).expect("another one is read");
+        let lease = beside().grant(ASIDE).expect("another one grants it");
+        beside().keep(lease).expect("another one keeps it");
+        // It may have made what it refuses so.
+        let (store, put) = (beside(), || Transaction::new().put("a", "1"));
+        let made = store.make(put());
+        assert!(matches!(made, Err(WriteError::Unknown(_))), "{made:?}");
+        store.make(put()).expect("another one makes it");
+        // No lease has ended for that.
+        let kept = on(&[&refuser(told)], PATIENCE).keep(lease);
+        assert!(matches!(kept, Err(LeaseError::Unavailable(_))), "{kept:?}");
+    }
 }
 
 #[test]

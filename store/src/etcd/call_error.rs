@@ -24,9 +24,32 @@ pub(super) struct Refusal {
 impl Refusal {
     const INVALID: u32 = 3;
     const NOT_FOUND: u32 = 5;
+    const EXISTS: u32 = 6;
     const DENIED: u32 = 7;
     const EXHAUSTED: u32 = 8;
+    const OUT_OF_RANGE: u32 = 11;
     const UNAUTHENTICATED: u32 = 16;
+    /// Those by which any member would refuse the call.
+    const OF_CALL: [u32; 7] = [
+        Refusal::INVALID,
+        Refusal::NOT_FOUND,
+        Refusal::EXISTS,
+        Refusal::DENIED,
+        Refusal::EXHAUSTED,
+        Refusal::OUT_OF_RANGE,
+        Refusal::UNAUTHENTICATED,
+    ];
+
+    /// Whether it says why. What comes in place of a stream doesn't, in words of its own.
+    pub(super) fn is_told(&self) -> bool {
+        self.code > 0 || !self.message.is_empty()
+    }
+
+    /// Whether another member may do what this one refused, as it is neither for what is asked nor for who asks: it
+    /// reaches none that leads, is a learner, or its gateway doesn't reach it.
+    fn is_of_member(&self) -> bool {
+        !Refusal::OF_CALL.contains(&self.code) && !self.is_of_user()
+    }
 
     /// Whether there is no token of a user, or it has ended.
     pub(super) fn is_of_token(&self) -> bool {
@@ -61,6 +84,15 @@ impl CallError {
     /// That no member answers in the time that it has.
     pub(super) fn late() -> CallError {
         CallError::Unknown("no member answered in time".to_owned())
+    }
+
+    /// Whether another member may do it: this one got it, and doesn't answer, or refused it for itself.
+    pub(super) fn is_of_member(&self) -> bool {
+        match self {
+            CallError::Unreachable(_) => false,
+            CallError::Unknown(_) => true,
+            CallError::Refused(it) => it.is_of_member(),
+        }
     }
 
     /// What it means for a transaction. Only what a member refuses before it proposes it isn't made.

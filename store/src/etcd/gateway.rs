@@ -87,7 +87,8 @@ impl Gateway {
         self.reach(self.access.patience, &call).await
     }
 
-    /// Calls a member, and where it doesn't answer the others in turn: for what may be done twice.
+    /// Calls a member, and where it doesn't answer, or refuses for itself, the others in turn: for what may be done
+    /// twice.
     pub(super) async fn again<T: DeserializeOwned>(
         &self,
         path: &str,
@@ -158,7 +159,8 @@ impl Gateway {
         self.pulses[member].is_felt(question).await
     }
 
-    /// Has a member do this, and where it doesn't answer the others in turn, with this patience for each.
+    /// Has a member do this, and where it doesn't answer, or refuses for itself, the others in turn, with this patience
+    /// for each.
     async fn in_turn<T, F: Future<Output = Result<T, CallError>>>(
         &self,
         patience: Duration,
@@ -168,14 +170,14 @@ impl Gateway {
         loop {
             left -= 1;
             match self.reach(patience, call).await {
-                Err(CallError::Unknown(_)) if left > 0 => {}
+                Err(error) if left > 0 && error.is_of_member() => {}
                 found => return found,
             }
         }
     }
 
     /// Has the first member that can be reached do this, with this patience for the search too. The next call goes to
-    /// another one where it doesn't answer.
+    /// another one where it doesn't answer, or refuses for itself.
     async fn reach<T, F: Future<Output = Result<T, CallError>>>(
         &self,
         patience: Duration,
@@ -188,9 +190,9 @@ impl Gateway {
             let found = timeout_at(end, call(member)).await;
             match found.unwrap_or_else(|_| Err(CallError::late())) {
                 Err(CallError::Unreachable(why)) => last = why,
-                Err(CallError::Unknown(why)) => {
+                Err(error) if error.is_of_member() => {
                     self.pass_over(member);
-                    return Err(CallError::Unknown(why));
+                    return Err(error);
                 }
                 found => return found,
             }
@@ -328,6 +330,7 @@ async fn refusal(found: Response<Body>) -> CallError {
         .await
         .ok()
         .and_then(|it| serde_json::from_slice::<Refusal>(&it).ok())
+        .filter(Refusal::is_told)
     {
         Some(refusal) => CallError::Refused(refusal),
         None => CallError::Unknown(format!("etcd answered {status}")),

@@ -37,12 +37,12 @@ const KEYS: usize = 8_192;
 
 /// A store on etcd, of version 3.4 or later.
 ///
-/// A member that can't be reached is passed over for the next one. A transaction that a member may have got is never
-/// sent again: its outcome is then [`WriteError::Unknown`](crate::WriteError::Unknown).
+/// A member that can't be reached, or refuses a call for itself, is passed over for the next one. A transaction that a
+/// member may have got is never sent again: its outcome is then [`WriteError::Unknown`](crate::WriteError::Unknown).
 pub struct Etcd {
     caller: Caller,
-    /// Who grants, keeps and ends leases: whoever is told of something by the other one may hold that up for longer than
-    /// a lease.
+    /// Who grants, keeps and ends leases: whoever is told of something by the other one may hold that one up for longer
+    /// than a lease.
     keeper: Caller,
 }
 
