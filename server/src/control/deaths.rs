@@ -1,5 +1,6 @@
 //! Leaders that die after each of their commands in turn, or whose store falters then: whoever leads ends what was
 //! under way.
+use super::leading::FIRST_WAIT;
 use super::StoredController;
 use super::{Asked, Campaigner};
 use crate::body::{InFolder, OnEtcd};
@@ -411,6 +412,32 @@ fn a_reassignment_is_ended_by_the_next_leader() {
         three.third.kill();
         three.await_death();
         three.stands_become(|them| them.iter().all(|it| *it == Stand::Serving(2)));
+    });
+}
+
+#[test]
+fn a_server_fails_though_shards_wait_for_owners() {
+    // The leader dies after it has given so many of six shards owners, of which its own is the first.
+    at_each(5, |number| {
+        let store: Arc<dyn Store> = Arc::new(Embedded::in_memory());
+        let configuration = Configuration {
+            servers: SERVERS,
+            ..Configuration::new(Rule::Hash(SHARDS))
+        };
+        let start = |it| Process::begin(&store, it, &configuration);
+        let first = start(1);
+        wait_until("the first leads", || first.leads());
+        first.dies_after(number);
+        let (second, third) = (start(2), start(3));
+        wait_until("the leader dies", || first.way.is_dead());
+        first.kill();
+        let leads = || second.leads() || third.leads();
+        wait_until("another one leads", leads);
+        let led = Instant::now();
+        wait_until("its first shard goes on", || {
+            matches!(second.stand(0), Stand::Serving(2 | 3))
+        });
+        assert!(led.elapsed() < FIRST_WAIT / 2);
     });
 }
 

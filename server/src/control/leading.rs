@@ -20,7 +20,7 @@ const TICK: Duration = Duration::from_millis(50);
 /// How long it isn't looked again after that failed.
 const PAUSE: Duration = Duration::from_millis(500);
 /// How long vacant shards wait for all servers before those that are there get them.
-const FIRST_WAIT: Duration = Duration::from_secs(10);
+pub(super) const FIRST_WAIT: Duration = Duration::from_secs(10);
 
 impl StoredController {
     /// Leads several processes, until another one does or nobody can ask any more. Vacant shards get owners, where that
@@ -124,10 +124,13 @@ impl Watch {
         }
         self.have_own_back(control)?;
         have_back(control)?;
-        if self.assigns.is_some() && !self.assign(control)? {
-            return Ok(());
+        if self.assigns.is_some() {
+            self.assign(control)?;
         }
-        self.have_fail(control)?;
+        // While no shard has an owner, who isn't there may only not have come yet.
+        if self.assigns.is_none() || is_owned(control)? {
+            self.have_fail(control)?;
+        }
         control.resume_left()
     }
 
@@ -158,8 +161,8 @@ impl Watch {
         Ok(())
     }
 
-    /// Gives vacant shards owners for a while, if it is time. Returns whether it was, or none was vacant.
-    fn assign(&mut self, control: &mut StoredController) -> Result<bool, Refusal> {
+    /// Gives vacant shards owners for a while, if it is time.
+    fn assign(&mut self, control: &mut StoredController) -> Result<(), Refusal> {
         let live = live(control);
         let is_due = self.assigns.is_some_and(|it| it <= Instant::now());
         let are_all = live.len() == usize::from(control.control.servers());
@@ -167,10 +170,10 @@ impl Watch {
         let mut shards = shards.filter_map(|it| control.observer.shard(it));
         if shards.all(|it| it.owner > 0) {
             self.assigns = None;
-            return Ok(true);
+            return Ok(());
         }
         if live.is_empty() || !(is_due || are_all) {
-            return Ok(false);
+            return Ok(());
         }
         let live: Vec<u16> = live.into_iter().collect();
         let end = Instant::now() + TURN;
@@ -178,13 +181,24 @@ impl Watch {
             control.assign(shard, live[usize::from(shard) % live.len()])?;
             if Instant::now() >= end {
                 self.due = Instant::now();
-                return Ok(true);
+                return Ok(());
             }
         }
         control.place()?;
         self.assigns = None;
-        Ok(true)
+        Ok(())
     }
+}
+
+/// Whether a shard has an owner.
+fn is_owned(control: &mut StoredController) -> Result<bool, Refusal> {
+    for shard in 0..control.cluster.shards() {
+        let record = control.control.record(shard)?;
+        if record.is_some_and(|it| it.owner().is_some()) {
+            return Ok(true);
+        }
+    }
+    Ok(false)
 }
 
 /// The servers that are there.
