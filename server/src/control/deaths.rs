@@ -1,6 +1,7 @@
 //! Leaders that die after each of their commands in turn, or whose store falters then: whoever leads ends what was
 //! under way.
 use super::leading::FIRST_WAIT;
+use super::stored::TURN;
 use super::StoredController;
 use super::{Asked, Campaigner};
 use crate::body::{InFolder, OnEtcd};
@@ -521,6 +522,53 @@ fn who_drains_a_server_is_told_where_its_shards_went() {
     );
     assert_eq!(told(&["SM", "DRAIN", "3"]), b"*0\r\n");
     three.nothing_is_wished();
+}
+
+/// Three processes of these settings, of which the first leads; each of its commands takes so long.
+fn three_of(configuration: Configuration, pause: Duration) -> [Process; 3] {
+    let store: Arc<dyn Store> = Arc::new(Embedded::in_memory());
+    let first = Process::slow(&store, 1, &configuration, pause);
+    wait_until("the first leads", || first.leads());
+    let start = |it| Process::begin(&store, it, &configuration);
+    let (second, third) = (start(2), start(3));
+    wait_until("all have owners", || second.stands() == owned());
+    [first, second, third]
+}
+
+#[test]
+fn who_moves_a_shard_to_a_server_that_fails_is_told_so() {
+    // It has failed before the next step.
+    let configuration = Configuration {
+        servers: SERVERS,
+        pace: 2 * LEASE,
+        ..Configuration::new(Rule::Hash(SHARDS))
+    };
+    let [first, second, third] = three_of(configuration, Duration::ZERO);
+    let moved = first.ask(&["SM", "MIGRATE", "0", "3"]);
+    wait_until("it begins", || second.stand(0) != Stand::Serving(1));
+    third.kill();
+    let told = moved.recv_timeout(PATIENCE).unwrap();
+    assert!(told.starts_with(b"-REFUSED NotMoved: "), "{told:?}");
+    wait_until("it stays", || second.stand(0) == Stand::Serving(1));
+}
+
+#[test]
+fn a_shard_that_somebody_has_stay_is_not_told_as_moved() {
+    let configuration = Configuration {
+        servers: SERVERS,
+        ..Configuration::new(Rule::Hash(SHARDS))
+    };
+    // Each command takes longer than work goes on before others have their turn.
+    let [first, second, _third] = three_of(configuration, 2 * TURN);
+    let told = |it: Receiver<Vec<u8>>| it.recv_timeout(PATIENCE).unwrap();
+    let moved = first.ask(&["SM", "MIGRATE", "0", "3"]);
+    assert_eq!(told(first.ask(&["SM", "CANCEL", "0"])), b"+OK\r\n");
+    let moved = told(moved);
+    assert!(moved.starts_with(b"-REFUSED NotMoved: "), "{moved:?}");
+    wait_until("it stays", || second.stand(0) == Stand::Serving(1));
+    let drained = first.ask(&["SM", "DRAIN", "3"]);
+    assert_eq!(told(first.ask(&["SM", "CANCEL", "2"])), b"+OK\r\n");
+    assert_eq!(told(drained), b"*2\r\n$3\r\n2>1\r\n$3\r\n5>1\r\n");
 }
 
 #[test]

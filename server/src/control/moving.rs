@@ -20,8 +20,10 @@ pub(super) enum Advance {
 /// A whole migration of a shard.
 pub(super) struct Moving {
     shard: u16,
-    /// The server to which it is still to begin.
+    /// The server to which somebody has it go.
     to: Option<u16>,
+    /// Whether it has begun, so that whoever leads goes on with it.
+    has_begun: bool,
     /// Whether it may have begun all the same, as the store didn't say so.
     is_doubtful: bool,
 }
@@ -30,6 +32,7 @@ impl Moving {
     pub(super) fn new(shard: u16, server: u16) -> Moving {
         Moving {
             to: Some(server),
+            has_begun: false,
             ..Moving::going_on(shard)
         }
     }
@@ -39,6 +42,7 @@ impl Moving {
         Moving {
             shard,
             to: None,
+            has_begun: true,
             is_doubtful: false,
         }
     }
@@ -50,15 +54,15 @@ impl Moving {
 
     /// Whether it has begun, so that whoever leads goes on with it.
     pub(super) fn has_begun(&self) -> bool {
-        self.to.is_none()
+        self.has_begun
     }
 
     pub(super) fn advance(&mut self, control: &mut StoredController) -> Result<Advance, Refusal> {
-        if let Some(server) = self.to {
+        if let Some(server) = self.to.filter(|_| !self.has_begun) {
             return self.begin(server, control);
         }
         match control.control.next_of_shard(self.shard)? {
-            Next::Nothing => Ok(Advance::Done(Answer::Done)),
+            Next::Nothing => self.end(control),
             Next::Waits => Ok(Advance::Later),
             Next::Command(command) => control.step(command),
         }
@@ -72,9 +76,33 @@ impl Moving {
             self.is_doubtful = made.as_ref().is_err_and(Refusal::is_of_store);
             made?;
         }
-        self.to = None;
+        self.has_begun = true;
         Ok(Advance::Again)
     }
+
+    /// Nothing is under way any more: it is refused where the shard isn't at the server to which it was to go.
+    fn end(&self, control: &mut StoredController) -> Result<Advance, Refusal> {
+        match self.to {
+            Some(server) if !is_at(control, self.shard, server)? => {
+                Err(not_moved(self.shard, server))
+            }
+            _ => Ok(Advance::Done(Answer::Done)),
+        }
+    }
+}
+
+/// Whether the shard is at the server.
+fn is_at(control: &mut StoredController, shard: u16, server: u16) -> Result<bool, Refusal> {
+    let record = control.control.record(shard)?;
+    Ok(record.is_some_and(|it| it.owner() == Some(server)))
+}
+
+fn not_moved(shard: u16, server: u16) -> Refusal {
+    let reason = format!(
+        "shard {shard} isn't at server {server}: that one failed, or somebody had it stay, or go elsewhere"
+    );
+    let advice = format!("SM LOOK {shard} tells where it is");
+    Refusal::new("NotMoved", reason, advice)
 }
 
 /// The migrations of all shards of a server to where the proved plan has them go.
@@ -84,7 +112,8 @@ pub(super) struct Draining {
     is_restart: bool,
     /// Whether it lies in the store that somebody wants it, so that whoever leads next goes on with it.
     is_wished: bool,
-    current: Option<Moving>,
+    /// The migration that is under way, and where it goes.
+    current: Option<(Moving, u16)>,
     /// Which shards went where.
     moved: Vec<(u16, u16)>,
 }
@@ -141,11 +170,16 @@ impl Draining {
     }
 
     fn go_on(&mut self, control: &mut StoredController) -> Result<Advance, Refusal> {
-        if let Some(moving) = &mut self.current {
+        if let Some((moving, to)) = &mut self.current {
             match moving.advance(control)? {
-                Advance::Done(_) => self.current = None,
+                // Of a shard that stayed the plan tells what comes next.
+                Advance::Done(_) if is_at(control, moving.shard(), *to)? => {
+                    self.moved.push((moving.shard(), *to));
+                }
+                Advance::Done(_) => {}
                 other => return Ok(other),
             }
+            self.current = None;
         }
         match control.control.next_of_drain(self.server)? {
             Next::Waits => return Ok(Advance::Later),
@@ -162,7 +196,8 @@ impl Draining {
             }
         }
         let done = self.moved.len();
-        let share = Share { done, of: done };
+        let of = done + usize::from(self.current.is_some());
+        let share = Share { done, of };
         control
             .cluster
             .progress
@@ -182,12 +217,7 @@ impl Draining {
             Err(refusal) => refusal.is_of_store(),
         };
         if let Command::PrepareAddShard(shard, to) = command {
-            if may_be_made {
-                self.current = Some(Moving::going_on(shard));
-            }
-            if may_be_made && stepped.is_ok() {
-                self.moved.push((shard, to));
-            }
+            self.current = may_be_made.then(|| (Moving::going_on(shard), to));
         }
         stepped
     }
