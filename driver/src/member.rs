@@ -3,6 +3,7 @@ use durkenzo_store::{
     LeaseError, LeaseId, Outcome, Revision, Seen, Store, Transaction, Watch, WriteError,
 };
 use std::fmt;
+use std::sync::atomic::{AtomicBool, Ordering};
 use std::sync::mpsc::{sync_channel, RecvTimeoutError};
 use std::sync::{Arc, Condvar, Mutex, MutexGuard, PoisonError, Weak};
 use std::thread::{self, JoinHandle};
@@ -40,6 +41,8 @@ struct Inner {
     /// There is something to write, or the end has come.
     wakes: Condvar,
     seen: Mutex<SeenKeys>,
+    /// Whether it was seen that another process has the server's name.
+    is_replaced: AtomicBool,
     on_change: Box<dyn Fn() + Send + Sync>,
 }
 
@@ -101,6 +104,7 @@ impl Member {
             }),
             wakes: Condvar::new(),
             seen: Mutex::default(),
+            is_replaced: AtomicBool::new(false),
             on_change,
         });
         inner.begin()?;
@@ -167,9 +171,15 @@ impl Member {
         let _ = lease.map(|it| self.inner.store.revoke(it));
     }
 
-    /// The lease, where it is kept: what is written under it is gone when this process is.
+    /// The lease, where the server's key lies under it: what is written under it is gone when this process is.
     pub fn lease(&self) -> Option<LeaseId> {
-        self.inner.state().lease
+        let state = self.inner.state();
+        state.lease.filter(|_| state.written > Revision::NEVER)
+    }
+
+    /// Whether another process has the server's name, as far as it was seen.
+    pub(crate) fn is_replaced(&self) -> bool {
+        self.inner.is_replaced.load(Ordering::Acquire)
     }
 
     /// Whether the server's key is there by this process's clock, and less than a lease's length has passed since then.
@@ -422,6 +432,9 @@ impl Inner {
             }
         }
         keys.changes += 1;
+        let own = keys.members.get(&self.server);
+        let is_replaced = own.is_some_and(|it| it.process != self.process);
+        self.is_replaced.store(is_replaced, Ordering::Release);
         drop(keys);
         (self.on_change)();
     }

@@ -4,9 +4,10 @@ mod common;
 
 use common::cluster::{append, assign, campaign, kill, settle, Dice, Line, Net, Node, LEASE};
 use common::handing::{Handed, Handing};
-use common::{add, ask, held, write, Uncertain};
+use common::{add, ask, held, step, write, Uncertain};
 use durkenzo_driver::{
-    Addresses, Begin, Command, Durable, JoinFault, Member, Next, NotDone, Numbered, Reply, Request,
+    Addresses, Begin, Command, Control, Durable, JoinFault, Member, Next, NotDone, Numbered, Reply,
+    Request,
 };
 use durkenzo_store::{Done, Embedded, Put, Store, Transaction};
 use std::collections::HashSet;
@@ -249,7 +250,7 @@ fn another_process_goes_on_where_the_leader_was() {
         control.command(Command::Assign(shard, 1)).unwrap();
     }
     assert!(matches!(
-        durkenzo_driver::Control::campaign(nodes[0].durable.clone(), &common::line_of(SHARDS, 3)),
+        Control::campaign(nodes[0].durable.clone(), &common::line_of(SHARDS, 3)),
         Ok(None)
     ));
     control.command(Command::PrepareAddShard(0, 2)).unwrap();
@@ -326,6 +327,42 @@ fn a_server_runs_once() {
     assert!(third.is_ok());
 }
 
+/// One that was stopped beyond its lease, while its server began elsewhere.
+#[test]
+fn a_process_whose_name_another_one_has_neither_leads_nor_executes() {
+    let (store, net) = (in_memory(), Arc::new(Net::default()));
+    let start = |it| net.start(&store, it, SHARDS, |line| Arc::new(line));
+    let nodes: Vec<Node> = (1..=3).map(start).collect();
+    let mut control = campaign(&nodes[2]);
+    assign(&mut control, SHARDS);
+    kill(&nodes[0]);
+    let first = start(1);
+    nodes[0].is_cut.store(false, Ordering::Release);
+    let old = nodes[0].durable.member().unwrap();
+    let end = Instant::now() + 20 * LEASE;
+    while old.members().get(&1).map(|it| it.process) == Some(old.process()) {
+        // What changes here it tells, which the old one hears then.
+        control.command(Command::Pause(1)).unwrap();
+        control.command(Command::Resume(1)).unwrap();
+        thread::sleep(LEASE);
+        assert!(Instant::now() < end, "it hears nothing");
+    }
+    let read = Begin::Read(vec![b"a"[..].into()]);
+    let (read, told) = step(read, None);
+    nodes[0].durable.submit(0, vec![read]);
+    kill(&nodes[2]);
+    let (line, mut leader) = (common::line_of(SHARDS, 3), None);
+    while leader.is_none() {
+        thread::sleep(LEASE / 50);
+        let by_old = Control::campaign(nodes[0].durable.clone(), &line);
+        assert!(!matches!(by_old, Ok(Some(_))), "it leads");
+        leader = Control::campaign(nodes[1].durable.clone(), &line).unwrap();
+        assert!(Instant::now() < end, "nobody leads");
+    }
+    assert_eq!(told.recv().unwrap(), Err(NotDone::Away(1)));
+    assert_eq!(count_of(add(&first.durable, 0, b"a", 1)), 1);
+}
+
 /// A store that doesn't answer what servers tell, where it hangs.
 struct Hanging {
     store: Handed<Line>,
@@ -374,7 +411,7 @@ fn a_server_is_there_though_the_store_hangs_when_it_tells_something() {
 }
 
 /// Moves shards about as long as it is let.
-fn migrate(mut control: durkenzo_driver::Control, stops: &AtomicBool) -> u64 {
+fn migrate(mut control: Control, stops: &AtomicBool) -> u64 {
     let (mut moves, mut dice) = (0, Dice(5));
     while !stops.load(Ordering::Acquire) {
         let (shard, server) = (moves as u16 % SHARDS, dice.below(3) as u16 + 1);

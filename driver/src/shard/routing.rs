@@ -25,11 +25,16 @@ impl Shard {
 
     /// Whether requests can be given to the server.
     pub(super) fn is_reached(&self, server: u16) -> bool {
-        let is_there = |it: u16| {
-            let own = self.own.as_ref();
-            own.is_none_or(|own| own.server() == it || own.members().contains_key(&it))
-        };
-        !self.away.contains(&server) && is_there(server)
+        let is_there = self.own.as_ref().is_none_or(|own| {
+            let is_own = own.server() == server;
+            is_own && !own.is_replaced() || !is_own && own.members().contains_key(&server)
+        });
+        !self.away.contains(&server) && is_there
+    }
+
+    /// Whether another process has the name of this one's server, which is away then.
+    fn is_replaced(&self) -> bool {
+        self.own.as_ref().is_some_and(|it| it.is_replaced())
     }
 
     /// Where the run goes by the record, as it was seen last.
@@ -54,6 +59,7 @@ impl Shard {
             run.origin.came,
         ) {
             (None, _) => Way::Waits,
+            (Some(owner), _) if owner == me && self.is_replaced() => Way::Waits,
             (Some(owner), _) if owner == me => Way::Here,
             (Some(owner), None) => self.if_reached(
                 owner,

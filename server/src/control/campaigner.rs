@@ -85,8 +85,8 @@ impl Campaigner {
     /// The control, where this process leads from now on.
     fn campaign(&mut self) -> Option<StoredController> {
         // Where its own key lies, it may have been elected without having seen so.
-        let own = self.peers.member().server();
-        let is_led = self.peers.leader().is_some_and(|it| it != own);
+        let member = self.peers.member();
+        let is_led = member.leader().is_some_and(|it| it != member.process());
         if is_led || self.cluster.is_stopping() || Instant::now() < self.again {
             return None;
         }
