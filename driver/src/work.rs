@@ -69,8 +69,8 @@ impl Begin {
     }
 }
 
-/// The number that a client gives its work. The same number always has the same requests, and a greater one has the
-/// smaller ones be [`NotDone::Passed`] where they aren't made.
+/// The number that a client gives its work. The same number always has the same requests, and once a greater one is made
+/// the smaller ones are [`NotDone::Passed`].
 #[derive(Clone, Copy, Debug, PartialEq, Eq, Hash)]
 pub struct Numbered {
     /// The client, from 1 on.
@@ -143,7 +143,7 @@ pub enum NotDone {
     /// Another server executes it, by the record of this revision or a later one: nothing of it was made here.
     #[error("another server executes it, by the record of revision {0}")]
     Moved(Revision),
-    /// A later number of its client is made, so this one won't be.
+    /// A later number of its client is made, so this one won't be from now on; whether it was isn't kept.
     #[error("a later number of its client is made")]
     Passed,
     /// As many clients' numbers are kept as may, and its client's isn't among them.

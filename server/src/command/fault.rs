@@ -317,7 +317,10 @@ fn not_done(f: &mut fmt::Formatter<'_>, shard: u16, why: &NotDone) -> fmt::Resul
         NotDone::Unknown(_) => write!(f, "UNKNOWN {why}: read before you try again"),
         // Another process asks again.
         NotDone::Moved(_) => write!(f, "{}", Wait::Busy(shard)),
-        NotDone::Passed => write!(f, "PASSED {why}: this one isn't"),
+        NotDone::Passed => write!(
+            f,
+            "PASSED {why}: this one won't be, and whether it was isn't kept"
+        ),
         NotDone::TooManyClients => write!(f, "TOOMANYCLIENTS nothing has changed: {why}"),
         NotDone::Stopped => write!(f, "STOPPING nothing has changed: {why}"),
     }
