@@ -237,37 +237,53 @@ impl Shard {
             }
             let finds_out = round.may_be_made;
             let found = self.decide_one(round, asked, (server, finds_out), now, deeds)?;
-            let (step, is_numbered) = (asked.step, round.is_numbered(asked));
-            let origin = round.origin_of(asked);
-            let run = origin.map_or(0, |it| it.run);
-            match found {
-                Found::Replied(reply) => round.asked[place].reply = Some(reply),
-                Found::Waits(server) => round.asked[place].waits_at = Some(server),
-                Found::Nobody => return Ok(Judged::Nobody),
-                Found::Leaves(to, hops) => leaving.push((run, to, hops)),
-                Found::Back if origin.is_some_and(|it| it.came.is_some()) => {
-                    round.end_run(run, &NotDone::Moved(self.standing.revision()));
-                }
-                // What a client gave here goes to the owner.
-                Found::Back => {}
-                Found::Passed if is_numbered => round.end_step(step, NotDone::Passed),
-                Found::Crowded if is_numbered => round.end_step(step, NotDone::TooManyClients),
-                Found::Crowded => {
-                    self.is_crowded = true;
-                    return Ok(Judged::Nobody);
-                }
-                Found::Forgotten if !round.may_be_made => {
-                    self.renews = true;
-                    deeds.push(Deed::Renew);
-                    return Ok(Judged::Parts);
-                }
-                Found::Passed | Found::Forgotten => return Ok(Judged::Unknown),
+            if let Some(judged) = self.note_found(round, place, found, leaving, deeds) {
+                return Ok(judged);
             }
             if !round.asked[place].is_placed() {
                 judged = Judged::Parts;
             }
         }
         Ok(judged)
+    }
+
+    /// Notes what was found of the request in this place; returns how the whole round is judged, where that tells.
+    fn note_found(
+        &mut self,
+        round: &mut Round,
+        place: usize,
+        found: Found,
+        leaving: &mut Leaving,
+        deeds: &mut Vec<Deed>,
+    ) -> Option<Judged> {
+        let asked = &round.asked[place];
+        let (step, is_numbered) = (asked.step, round.is_numbered(asked));
+        let origin = round.origin_of(asked);
+        let run = origin.map_or(0, |it| it.run);
+        match found {
+            Found::Replied(reply) => round.asked[place].reply = Some(reply),
+            Found::Waits(server) => round.asked[place].waits_at = Some(server),
+            Found::Nobody => return Some(Judged::Nobody),
+            Found::Leaves(to, hops) => leaving.push((run, to, hops)),
+            Found::Back if origin.is_some_and(|it| it.came.is_some()) => {
+                round.end_run(run, &NotDone::Moved(self.standing.revision()));
+            }
+            // What a client gave here goes to the owner.
+            Found::Back => {}
+            Found::Passed if is_numbered => round.end_step(step, NotDone::Passed),
+            Found::Crowded if is_numbered => round.end_step(step, NotDone::TooManyClients),
+            Found::Crowded => {
+                self.is_crowded = true;
+                return Some(Judged::Nobody);
+            }
+            Found::Forgotten if !round.may_be_made => {
+                self.renews = true;
+                deeds.push(Deed::Renew);
+                return Some(Judged::Parts);
+            }
+            Found::Passed | Found::Forgotten => return Some(Judged::Unknown),
+        }
+        None
     }
 
     /// Has the server decide, and where all are of this process whoever it forwards to.

@@ -76,7 +76,7 @@ impl Shard {
         deeds: &mut Vec<Deed>,
     ) {
         let server = ticket.server;
-        let (mut core, mut at, writes) = match self.seats.remove(&server) {
+        let (core, at, writes) = match self.seats.remove(&server) {
             Some(Seat::Sent(core, at, number, writes)) if number == ticket.number => {
                 (core, at, writes)
             }
@@ -87,30 +87,9 @@ impl Shard {
         };
         let sent_at = self.leasing.take_sent();
         match outcome {
-            Ok(Outcome::Made(revision)) => match self.on_made(&mut core, revision) {
-                Ok(_) => {
-                    if writes {
-                        at.logged = revision;
-                        self.logged = self.logged.max(revision);
-                        // Copies that come late compare what was there before.
-                        self.unknown_at = None;
-                    }
-                    self.leasing.note_held(at, sent_at);
-                    self.seats.insert(server, Seat::Ready(core, at));
-                    self.end_failed_base(server);
-                    if self.base == Some((server, Basing::Named(ticket.number))) {
-                        self.base_pause.end();
-                        self.base = None;
-                        self.sweeps += 1;
-                        deeds.push(Deed::Sweep(server));
-                    }
-                }
-                // It was made: a server that reads anew tells that.
-                Err(_) => {
-                    self.note_may_be_made(at, writes);
-                    self.read_again(server);
-                }
-            },
+            Ok(Outcome::Made(revision)) => {
+                self.on_sent_made(ticket, (core, at, writes), (revision, sent_at), deeds);
+            }
             Ok(Outcome::Lost(_)) => self.read_again(server),
             Err(WriteError::Unknown(_)) => {
                 self.note_may_be_made(at, writes);
@@ -123,6 +102,37 @@ impl Shard {
         }
         self.catch_up();
         self.go_on(now, deeds);
+    }
+
+    /// Has the server go on from its transaction, which was sent then and made at this revision.
+    fn on_sent_made(
+        &mut self,
+        ticket: Ticket,
+        (mut core, mut at, writes): (Core, At, bool),
+        (revision, sent_at): (Revision, Option<Instant>),
+        deeds: &mut Vec<Deed>,
+    ) {
+        let server = ticket.server;
+        if self.on_made(&mut core, revision).is_err() {
+            // It was made: a server that reads anew tells that.
+            self.note_may_be_made(at, writes);
+            return self.read_again(server);
+        }
+        if writes {
+            at.logged = revision;
+            self.logged = self.logged.max(revision);
+            // Copies that come late compare what was there before.
+            self.unknown_at = None;
+        }
+        self.leasing.note_held(at, sent_at);
+        self.seats.insert(server, Seat::Ready(core, at));
+        self.end_failed_base(server);
+        if self.base == Some((server, Basing::Named(ticket.number))) {
+            self.base_pause.end();
+            self.base = None;
+            self.sweeps += 1;
+            deeds.push(Deed::Sweep(server));
+        }
     }
 
     /// Notes the answers of what was made, and returns how many they are.
