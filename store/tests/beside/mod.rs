@@ -113,9 +113,19 @@ impl Member {
         let _ = self.process.wait();
     }
 
-    /// Has it hang, with its connections open.
+    /// Has it hang, with its connections open: from now on, whichever of its threads gets a processor.
     pub fn stop(&self) {
         self.signal("-STOP");
+        while !self.is_stopped() {
+            thread::sleep(Duration::from_millis(1));
+        }
+    }
+
+    fn is_stopped(&self) -> bool {
+        let tasks = fs::read_dir(format!("/proc/{}/task", self.process.id())).expect("it runs");
+        let mut stats =
+            tasks.filter_map(|it| fs::read_to_string(it.ok()?.path().join("stat")).ok());
+        stats.all(|it| it.contains(") T "))
     }
 
     /// Has it go on.
