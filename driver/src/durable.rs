@@ -355,6 +355,8 @@ impl Inner {
         work(&mut held, &mut deeds);
         self.stirred[usize::from(shard)].store(true, Ordering::Release);
         drop(held);
+        // What the store is to make is on its way before those are told who waited for what it has made.
+        deeds.sort_by_key(|it| !matches!(it, Deed::Submit(..)));
         deeds.into_iter().for_each(|it| self.perform(shard, it));
     }
 
