@@ -8,7 +8,7 @@ use sm_foreign::OpenFault;
 use sm_handle::{ActFault, CutFault};
 use sm_ownership::admit_fault::AdmitFault;
 use sm_ownership::change_fault::ChangeFault;
-use sm_place::PlaceFault;
+use sm_place::{BooksFault, PlaceFault};
 use sm_ranges::key::KeyFault;
 use sm_ranges::layout::LayoutFault;
 use sm_rule::{AdmitRefusal, MakeFault, ToldRefusal};
@@ -38,7 +38,7 @@ pub(crate) const NO_SHARD: u32 = 6;
 /// A board or a layout has at most 4,096 shards.
 pub(crate) const TOO_MANY: u32 = 7;
 
-/// There are no servers, or memory for their books was refused.
+/// There are no servers.
 pub(crate) const BAD_BOOKS: u32 = 8;
 
 /// The bodies are as many as the shards of the settings.
@@ -186,6 +186,7 @@ pub(crate) fn code_of_open(fault: OpenFault) -> u32
             MakeFault::BadCeiling => BAD_CEILING,
             MakeFault::NoMemory => NO_MEMORY,
         },
+        OpenFault::Books(BooksFault::NoMemory) => NO_MEMORY,
         OpenFault::Books(_) => BAD_BOOKS,
         OpenFault::Bodies => BAD_COUNT,
         OpenFault::Servers | OpenFault::Restarts => BAD_ARGUMENT,
