@@ -144,6 +144,7 @@ impl BoardPass<Foreign> {
     /// Ends the admission, which changed nothing that the board knows of; or the pass holds nothing.
     pub fn finish(&mut self) -> Option<Front>
         ensures ended { IfSome result (EndsPass self.old self.new) }
+        ensures free { IfNone result (self.old.1 ≡ None) }
         ensures none { IfNone result (self.new ≡ self.old) }
     {
         match self.permit.take() {

@@ -1,5 +1,6 @@
 -- What calls do to the state of a handle.
-use Rattle.std.specs.Prelude.{ℕ, ◌≡◌, List, length, map, Option, Some, None, Result, Ok, Err}
+use Rattle.std.specs.Prelude.{ℕ, ◌≡◌, ◌≤◌, ◌⊎◌, ⊤, true, List, length, map}
+use Rattle.std.specs.Prelude.{Option, Some, None, is_some, Result, Ok, Err}
 use Rattle.sm_ownership.specs.declared.mode.Mode.{Mode}
 use Rattle.sm_ownership.specs.declared.record.Record.{Record}
 use Rattle.sm_rule.specs.Admissions.{RefusedBy}
@@ -22,18 +23,29 @@ AdmitsState (Pass before) (Pass after) shard mode number =
     (before.held.1 ≡ None) × AdmitsPass before.held after.held shard mode number
 AdmitsState before after shard mode number = ⊥
 
--- a pass isn't admitted and has looked, or the state is as it was
+-- the handle keeps no pass to foreign bodies that holds no permit, on a board with this shard
+abbrev pub AdmitsNowhere : Option HandleState → ℕ → Type 0
+AdmitsNowhere (Some (Pass pass)) shard =
+    (is_some pass.held.1 ≡ true) ⊎ (pass.held.0.board.limits.count ≤ shard)
+AdmitsNowhere state shard = ⊤
+
+-- a pass isn't admitted and has looked; or the state is as it was, and admits nowhere
 abbrev pub RefusesState : HandleState → HandleState → ℕ → Mode → ActFault → Type 0
 RefusesState (Pass before) (Pass after) shard mode (Admit refusal) =
     PassLooks before.held.0 after.held.0 × RefusedBy before.held.0 after.held.0 shard mode refusal
     × (after.held.1 ≡ before.held.1)
-RefusesState before after shard mode fault = after ≡ before
+RefusesState before after shard mode fault = (after ≡ before) × AdmitsNowhere (Some before) shard
 
 -- the admission of the pass has ended, and it holds nothing
 abbrev pub EndsState : HandleState → HandleState → ℕ → Type 0
 EndsState (Pass before) (Pass after) generation =
     EndsPermit before.held.1 before.held.0 after.held.0 generation × (after.held.1 ≡ None)
 EndsState before after generation = ⊥
+
+-- the handle keeps no pass that holds a permit
+abbrev pub HoldsNothing : Option HandleState → Type 0
+HoldsNothing (Some (Pass pass)) = pass.held.1 ≡ None
+HoldsNothing state = ⊤
 
 -- the pass has seen more, in which this is the shard's record, and what it holds is as it was
 abbrev pub LooksState : HandleState → HandleState → ℕ → Record → Type 0
@@ -42,7 +54,19 @@ LooksState (Pass before) (Pass after) shard state =
 LooksState (TextPass before) (TextPass after) shard state = PassLooks before after × (state ≡ record_of after shard)
 LooksState before after shard state = ⊥
 
--- the control answers the command and is then what it leaves, or the state is as it was
+-- the handle keeps no pass on a board with this shard
+abbrev pub LooksNowhere : Option HandleState → ℕ → Type 0
+LooksNowhere (Some (Pass pass)) shard = pass.held.0.board.limits.count ≤ shard
+LooksNowhere (Some (TextPass pass)) shard = pass.board.limits.count ≤ shard
+LooksNowhere state shard = ⊤
+
+-- the handle keeps no control
+abbrev pub KeepsNoControl : Option HandleState → Type 0
+KeepsNoControl (Some (Chief chief)) = ⊥
+KeepsNoControl (Some (TextChief chief)) = ⊥
+KeepsNoControl state = ⊤
+
+-- the control answers the command and is then what it leaves; or there is none, and the state is as it was
 abbrev pub CommandsState : HandleState → HandleState → Command → Result (Unit {0}) ActFault → Type 0
 CommandsState (Chief before) (Chief after) command (Ok made) =
     Commanded (desk_fault before.value.desk command) before.value after.value command (Ok tt)
@@ -53,7 +77,8 @@ CommandsState (TextChief before) (TextChief after) command (Ok made) =
 CommandsState (TextChief before) (TextChief after) command (Err (CommandRefused fault)) =
     Commanded (desk_fault before.value.desk command) before.value after.value command (Err fault)
 CommandsState before after command (Ok made) = ⊥
-CommandsState before after command (Err fault) = (fault ≡ WrongHandle) × (after ≡ before)
+CommandsState before after command (Err fault) =
+    (fault ≡ WrongHandle) × (after ≡ before) × KeepsNoControl (Some before)
 
 -- a new pass on the board of the control, with this server or none
 abbrev pub IsPassOfState : HandleState → Option ℕ → HandleState → Type 0

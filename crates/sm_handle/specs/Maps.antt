@@ -1,5 +1,5 @@
 -- Maps of the sample service, and their replies, that handles keep.
-use Rattle.std.specs.Prelude.{ℕ, ◌≡◌, ◌≤◌, ⊤, List, [], length, slice_get, take, Option, Some, None}
+use Rattle.std.specs.Prelude.{ℕ, ◌≡◌, ◌≤◌, ◌<◌, ◌⊎◌, ⊤, List, [], length, slice_get, take, Option, Some, None}
 use Rattle.sm_map.specs.KeyMap.{KeyPair, KeyValue, Text as HeldText, Count as HeldCount, held_at}
 use Rattle.sm_service.specs.Service.{reply as reply_of, after as map_after}
 use Rattle.sm_service.specs.declared.reply.Reply.{Reply as ReplyValue}
@@ -74,12 +74,22 @@ Replied state parts = (reply : ReplyValue) × (reply_kept state ≡ Some reply) 
 abbrev pub WritesText : Option HandleState → List ℕ → ℕ → Type 0
 WritesText state written count = reply_kept state ≡ Some (Text (take count written))
 
+-- the reply is no text, or one with more bytes than this room
+abbrev pub HasNoText : Option ReplyValue → List ℕ → Type 0
+HasNoText (Some (Text text)) room = length room < length text
+HasNoText reply room = ⊤
+
 -- the handle keeps pairs as its reply, and this is the one at this place
 abbrev pub IsPairAt : Option HandleState → ℕ → KeyPair → Type 0
 IsPairAt state at pair =
     (pairs : List KeyPair) × (reply_kept state ≡ Some (Pairs pairs)) × (slice_get pairs at ≡ Some pair)
 
--- the same, and these are the parts of what its key held
+-- the reply has no pair at this place
+abbrev pub HasNoPair : Option ReplyValue → ℕ → Type 0
+HasNoPair (Some (Pairs pairs)) at = slice_get pairs at ≡ None
+HasNoPair reply at = ⊤
+
+-- a pair is there, and these are the parts of what its key held
 abbrev pub PairHeld : Option HandleState → ℕ → ReplyParts → Type 0
 PairHeld state at parts = (pair : KeyPair) × IsPairAt state at pair × AreValueParts parts pair.value
 
@@ -91,3 +101,20 @@ WritesKey state at written count = (pair : KeyPair) × IsPairAt state at pair ×
 abbrev pub WritesHeldText : Option HandleState → ℕ → List ℕ → ℕ → Type 0
 WritesHeldText state at written count =
     (pair : KeyPair) × IsPairAt state at pair × (pair.value ≡ HeldText (take count written))
+
+-- what the handle keeps has no pair at this place, or the pair's key has more bytes than this room
+abbrev pub HasNoKeyAt : Option HandleState → ℕ → List ℕ → Type 0
+HasNoKeyAt state at room =
+    HasNoPair (reply_kept state) at
+    ⊎ ((pair : KeyPair) × IsPairAt state at pair × (length room < length pair.key))
+
+-- what a key held is no text, or one with more bytes than this room
+abbrev pub HasNoTextIn : KeyValue → List ℕ → Type 0
+HasNoTextIn (HeldText text) room = length room < length text
+HasNoTextIn held room = ⊤
+
+-- what the handle keeps has no pair at this place, or the pair's key held no text, or one with more bytes than this
+-- room
+abbrev pub HasNoTextAt : Option HandleState → ℕ → List ℕ → Type 0
+HasNoTextAt state at room =
+    HasNoPair (reply_kept state) at ⊎ ((pair : KeyPair) × IsPairAt state at pair × HasNoTextIn pair.value room)

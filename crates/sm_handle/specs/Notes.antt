@@ -1,5 +1,5 @@
 -- What passes in handles tell each other.
-use Rattle.std.specs.Prelude.{◌≡◌, ⊤, Option, Some, None}
+use Rattle.std.specs.Prelude.{◌≡◌, ◌⊎◌, ⊤, Option, Some, None, is_some, true}
 use Rattle.sm_rule.specs.Passes.{PassLooks}
 use Rattle.sm_rule.specs.Views.{Begins, IsMet}
 use Rattle.sm_handle.specs.declared.handle_state.HandleState.{HandleState}
@@ -31,3 +31,20 @@ MeetsHandle (Some (TextPass before)) (Some (TextPass other)) (Some (TextPass aft
 MeetsHandle (Some (TextPass before)) (Some (Answer answer)) (Some (TextPass after)) =
     PassLooks before after × IsMet answer.note.number answer.note.seen after.seen
 MeetsHandle before other after = ⊥
+
+-- the handle keeps no pass to foreign bodies, or one that holds a permit
+abbrev pub KeepsNoFreePass : Option HandleState → Type 0
+KeepsNoFreePass (Some (Pass pass)) = is_some pass.held.1 ≡ true
+KeepsNoFreePass state = ⊤
+
+-- the handle keeps no pass of a board of the sample service
+abbrev pub KeepsNoTextPass : Option HandleState → Type 0
+KeepsNoTextPass (Some (TextPass pass)) = ⊥
+KeepsNoTextPass state = ⊤
+
+-- the second handle keeps no pass or answer, or the first one no pass of its kind, or one of them holds a permit
+abbrev pub TellsNothing : Option HandleState → Option HandleState → Type 0
+TellsNothing pass (Some (Pass other)) = KeepsNoFreePass pass ⊎ (is_some other.held.1 ≡ true)
+TellsNothing pass (Some (TextPass other)) = KeepsNoTextPass pass
+TellsNothing pass (Some (Answer answer)) = KeepsNoTextPass pass
+TellsNothing pass other = ⊤

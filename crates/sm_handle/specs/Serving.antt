@@ -1,5 +1,5 @@
 -- Boards of the sample service, their passes, and envelopes, that handles keep.
-use Rattle.std.specs.Prelude.{ℕ, ◌≡◌, [], replicate, Option, Some}
+use Rattle.std.specs.Prelude.{ℕ, ◌≡◌, ⊤, [], replicate, Option, Some}
 use Rattle.sm_body.specs.Service.{Meaning, meaning_of}
 use Rattle.sm_rule.specs.Passes.{PassLooks, record_of}
 use Rattle.sm_rule.specs.Views.{Begins}
@@ -40,6 +40,11 @@ IsSentAs (Some (Envelope envelope)) sent =
     × (sent.hops ≡ envelope.hops)
 IsSentAs state sent = ⊥
 
+-- the handle keeps no envelope
+abbrev pub KeepsNoEnvelope : Option HandleState → Type 0
+KeepsNoEnvelope (Some (Envelope envelope)) = ⊥
+KeepsNoEnvelope state = ⊤
+
 -- the second handle keeps an envelope that came so and carries the request, with a note of all that the first one's
 -- pass has seen
 abbrev pub Carries : Option HandleState → Option HandleState → SentAs → Request → Type 0
@@ -77,6 +82,11 @@ abbrev pub TellsAnswer : Option HandleState → AnswerParts → Type 0
 TellsAnswer (Some (Answer answer)) parts =
     (parts.number ≡ answer.number) × (parts.place ≡ answer.place) × (parts.server ≡ answer.server)
 TellsAnswer state parts = ⊥
+
+-- the handle keeps no answer
+abbrev pub KeepsNoAnswer : Option HandleState → Type 0
+KeepsNoAnswer (Some (Answer answer)) = ⊥
+KeepsNoAnswer state = ⊤
 
 -- the pass made the shard's state its base, and this is the shard's generation since then
 abbrev pub MakesCheckpoint : Option HandleState → Option HandleState → ℕ → ℕ → Type 0

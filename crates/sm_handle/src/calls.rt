@@ -1,7 +1,7 @@
 //! Calls on handles.
 ghost use Rattle.std.specs.Prelude.{◌≡◌, IfErr, IfOk, OnOk};
-ghost use Rattle.sm_handle.specs.Acts.{AdmitsHandle, CommandsHandle, EndsHandle, IsOpened, IsPassOf};
-ghost use Rattle.sm_handle.specs.Acts.{RefusesHandle, TellsWord};
+ghost use Rattle.sm_handle.specs.Acts.{AdmitsHandle, CommandsHandle, EndsHandle, HoldsNothing, IsOpened, IsPassOf};
+ghost use Rattle.sm_handle.specs.Acts.{LooksNowhere, RefusesHandle, TellsWord};
 
 use crate::act_fault::ActFault;
 use crate::acts;
@@ -54,7 +54,8 @@ impl Handle {
     /// Ends the admission of the pass: the shard's generation since then, or why not, and the handle is as it was.
     pub fn finish(&mut self) -> Result<u64, ActFault>
         ensures ended { IfOk result (EndsHandle self.old.owned.state self.new.owned.state) }
-        ensures refused { IfErr result (λ fault. self.new.owned.state ≡ self.old.owned.state) }
+        ensures refused { IfErr result (λ fault. HoldsNothing self.old.owned.state) }
+        ensures kept { IfErr result (λ fault. self.new.owned.state ≡ self.old.owned.state) }
     {
         if !self.full {
             return Err(ActFault::WrongHandle);
@@ -65,7 +66,8 @@ impl Handle {
     /// The word of the shard's record after all that the pass then has seen; or why not, and the handle is as it was.
     pub fn look(&mut self, k: ShardId) -> Result<u64, ActFault>
         ensures seen { IfOk result (TellsWord self.old.owned.state self.new.owned.state k) }
-        ensures refused { IfErr result (λ fault. self.new.owned.state ≡ self.old.owned.state) }
+        ensures refused { IfErr result (λ fault. LooksNowhere self.old.owned.state k) }
+        ensures kept { IfErr result (λ fault. self.new.owned.state ≡ self.old.owned.state) }
     {
         if !self.full {
             return Err(ActFault::WrongHandle);

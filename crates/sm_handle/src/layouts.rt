@@ -1,7 +1,8 @@
 //! Layouts that handles keep.
 ghost use Rattle.std.specs.Prelude.{◌≡◌, IfErr, IfOk, IfSome, OnOk, Some};
 ghost use Rattle.sm_ranges.specs.LayoutFault.{texts_of};
-ghost use Rattle.sm_handle.specs.Layouts.{IsLayoutOf, IsShardOf, WritesBound, part_of, parts_of};
+ghost use Rattle.sm_handle.specs.Layouts.{HasNoBound, IsLayoutOf, IsShardOf, KeepsNoLayout, WritesBound};
+ghost use Rattle.sm_handle.specs.Layouts.{part_of, parts_of};
 
 use crate::act_fault::ActFault;
 use crate::cut_fault::CutFault;
@@ -30,6 +31,7 @@ impl Handle {
     /// The shard of the key, which may be any bytes, in the layout that the handle keeps.
     pub fn shard_of(&mut self, key: &[u8]) -> Result<ShardId, ActFault>
         ensures shard { IfOk result (IsShardOf self.old.owned.state key.now) }
+        ensures refused { IfErr result (λ fault. KeepsNoLayout self.old.owned.state) }
         ensures unchanged { self.new.owned.state ≡ self.old.owned.state }
     {
         if !self.full {
@@ -42,6 +44,7 @@ impl Handle {
     /// not, and nothing is written.
     pub fn bound(&mut self, k: ShardId, into: &mut [u8]) -> Result<usize, ActFault>
         ensures written { IfOk result (WritesBound self.old.owned.state k into.new) }
+        ensures refused { IfErr result (λ fault. HasNoBound self.old.owned.state k into.old) }
         ensures unwritten { IfErr result (λ fault. into.new ≡ into.old) }
         ensures unchanged { self.new.owned.state ≡ self.old.owned.state }
     {
@@ -89,7 +92,8 @@ fn part_in<'a>(text: &'a [u8], part: TextPart) -> Option<&'a [u8]>
 }
 
 fn shard_in(state: &HandleState, key: &[u8]) -> Result<ShardId, ActFault>
-    ensures { IfOk result (IsShardOf (Some state.now) key.now) }
+    ensures shard { IfOk result (IsShardOf (Some state.now) key.now) }
+    ensures refused { IfErr result (λ fault. KeepsNoLayout (Some state.now)) }
 {
     match state {
         HandleState::Layout(layout) => Ok(layout.shard_of(key)),
@@ -99,6 +103,7 @@ fn shard_in(state: &HandleState, key: &[u8]) -> Result<ShardId, ActFault>
 
 fn bound_in(state: &HandleState, k: ShardId, into: &mut [u8]) -> Result<usize, ActFault>
     ensures written { IfOk result (WritesBound (Some state.now) k into.new) }
+    ensures refused { IfErr result (λ fault. HasNoBound (Some state.now) k into.old) }
     ensures unwritten { IfErr result (λ fault. into.new ≡ into.old) }
 {
     match state {

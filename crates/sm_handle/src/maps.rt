@@ -28,6 +28,7 @@ impl Handle {
     /// How many keys of the map that the handle keeps hold something.
     pub fn map_len(&mut self) -> Result<u128, ActFault>
         ensures count { IfOk result (HoldsKeys self.old.owned.state) }
+        ensures refused { IfErr result (λ fault. KeepsNoMap self.old.owned.state) }
         ensures unchanged { self.new.owned.state ≡ self.old.owned.state }
     {
         if !self.full {
@@ -86,7 +87,8 @@ impl Handle {
 }
 
 fn len_of(state: &HandleState) -> Result<u128, ActFault>
-    ensures { IfOk result (HoldsKeys (Some state.now)) }
+    ensures count { IfOk result (HoldsKeys (Some state.now)) }
+    ensures refused { IfErr result (λ fault. KeepsNoMap (Some state.now)) }
 {
     match state {
         HandleState::Map(map) => Ok(map.len()),

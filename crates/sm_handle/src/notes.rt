@@ -1,7 +1,7 @@
 //! What passes in handles tell each other.
 ghost use Rattle.std.specs.Prelude.{◌≡◌, IfErr, IfNone, IfOk, IfSome, None, OnOk, Some};
 ghost use Rattle.sm_handle.specs.declared.handle_state.HandleState.TheVariants.{Pass as Passing};
-ghost use Rattle.sm_handle.specs.Notes.{AreOfOneBoard, IsSplitFrom, MeetsHandle};
+ghost use Rattle.sm_handle.specs.Notes.{AreOfOneBoard, IsSplitFrom, MeetsHandle, TellsNothing};
 
 use crate::act_fault::ActFault;
 use crate::handle::Handle;
@@ -34,6 +34,7 @@ impl Handle {
         requires { AreOfOneBoard self.old.owned.state other.old.owned.state }
         ensures met { OnOk result (MeetsHandle self.old.owned.state other.old.owned.state self.new.owned.state) }
         ensures gone { OnOk result (other.new.owned.state ≡ None) }
+        ensures apart { IfErr result (λ fault. TellsNothing self.old.owned.state other.old.owned.state) }
         ensures refused { IfErr result (λ fault. self.new.owned.state ≡ self.old.owned.state) }
         ensures back { IfErr result (λ fault. other.new.owned.state ≡ other.old.owned.state) }
     {
@@ -75,6 +76,7 @@ fn split_of(state: &mut HandleState) -> Result<HandleState, ActFault>
 fn meet_in(state: &mut HandleState, other: HandleState) -> Option<HandleState>
     requires { AreOfOneBoard (Some state.old) (Some other) }
     ensures met { IfNone result (MeetsHandle (Some state.old) (Some other) (Some state.new)) }
+    ensures apart { IfSome result (λ back. TellsNothing (Some state.old) (Some other)) }
     ensures refused { IfSome result (λ back. (back ≡ other) × (state.new ≡ state.old)) }
 {
     match other {
@@ -105,6 +107,7 @@ fn meet_in(state: &mut HandleState, other: HandleState) -> Option<HandleState>
 fn meet_pass(state: &mut HandleState, told: ForeignPass) -> Option<ForeignPass>
     requires { AreOfOneBoard (Some state.old) (Some (Passing told)) }
     ensures met { IfNone result (MeetsHandle (Some state.old) (Some (Passing told)) (Some state.new)) }
+    ensures apart { IfSome result (λ back. TellsNothing (Some state.old) (Some (Passing told))) }
     ensures refused { IfSome result (λ back. (back ≡ told) × (state.new ≡ state.old)) }
 {
     let HandleState::Pass(pass) = state else {

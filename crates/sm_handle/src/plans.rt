@@ -1,6 +1,6 @@
 //! Plans that handles keep.
 ghost use Rattle.std.specs.Prelude.{◌≡◌, IfErr, IfOk, OnOk, Some};
-ghost use Rattle.sm_handle.specs.Plans.{IsLeftOut, IsMove, IsPlanOf};
+ghost use Rattle.sm_handle.specs.Plans.{HasNoMove, HasNotLeft, IsLeftOut, IsMove, IsPlanOf};
 
 use crate::act_fault::ActFault;
 use crate::handle::Handle;
@@ -37,6 +37,7 @@ impl Handle {
     /// The move at this place of the plan that the handle keeps.
     pub fn planned(&mut self, at: usize) -> Result<Move, ActFault>
         ensures found { IfOk result (IsMove self.old.owned.state at) }
+        ensures refused { IfErr result (λ fault. HasNoMove self.old.owned.state at) }
         ensures unchanged { self.new.owned.state ≡ self.old.owned.state }
     {
         if !self.full {
@@ -48,6 +49,7 @@ impl Handle {
     /// The shard at this place of those that the plan that the handle keeps has no room for.
     pub fn left(&mut self, at: usize) -> Result<ShardId, ActFault>
         ensures found { IfOk result (IsLeftOut self.old.owned.state at) }
+        ensures refused { IfErr result (λ fault. HasNotLeft self.old.owned.state at) }
         ensures unchanged { self.new.owned.state ≡ self.old.owned.state }
     {
         if !self.full {
@@ -77,7 +79,8 @@ fn plan_of(
 }
 
 fn move_in(state: &HandleState, at: usize) -> Result<Move, ActFault>
-    ensures { IfOk result (IsMove (Some state.now) at) }
+    ensures found { IfOk result (IsMove (Some state.now) at) }
+    ensures refused { IfErr result (λ fault. HasNoMove (Some state.now) at) }
 {
     match state {
         HandleState::Plan(plan) => match plan.moves().get(at) {
@@ -89,7 +92,8 @@ fn move_in(state: &HandleState, at: usize) -> Result<Move, ActFault>
 }
 
 fn left_in(state: &HandleState, at: usize) -> Result<ShardId, ActFault>
-    ensures { IfOk result (IsLeftOut (Some state.now) at) }
+    ensures found { IfOk result (IsLeftOut (Some state.now) at) }
+    ensures refused { IfErr result (λ fault. HasNotLeft (Some state.now) at) }
 {
     match state {
         HandleState::Plan(plan) => match plan.left().get(at) {

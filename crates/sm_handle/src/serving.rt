@@ -2,8 +2,8 @@
 ghost use Rattle.std.specs.Prelude.{◌≡◌, [], IfErr, IfOk, IfSome, IsSome, OnOk, Some, replicate};
 ghost use Rattle.sm_handle.specs.declared.handle_state.HandleState.TheVariants.{Envelope as Sent};
 ghost use Rattle.sm_handle.specs.declared.handle_state.HandleState.TheVariants.{Layout as LayoutOf, TextPass};
-ghost use Rattle.sm_handle.specs.Serving.{Carries, IsOfBoard, IsSentAs, IsServiceOpened, MakesCheckpoint};
-ghost use Rattle.sm_handle.specs.Serving.{RefusesCheckpoint, Serves, TellsAnswer};
+ghost use Rattle.sm_handle.specs.Serving.{Carries, IsOfBoard, IsSentAs, IsServiceOpened, KeepsNoAnswer};
+ghost use Rattle.sm_handle.specs.Serving.{KeepsNoEnvelope, MakesCheckpoint, RefusesCheckpoint, Serves, TellsAnswer};
 
 use crate::act_fault::ActFault;
 use crate::answer_parts::AnswerParts;
@@ -101,6 +101,7 @@ impl Handle {
     /// The envelope that the handle keeps, but for its request and its note.
     pub fn sent(&mut self) -> Result<SentAs, ActFault>
         ensures sent { IfOk result (IsSentAs self.old.owned.state) }
+        ensures refused { IfErr result (λ fault. KeepsNoEnvelope self.old.owned.state) }
         ensures unchanged { self.new.owned.state ≡ self.old.owned.state }
     {
         if !self.full {
@@ -112,6 +113,7 @@ impl Handle {
     /// The answer that the handle keeps, but for its reply.
     pub fn answer(&mut self) -> Result<AnswerParts, ActFault>
         ensures parts { IfOk result (TellsAnswer self.old.owned.state) }
+        ensures refused { IfErr result (λ fault. KeepsNoAnswer self.old.owned.state) }
         ensures unchanged { self.new.owned.state ≡ self.old.owned.state }
     {
         if !self.full {
@@ -263,7 +265,8 @@ fn hopped(envelope: Envelope<(), ()>, from: ServerId, hops: u8) -> Envelope<(), 
 }
 
 fn sent_in(state: &HandleState) -> Result<SentAs, ActFault>
-    ensures { IfOk result (IsSentAs (Some state.now)) }
+    ensures sent { IfOk result (IsSentAs (Some state.now)) }
+    ensures refused { IfErr result (λ fault. KeepsNoEnvelope (Some state.now)) }
 {
     match state {
         HandleState::Envelope(envelope) => Ok(SentAs {
@@ -277,7 +280,8 @@ fn sent_in(state: &HandleState) -> Result<SentAs, ActFault>
 }
 
 fn answer_in(state: &HandleState) -> Result<AnswerParts, ActFault>
-    ensures { IfOk result (TellsAnswer (Some state.now)) }
+    ensures parts { IfOk result (TellsAnswer (Some state.now)) }
+    ensures refused { IfErr result (λ fault. KeepsNoAnswer (Some state.now)) }
 {
     match state {
         HandleState::Answer(answer) => Ok(AnswerParts {
