@@ -1,16 +1,16 @@
 -- What the absence of a fault says of a record.
-use Rattle.std.proofs.Common.{◌≡◌, ℕ, ◌<◌, ◌^◌, true, false, not, refl, sym, ap, ◌∙◌, arith}
-use Rattle.std.specs.Prelude.{Option, Some, None, Bool, is_none, nat_lt, if◌then◌else◌}
+use Rattle.std.proofs.Common.{◌≡◌, ℕ, ◌+◌, ◌<◌, ◌≤◌, ◌^◌, true, false, not, refl, sym, ap, ◌∙◌, arith}
+use Rattle.std.specs.Prelude.{Option, Some, None, Bool, is_none, nat_le, nat_lt, if◌then◌else◌}
 use Rattle.std.specs.Option.{option_or}
-use Rattle.std.proofs.lemmas.Bool.{and_parts, ltb-true, not-true}
+use Rattle.std.proofs.lemmas.Bool.{and_parts, leb-true, ltb-true, not-true}
 use Rattle.sm_ownership.specs.declared.change.Change.{Change}
 use Rattle.sm_ownership.specs.declared.mode.Mode.{Mode}
 use Rattle.sm_ownership.specs.declared.record.Record.{Record}
 use Rattle.sm_ownership.specs.lemmas.Faults.{admit_fault-none, phase_fault-none}
-use Rattle.sm_ownership.specs.History.{after_change}
+use Rattle.sm_ownership.specs.History.{after_admit, after_change, after_done}
 use Rattle.sm_ownership.specs.Rules.{admit_fault, phase_fault}
 use Rattle.sm_ownership.specs.Tables.{change_fault, record_fault}
-use Rattle.sm_word.specs.lemmas.Histories.{formed_change}
+use Rattle.sm_word.specs.lemmas.Histories.{formed_admit, formed_change, formed_done}
 use Rattle.sm_word.specs.Known.{NewlyNamesServer}
 use Rattle.sm_word.specs.Word.{IsWellFormed}
 
@@ -37,3 +37,14 @@ pub idle_admitted : (ceiling : ℕ) (state : Record) (server : ℕ) (mode : Mode
 idle_admitted ceiling state server mode none =
     not-true state.admitted (and_parts (not state.admitted) _ (sym (admit_fault-none ceiling state server mode)
     ∙ ap is_none none)).0
+
+-- an admission that no fault forbids leaves a record that has a word, and so does its end
+pub formed_admitted : (ceiling : ℕ) (state : Record) (server : ℕ) (mode : Mode)
+    → admit_fault ceiling state server mode ≡ None → IsWellFormed state → ceiling < 2 ^ 36
+    → IsWellFormed (after_admit state) × IsWellFormed (after_done (after_admit state))
+formed_admitted ceiling state server mode none formed low =
+    let free = and_parts (not state.admitted) _ (sym (admit_fault-none ceiling state server mode) ∙ ap is_none none) in
+    let room = and_parts (nat_le (state.generation + 2) ceiling) _ free.1 in
+    let below : state.generation + 2 ≤ ceiling = leb-true _ _ room.0 in
+    let next = formed_admit state server mode formed room.1 (omega arith) in
+    (next, formed_done (after_admit state) next refl (omega arith))

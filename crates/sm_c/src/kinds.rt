@@ -1,46 +1,60 @@
 //! What numbers of C stand for.
-ghost use Rattle.std.specs.Prelude.{◌≡◌, IfSome};
-ghost use Rattle.sm_c.specs.Words.{CameFrom, IsOfKind};
+ghost use Rattle.std.specs.Prelude.{◌≡◌, ◌<◌, IfNone, IfSome};
+ghost use Rattle.sm_c.specs.Words.{CameFrom, IsNoChange, IsNoServer, IsOfKind};
 ghost use Rattle.sm_c.specs.Calls.{IsStep};
 
 use sm_desk::Command;
 use sm_ownership::change::Change;
 use sm_ownership::mode::Mode;
+use sm_ranges::limits::MAX_SERVER;
 use sm_ranges::server_id::ServerId;
 
 /// The change of this kind, for this server where it names one.
 pub(crate) fn change_of(kind: u8, server: u16) -> Option<Change>
-    ensures { IfSome result (IsOfKind kind server) }
+    ensures change { IfSome result (IsOfKind kind server) }
+    ensures none { IfNone result (IsNoChange kind server) }
 {
     match kind {
-        1 => Some(Change::Assign(ServerId::new(server)?)),
-        2 => Some(Change::PrepareAddShard(ServerId::new(server)?)),
+        1 => Some(Change::Assign(known_server(server)?)),
+        2 => Some(Change::PrepareAddShard(known_server(server)?)),
         3 => Some(Change::PrepareDropShard),
         4 => Some(Change::AddShard),
         5 => Some(Change::DropShard),
         6 => Some(Change::Cancel),
         7 => Some(Change::Pause),
         8 => Some(Change::Resume),
-        9 => Some(Change::Reassign(ServerId::new(server)?)),
+        9 => Some(Change::Reassign(known_server(server)?)),
         _ => None,
     }
 }
 
-/// How a request came: directly for 0, or from this server.
+/// The server with this number, or none where it is no server's.
+pub(crate) fn known_server(number: u16) -> Option<ServerId>
+    ensures server { IfSome result (λ server. server ≡ number) }
+    ensures none { IfNone result (IsNoServer number) }
+{
+    if number == 0 || number > MAX_SERVER {
+        return None;
+    }
+    Some(ServerId::of(number))
+}
+
+/// How a request came: directly for 0, or from this server; or none where it is no server's.
 pub(crate) fn mode_of(from: u16) -> Option<Mode>
-    ensures { IfSome result (CameFrom from) }
+    ensures mode { IfSome result (CameFrom from) }
+    ensures none { IfNone result (MAX_SERVER < from) }
 {
     if from == 0 {
         return Some(Mode::Direct);
     }
-    Some(Mode::Forwarded(ServerId::new(from)?))
+    Some(Mode::Forwarded(known_server(from)?))
 }
 
 /// The step of this kind of a server's restart.
 pub(crate) fn step_of(kind: u8, server: u16) -> Option<Command>
     ensures { IfSome result (IsStep kind server) }
 {
-    let server = ServerId::new(server)?;
+    let server = known_server(server)?;
     match kind {
         1 => Some(Command::Ask(server)),
         2 => Some(Command::Approve(server)),

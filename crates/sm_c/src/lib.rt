@@ -3,15 +3,17 @@
 //! used by one call at a time.
 #![tactic(auto)]
 
-ghost use Rattle.std.specs.Prelude.{◌≡◌, ◌≢◌, Some, None, unwrap_or};
+ghost use Rattle.std.specs.Prelude.{◌≡◌, ◌≢◌, ◌<◌, ◌⊎◌, Some, None, unwrap_or};
 ghost use Rattle.sm_ownership.specs.declared.record.Record.{Record as RecordValue};
 ghost use Rattle.sm_ownership.specs.Rules.{executor, forward_to};
 ghost use Rattle.sm_handle.specs.Acts.{EndsHandle, IsOpened, IsPassOf, TellsWord};
 ghost use Rattle.sm_ranges.specs.ServerId.{IsServer};
+ghost use Rattle.sm_ranges.specs.declared.limits.TheConstants.{MAX_SERVER};
 ghost use Rattle.sm_word.specs.Word.{IsWellFormed, word_of};
 ghost use Rattle.sm_c.specs.Calls.{AdmitsFrom, ChangesBoard, LooksAt, RefusesChange, RefusesFrom, RefusesRestart};
 ghost use Rattle.sm_c.specs.Calls.{RefusesByWord, Restarts};
-ghost use Rattle.sm_c.specs.Words.{AcceptsWord, AdmitsWord, ArePartsOf, ChangesWord, EndsWord, PacksParts};
+ghost use Rattle.sm_c.specs.Words.{AcceptsWord, AdmitsWord, ArePartsOf, ChangesWord, EndsWord, ForbidsChange, HasNoEnd};
+ghost use Rattle.sm_c.specs.Words.{IsNoServer, IsNoWord, PacksParts, RefusesWord};
 
 mod codes;
 mod kinds;
@@ -33,7 +35,7 @@ use codes::{
     BAD_ARGUMENT, BAD_WORD, NOT_ADMITTED, UNKNOWN_SHARD, code_of_act, code_of_open, code_of_pass,
     code_of_word,
 };
-use kinds::{change_of, mode_of, step_of};
+use kinds::{change_of, known_server, mode_of, step_of};
 use read::{read_of, tell, tell_parts, tell_word};
 pub use record_parts::RecordParts;
 use record_parts::number;
@@ -55,6 +57,7 @@ pub extern "C" fn durkenzo_changed(
     next: &mut u64,
 ) -> u32
     ensures made { result ≡ 0 → ChangesWord word kind server ceiling next.new }
+    ensures refused { result ≢ 0 → ForbidsChange word kind server ceiling }
     ensures kept { result ≢ 0 → next.new ≡ next.old }
 {
     let Some(change) = change_of(kind, server) else {
@@ -79,9 +82,13 @@ pub extern "C" fn durkenzo_admitted(
     next: &mut u64,
 ) -> u32
     ensures made { result ≡ 0 → AdmitsWord word server from ceiling next.new }
+    ensures refused { result ≢ 0 → RefusesWord word server from ceiling }
     ensures kept { result ≢ 0 → next.new ≡ next.old }
 {
-    let (Some(server), Some(mode)) = (ServerId::new(server), mode_of(from)) else {
+    let Some(server) = known_server(server) else {
+        return BAD_ARGUMENT;
+    };
+    let Some(mode) = mode_of(from) else {
         return BAD_ARGUMENT;
     };
     match admitted_word(word, server, mode, ceiling) {
@@ -97,6 +104,7 @@ pub extern "C" fn durkenzo_admitted(
 #[unsafe(no_mangle)]
 pub extern "C" fn durkenzo_ended(word: u64, next: &mut u64) -> u32
     ensures made { result ≡ 0 → EndsWord word next.new }
+    ensures refused { result ≢ 0 → IsNoWord word ⊎ HasNoEnd word }
     ensures kept { result ≢ 0 → next.new ≡ next.old }
 {
     match ended_word(word) {
@@ -113,6 +121,7 @@ pub extern "C" fn durkenzo_ended(word: u64, next: &mut u64) -> u32
 pub extern "C" fn durkenzo_unpack(word: u64, parts: &mut RecordParts) -> u32
     ensures made { result ≡ 0
         → (state : RecordValue) × IsWellFormed state × (word_of state ≡ word) × ArePartsOf parts.new state }
+    ensures refused { result ≢ 0 → IsNoWord word }
     ensures kept { result ≢ 0 → parts.new ≡ parts.old }
 {
     match unpack(word) {
@@ -143,9 +152,13 @@ pub extern "C" fn durkenzo_pack(parts: &RecordParts, word: &mut u64) -> u32
 #[unsafe(no_mangle)]
 pub extern "C" fn durkenzo_accepts(word: u64, server: u16, from: u16, accepted: &mut bool) -> u32
     ensures made { result ≡ 0 → AcceptsWord word server from accepted.new }
+    ensures refused { result ≢ 0 → IsNoServer server ⊎ (MAX_SERVER < from) ⊎ IsNoWord word }
     ensures kept { result ≢ 0 → accepted.new ≡ accepted.old }
 {
-    let (Some(server), Some(mode)) = (ServerId::new(server), mode_of(from)) else {
+    let Some(server) = known_server(server) else {
+        return BAD_ARGUMENT;
+    };
+    let Some(mode) = mode_of(from) else {
         return BAD_ARGUMENT;
     };
     let Some(state) = unpack(word) else {

@@ -1,7 +1,7 @@
 //! Steps from word to word.
-ghost use Rattle.std.specs.Prelude.{◌≡◌, ◌≢◌, IfOk, IfSome, None};
+ghost use Rattle.std.specs.Prelude.{◌≡◌, ◌≢◌, ◌⊎◌, IfErr, IfNone, IfOk, IfSome, None};
 ghost use Rattle.sm_word.specs.Known.{NewlyNamesServer};
-ghost use Rattle.sm_c.specs.Words.{AdmitsBy, ChangesBy, EndsWord, PacksParts};
+ghost use Rattle.sm_c.specs.Words.{AdmitsBy, ChangesBy, EndsWord, ForbidsBy, HasNoEnd, IsNoWord, PacksParts, RefusesBy};
 
 use crate::record_parts::RecordParts;
 use crate::word_fault::WordFault;
@@ -26,7 +26,8 @@ fn names_servers(change: &Change)
 
 /// The word after the change, or why there is none.
 pub(crate) fn changed_word(word: u64, change: Change, ceiling: u64) -> Result<u64, WordFault>
-    ensures { IfOk result (ChangesBy word ceiling change) }
+    ensures next { IfOk result (ChangesBy word ceiling change) }
+    ensures refused { IfErr result (λ fault. ForbidsBy word ceiling change) }
 {
     if ceiling > MAX_GENERATION {
         return Err(WordFault::BadCeiling);
@@ -48,8 +49,12 @@ pub(crate) fn admitted_word(
     mode: Mode,
     ceiling: u64,
 ) -> Result<u64, WordFault>
-    ensures { IfOk result (AdmitsBy word ceiling server mode) }
+    ensures next { IfOk result (AdmitsBy word ceiling server mode) }
+    ensures refused { IfErr result (λ fault. RefusesBy word ceiling server mode) }
 {
+    if MAX_GENERATION < ceiling {
+        return Err(WordFault::BadCeiling);
+    }
     let Some(state) = unpack(word) else {
         return Err(WordFault::BadWord);
     };
@@ -59,14 +64,18 @@ pub(crate) fn admitted_word(
     }
 }
 
-/// The word after the end of its admission, or none where it has none.
+/// The word after the end of its admission, or none where it has none that can end.
 pub(crate) fn ended_word(word: u64) -> Option<u64>
-    ensures { IfSome result (EndsWord word) }
+    ensures next { IfSome result (EndsWord word) }
+    ensures none { IfNone result (IsNoWord word ⊎ HasNoEnd word) }
 {
-    match unpack(word) {
-        Some(state) if state.admitted => Some(done_word(word)),
-        _ => None,
+    let Some(state) = unpack(word) else {
+        return None;
+    };
+    if !state.admitted || state.generation == MAX_GENERATION {
+        return None;
     }
+    Some(done_word(word))
 }
 
 /// The word of the record with these parts, or none where there is no such record.

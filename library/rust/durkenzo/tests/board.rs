@@ -177,6 +177,35 @@ fn words_are_records() {
 }
 
 #[test]
+fn words_end_at_the_greatest_generation() {
+    let at = |generation, admitted| {
+        let stand = Stand::Serving(1);
+        let record = Record {
+            stand,
+            admitted,
+            generation,
+        };
+        word::of(&record).unwrap()
+    };
+    let admit = |word, ceiling| word::admitted(word, 1, Mode::Direct, ceiling);
+    let (last, greatest) = (MAX_GENERATION - 1, MAX_GENERATION);
+    for generation in [1, last - 1, last, greatest] {
+        for ceiling in [greatest + 1, u64::MAX] {
+            let idle = at(generation, false);
+            assert_eq!(admit(idle, ceiling), Err(WordFault::BadCeiling));
+        }
+    }
+    let admitted = admit(at(last - 1, false), greatest).unwrap();
+    assert_eq!(word::ended(admitted), Some(at(greatest, false)));
+    assert!(matches!(
+        admit(at(last, false), greatest),
+        Err(WordFault::Refused(AdmitFault::Spent(_)))
+    ));
+    assert_eq!(word::ended(at(last, true)), Some(at(greatest, false)));
+    assert_eq!(word::ended(at(greatest, true)), None);
+}
+
+#[test]
 fn a_migration_step_by_step() {
     let board = board(2);
     let control = board.control();
