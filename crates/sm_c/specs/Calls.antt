@@ -1,5 +1,6 @@
 -- What calls on handles say.
-use Rattle.std.specs.Prelude.{ℕ, ◌≡◌, ◌⊎◌, Option, Ok, Err}
+use Rattle.std.specs.Prelude.{ℕ, ◌≡◌, ◌<◌, ◌⊎◌, Option, Ok, Err}
+use Rattle.sm_ranges.specs.declared.limits.TheConstants.{MAX_SERVER, MAX_SHARD}
 use Rattle.sm_ownership.specs.declared.change.Change.{Change}
 use Rattle.sm_ownership.specs.declared.mode.Mode.{Mode}
 use Rattle.sm_ownership.specs.declared.record.Record.{Record}
@@ -11,7 +12,7 @@ use Rattle.sm_word.specs.Word.{server_of}
 use Rattle.sm_handle.specs.declared.act_fault.ActFault.{ActFault}
 use Rattle.sm_handle.specs.declared.handle_state.HandleState.{HandleState}
 use Rattle.sm_c.specs.Reading.{TellsAdmission, TellsRecord, act_read}
-use Rattle.sm_c.specs.Words.{ArePartsOf, CameFrom, IsOfKind}
+use Rattle.sm_c.specs.Words.{ArePartsOf, CameFrom, IsNoChange, IsNoServer, IsOfKind}
 use Rattle.sm_c.specs.declared.record_parts.RecordParts.{RecordParts}
 
 -- a step of a server's restart has this kind
@@ -23,23 +24,28 @@ IsStep kind server (Back named) = (kind ≡ 4) × (server ≡ named)
 IsStep kind server (Fail named) = (kind ≡ 5) × (server ≡ named)
 IsStep kind server (ChangeOf shard change) = ⊥
 
+-- no step has this kind, or the number is no server's
+abbrev pub IsNoStep : ℕ → ℕ → Type 0
+IsNoStep kind server = IsNoServer server ⊎ (kind ≡ 0) ⊎ (5 < kind)
+
 -- the pass is admitted to the shard for a request that came so, and the number is that of the shard's body
 abbrev pub AdmitsFrom : Option HandleState → Option HandleState → ℕ → ℕ → ℕ → Type 0
 AdmitsFrom before after shard from number =
     (mode : Mode) × CameFrom from mode × AdmitsHandle before after shard mode number
 
--- nothing was done, or the pass has looked and isn't admitted, and the parts are those of the record that was read
+-- no shard or no server has the number, and nothing was done; or the pass has looked and isn't admitted, and the parts
+-- are those of the record that was read
 abbrev pub RefusesFrom :
     Option HandleState → Option HandleState → ℕ → ℕ → RecordParts → RecordParts → Type 0
 RefusesFrom before after shard from unread read =
-    ((after ≡ before) × (read ≡ unread))
+    ((after ≡ before) × (read ≡ unread) × ((MAX_SHARD < shard) ⊎ (MAX_SERVER < from)))
     ⊎ ((mode : Mode) × (fault : ActFault) × CameFrom from mode × RefusesHandle before after shard mode fault
     × TellsRecord (act_read fault) unread read)
 
 -- the same, and the word is that of the record that was read
 abbrev pub RefusesByWord : Option HandleState → Option HandleState → ℕ → ℕ → ℕ → ℕ → Type 0
 RefusesByWord before after shard from unread read =
-    ((after ≡ before) × (read ≡ unread))
+    ((after ≡ before) × (read ≡ unread) × ((MAX_SHARD < shard) ⊎ (MAX_SERVER < from)))
     ⊎ ((mode : Mode) × (fault : ActFault) × CameFrom from mode × RefusesHandle before after shard mode fault
     × TellsAdmission fault unread read)
 
@@ -52,12 +58,12 @@ abbrev pub ChangesBoard : Option HandleState → Option HandleState → ℕ → 
 ChangesBoard before after shard kind server =
     (change : Change) × IsOfKind kind server change × CommandsHandle before after (ChangeOf shard change) (Ok tt)
 
--- nothing was done, or the control refused a change of this kind and server, its desk is as it was, and the parts are
--- those of the record that was read
+-- there is no such shard or change, and nothing was done; or the control refused a change of this kind and server, its
+-- desk is as it was, and the parts are those of the record that was read
 abbrev pub RefusesChange :
     Option HandleState → Option HandleState → ℕ → ℕ → ℕ → RecordParts → RecordParts → Type 0
 RefusesChange before after shard kind server unread read =
-    ((after ≡ before) × (read ≡ unread))
+    ((after ≡ before) × (read ≡ unread) × ((MAX_SHARD < shard) ⊎ IsNoChange kind server))
     ⊎ ((change : Change) × (fault : ActFault) × IsOfKind kind server change
     × CommandsHandle before after (ChangeOf shard change) (Err fault) × TellsRecord (act_read fault) unread read)
 
@@ -66,10 +72,10 @@ abbrev pub Restarts : Option HandleState → Option HandleState → ℕ → ℕ 
 Restarts before after kind server =
     (step : Command) × IsStep kind server step × CommandsHandle before after step (Ok tt)
 
--- nothing was done, or the control refused a step of this kind
+-- there is no such step, and nothing was done; or the control refused one of this kind
 abbrev pub RefusesRestart : Option HandleState → Option HandleState → ℕ → ℕ → Type 0
 RefusesRestart before after kind server =
-    (after ≡ before)
+    ((after ≡ before) × IsNoStep kind server)
     ⊎ ((step : Command) × (fault : ActFault) × IsStep kind server step × CommandsHandle before after step (Err fault))
 
 -- the plan of the control for the shards that this server serves, or for 0 for the vacant ones

@@ -1,7 +1,7 @@
 //! What numbers of C stand for.
 ghost use Rattle.std.specs.Prelude.{◌≡◌, ◌<◌, IfNone, IfSome};
 ghost use Rattle.sm_c.specs.Words.{CameFrom, IsNoChange, IsNoServer, IsOfKind};
-ghost use Rattle.sm_c.specs.Calls.{IsStep};
+ghost use Rattle.sm_c.specs.Calls.{IsNoStep, IsStep};
 
 use sm_desk::Command;
 use sm_ownership::change::Change;
@@ -52,7 +52,8 @@ pub(crate) fn mode_of(from: u16) -> Option<Mode>
 
 /// The step of this kind of a server's restart.
 pub(crate) fn step_of(kind: u8, server: u16) -> Option<Command>
-    ensures { IfSome result (IsStep kind server) }
+    ensures step { IfSome result (IsStep kind server) }
+    ensures none { IfNone result (IsNoStep kind server) }
 {
     let server = known_server(server)?;
     match kind {

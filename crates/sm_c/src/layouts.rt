@@ -1,6 +1,7 @@
 //! Layouts.
-ghost use Rattle.std.specs.Prelude.{◌≡◌, ◌≢◌};
-ghost use Rattle.sm_handle.specs.Layouts.{IsLayoutOf, IsShardOf, WritesBound};
+ghost use Rattle.std.specs.Prelude.{◌≡◌, ◌≢◌, ◌<◌, ◌⊎◌};
+ghost use Rattle.sm_ranges.specs.declared.limits.TheConstants.{MAX_SHARD};
+ghost use Rattle.sm_handle.specs.Layouts.{HasNoBound, IsLayoutOf, IsShardOf, KeepsNoLayout, WritesBound};
 
 use crate::codes::{UNKNOWN_SHARD, code_of_act, code_of_cut};
 use sm_handle::{Handle, TextPart};
@@ -28,6 +29,7 @@ pub extern "C" fn durkenzo_layout(
 #[unsafe(no_mangle)]
 pub extern "C" fn durkenzo_shard_of(layout: &mut Handle, key: &[u8], shard: &mut u16) -> u32
     ensures found { result ≡ 0 → IsShardOf layout.old.owned.state key.now shard.new }
+    ensures refused { result ≢ 0 → KeepsNoLayout layout.old.owned.state }
     ensures unwritten { result ≢ 0 → shard.new ≡ shard.old }
     ensures unchanged { layout.new.owned.state ≡ layout.old.owned.state }
 {
@@ -49,6 +51,7 @@ pub extern "C" fn durkenzo_bound(
     length: &mut usize,
 ) -> u32
     ensures written { result ≡ 0 → WritesBound layout.old.owned.state shard into.new length.new }
+    ensures refused { result ≢ 0 → (MAX_SHARD < shard) ⊎ HasNoBound layout.old.owned.state shard into.old }
     ensures unwritten { result ≢ 0 → into.new ≡ into.old }
     ensures no_length { result ≢ 0 → length.new ≡ length.old }
     ensures unchanged { layout.new.owned.state ≡ layout.old.owned.state }

@@ -6,9 +6,9 @@
 ghost use Rattle.std.specs.Prelude.{◌≡◌, ◌≢◌, ◌<◌, ◌⊎◌, Some, None, unwrap_or};
 ghost use Rattle.sm_ownership.specs.declared.record.Record.{Record as RecordValue};
 ghost use Rattle.sm_ownership.specs.Rules.{executor, forward_to};
-ghost use Rattle.sm_handle.specs.Acts.{EndsHandle, IsOpened, IsPassOf, TellsWord};
+ghost use Rattle.sm_handle.specs.Acts.{EndsHandle, HoldsNothing, IsOpened, IsPassOf, LooksNowhere, TellsWord};
 ghost use Rattle.sm_ranges.specs.ServerId.{IsServer};
-ghost use Rattle.sm_ranges.specs.declared.limits.TheConstants.{MAX_SERVER};
+ghost use Rattle.sm_ranges.specs.declared.limits.TheConstants.{MAX_SERVER, MAX_SHARD};
 ghost use Rattle.sm_word.specs.Word.{IsWellFormed, word_of};
 ghost use Rattle.sm_c.specs.Calls.{AdmitsFrom, ChangesBoard, LooksAt, RefusesChange, RefusesFrom, RefusesRestart};
 ghost use Rattle.sm_c.specs.Calls.{RefusesByWord, Restarts};
@@ -238,6 +238,7 @@ pub extern "C" fn durkenzo_pass(
 #[unsafe(no_mangle)]
 pub extern "C" fn durkenzo_look(pass: &mut Handle, shard: u16, parts: &mut RecordParts) -> u32
     ensures seen { result ≡ 0 → LooksAt pass.old.owned.state pass.new.owned.state shard parts.new }
+    ensures refused { result ≢ 0 → (MAX_SHARD < shard) ⊎ LooksNowhere pass.old.owned.state shard }
     ensures kept { result ≢ 0 → pass.new.owned.state ≡ pass.old.owned.state }
     ensures unwritten { result ≢ 0 → parts.new ≡ parts.old }
 {
@@ -261,6 +262,7 @@ const NO_WORD: u64 = 0xffff_ffff_ffff_ffff;
 #[unsafe(no_mangle)]
 pub extern "C" fn durkenzo_look_word(pass: &mut Handle, shard: u16) -> u64
     ensures seen { result ≢ NO_WORD → TellsWord pass.old.owned.state pass.new.owned.state shard result }
+    ensures refused { result ≡ NO_WORD → (MAX_SHARD < shard) ⊎ LooksNowhere pass.old.owned.state shard }
     ensures kept { result ≡ NO_WORD → pass.new.owned.state ≡ pass.old.owned.state }
 {
     let Some(k) = ShardId::new(shard) else {
@@ -344,6 +346,7 @@ pub extern "C" fn durkenzo_admit_word(
 #[unsafe(no_mangle)]
 pub extern "C" fn durkenzo_finish(pass: &mut Handle, generation: &mut u64) -> u32
     ensures ended { result ≡ 0 → EndsHandle pass.old.owned.state pass.new.owned.state generation.new }
+    ensures refused { result ≢ 0 → HoldsNothing pass.old.owned.state }
     ensures kept { result ≢ 0 → pass.new.owned.state ≡ pass.old.owned.state }
     ensures unwritten { result ≢ 0 → generation.new ≡ generation.old }
 {

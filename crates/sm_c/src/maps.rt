@@ -24,6 +24,7 @@ pub extern "C" fn durkenzo_map(alloc: Global, map: &mut Handle) -> u32
 #[unsafe(no_mangle)]
 pub extern "C" fn durkenzo_map_length(map: &mut Handle, length: &mut u64) -> u32
     ensures found { result ≡ 0 → CountsKeys map.old.owned.state length.new }
+    ensures refused { result ≢ 0 → KeepsNoMap map.old.owned.state }
     ensures unwritten { result ≢ 0 → length.new ≡ length.old }
     ensures unchanged { map.new.owned.state ≡ map.old.owned.state }
 {

@@ -1,6 +1,6 @@
 //! What passes tell each other.
 ghost use Rattle.std.specs.Prelude.{◌≡◌, ◌≢◌, None};
-ghost use Rattle.sm_handle.specs.Notes.{AreOfOneBoard, IsSplitFrom, MeetsHandle};
+ghost use Rattle.sm_handle.specs.Notes.{AreOfOneBoard, IsSplitFrom, MeetsHandle, TellsNothing};
 
 use crate::codes::code_of_act;
 use sm_handle::Handle;
@@ -26,6 +26,7 @@ pub extern "C" fn durkenzo_meet(alloc: Global, pass: &mut Handle, other: &mut Ha
     requires { AreOfOneBoard pass.old.owned.state other.old.owned.state }
     ensures met { result ≡ 0 → MeetsHandle pass.old.owned.state other.old.owned.state pass.new.owned.state }
     ensures gone { result ≡ 0 → other.new.owned.state ≡ None }
+    ensures refused { result ≢ 0 → TellsNothing pass.old.owned.state other.old.owned.state }
     ensures kept { result ≢ 0 → pass.new.owned.state ≡ pass.old.owned.state }
     ensures back { result ≢ 0 → other.new.owned.state ≡ other.old.owned.state }
 {

@@ -1,6 +1,6 @@
 //! Plans.
 ghost use Rattle.std.specs.Prelude.{◌≡◌, ◌≢◌};
-ghost use Rattle.sm_handle.specs.Plans.{IsLeftOut};
+ghost use Rattle.sm_handle.specs.Plans.{HasNoMove, HasNotLeft, IsLeftOut};
 ghost use Rattle.sm_c.specs.Calls.{MovesTo, PlansFrom};
 
 use crate::codes::{BAD_ARGUMENT, code_of_act};
@@ -40,6 +40,7 @@ pub extern "C" fn durkenzo_move(
     server: &mut u16,
 ) -> u32
     ensures found { result ≡ 0 → MovesTo plan.old.owned.state at shard.new server.new }
+    ensures refused { result ≢ 0 → HasNoMove plan.old.owned.state at }
     ensures unwritten { result ≢ 0 → (shard.new ≡ shard.old) × (server.new ≡ server.old) }
     ensures unchanged { plan.new.owned.state ≡ plan.old.owned.state }
 {
@@ -57,6 +58,7 @@ pub extern "C" fn durkenzo_move(
 #[unsafe(no_mangle)]
 pub extern "C" fn durkenzo_left(plan: &mut Handle, at: usize, shard: &mut u16) -> u32
     ensures found { result ≡ 0 → IsLeftOut plan.old.owned.state at shard.new }
+    ensures refused { result ≢ 0 → HasNotLeft plan.old.owned.state at }
     ensures unwritten { result ≢ 0 → shard.new ≡ shard.old }
     ensures unchanged { plan.new.owned.state ≡ plan.old.owned.state }
 {

@@ -1,6 +1,7 @@
 //! Replies of the sample service.
 ghost use Rattle.std.specs.Prelude.{◌≡◌, ◌≢◌, IsErr};
-ghost use Rattle.sm_handle.specs.Maps.{PairHeld, WritesHeldText, WritesKey, WritesText};
+ghost use Rattle.sm_handle.specs.Maps.{HasNoKeyAt, HasNoPair, HasNoText, HasNoTextAt, PairHeld, WritesHeldText};
+ghost use Rattle.sm_handle.specs.Maps.{WritesKey, WritesText, reply_kept};
 
 use crate::codes::code_of_act;
 use sm_handle::{ActFault, Handle, ReplyParts};
@@ -13,6 +14,7 @@ pub extern "C" fn durkenzo_reply_text(
     length: &mut usize,
 ) -> u32
     ensures written { result ≡ 0 → WritesText reply.old.owned.state into.new length.new }
+    ensures refused { result ≢ 0 → HasNoText (reply_kept reply.old.owned.state) into.old }
     ensures unwritten { result ≢ 0 → into.new ≡ into.old }
     ensures no_length { result ≢ 0 → length.new ≡ length.old }
     ensures unchanged { reply.new.owned.state ≡ reply.old.owned.state }
@@ -25,6 +27,7 @@ pub extern "C" fn durkenzo_reply_text(
 #[unsafe(no_mangle)]
 pub extern "C" fn durkenzo_pair(reply: &mut Handle, at: usize, parts: &mut ReplyParts) -> u32
     ensures found { result ≡ 0 → PairHeld reply.old.owned.state at parts.new }
+    ensures refused { result ≢ 0 → HasNoPair (reply_kept reply.old.owned.state) at }
     ensures unwritten { result ≢ 0 → parts.new ≡ parts.old }
     ensures unchanged { reply.new.owned.state ≡ reply.old.owned.state }
 {
@@ -46,6 +49,7 @@ pub extern "C" fn durkenzo_pair_key(
     length: &mut usize,
 ) -> u32
     ensures written { result ≡ 0 → WritesKey reply.old.owned.state at into.new length.new }
+    ensures refused { result ≢ 0 → HasNoKeyAt reply.old.owned.state at into.old }
     ensures unwritten { result ≢ 0 → into.new ≡ into.old }
     ensures no_length { result ≢ 0 → length.new ≡ length.old }
     ensures unchanged { reply.new.owned.state ≡ reply.old.owned.state }
@@ -63,6 +67,7 @@ pub extern "C" fn durkenzo_pair_text(
     length: &mut usize,
 ) -> u32
     ensures written { result ≡ 0 → WritesHeldText reply.old.owned.state at into.new length.new }
+    ensures refused { result ≢ 0 → HasNoTextAt reply.old.owned.state at into.old }
     ensures unwritten { result ≢ 0 → into.new ≡ into.old }
     ensures no_length { result ≢ 0 → length.new ≡ length.old }
     ensures unchanged { reply.new.owned.state ≡ reply.old.owned.state }

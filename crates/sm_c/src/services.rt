@@ -1,7 +1,8 @@
 //! Boards of the sample service.
 ghost use Rattle.std.specs.Prelude.{◌≡◌, ◌≢◌};
 ghost use Rattle.sm_handle.specs.Maps.{Replied};
-ghost use Rattle.sm_handle.specs.Serving.{IsOfBoard, IsServiceOpened, MakesCheckpoint, Serves, TellsAnswer};
+ghost use Rattle.sm_handle.specs.Serving.{IsOfBoard, IsServiceOpened, KeepsNoAnswer, KeepsNoEnvelope, MakesCheckpoint};
+ghost use Rattle.sm_handle.specs.Serving.{Serves, TellsAnswer};
 ghost use Rattle.sm_handle.specs.declared.served_as.ServedAs.TheVariants.{Answered, Forward, Refused};
 ghost use Rattle.sm_server.specs.declared.refusal.Refusal.{Refusal as RefusalValue};
 ghost use Rattle.sm_c.specs.Reading.{TellsRecord, refusal_read};
@@ -104,6 +105,7 @@ pub extern "C" fn durkenzo_serve(
 #[unsafe(no_mangle)]
 pub extern "C" fn durkenzo_sent(envelope: &mut Handle, parts: &mut SentParts) -> u32
     ensures found { result ≡ 0 → TellsSent envelope.old.owned.state parts.new }
+    ensures refused { result ≢ 0 → KeepsNoEnvelope envelope.old.owned.state }
     ensures unwritten { result ≢ 0 → parts.new ≡ parts.old }
     ensures unchanged { envelope.new.owned.state ≡ envelope.old.owned.state }
 {
@@ -125,6 +127,7 @@ pub extern "C" fn durkenzo_answer(
 ) -> u32
     ensures found { result ≡ 0
         → TellsAnswer answer.old.owned.state parts.new × Replied answer.old.owned.state reply.new }
+    ensures refused { result ≢ 0 → KeepsNoAnswer answer.old.owned.state }
     ensures unwritten { result ≢ 0 → (parts.new ≡ parts.old) × (reply.new ≡ reply.old) }
     ensures unchanged { answer.new.owned.state ≡ answer.old.owned.state }
 {
