@@ -5,10 +5,10 @@ use std::alloc::Allocator;
 use std::marker::Model;
 
 /// What a box is made of, and what it owns.
-pub(crate) struct BoxParts<T, A: Allocator> {
-    pub(crate) ptr: *mut T,
-    pub(crate) alloc: A,
-    pub(crate) ghost value: { T },
+pub struct BoxParts<T, A: Allocator> {
+    pub ptr: *mut T,
+    pub alloc: A,
+    pub ghost value: { T },
 }
 
 impl<T, A: Allocator> Model for BoxParts<T, A> {
@@ -17,7 +17,7 @@ impl<T, A: Allocator> Model for BoxParts<T, A> {
 
 impl<T, A: Allocator> BoxParts<T, A> {
     /// Takes a box apart.
-    pub(crate) fn of(b: Box<T, A>) -> BoxParts<T, A>
+    pub fn of(b: Box<T, A>) -> BoxParts<T, A>
     where
         T: Drop,
         ensures { result.value ≡ b.value }
@@ -27,7 +27,7 @@ impl<T, A: Allocator> BoxParts<T, A> {
     }
 
     /// Makes the box again.
-    pub(crate) fn into_box(self) -> Box<T, A>
+    pub fn into_box(self) -> Box<T, A>
         ensures { result.value ≡ self.value }
     {
         let BoxParts { ptr, alloc } = self;
