@@ -2,4 +2,3 @@ pub mod Calls
 pub mod Directors
 pub mod Kinds
 pub mod Lending
-pub mod Owns

@@ -2,7 +2,7 @@ ghost use Rattle.std.specs.Prelude.{◌≡◌, Some, None, OnErr, OnOk, is_some,
 
 use crate::director::Director;
 use crate::owned_director::OwnedDirector;
-use crate::unboxed_parts::UnboxedParts;
+use sm_kept::BoxParts;
 use std::alloc::{AllocError, Global};
 
 /// What a caller in C keeps, 16 bytes. It begins as bytes of 0, isn't copied, and is used by one call at a time.
@@ -46,7 +46,7 @@ impl DirectorHandle {
     {
         *self = DirectorHandle {
             full: true,
-            owned: OwnedDirector::of_parts(UnboxedParts::of(state)),
+            owned: OwnedDirector::of_parts(BoxParts::of(state)),
         };
     }
 

@@ -27,7 +27,6 @@ mod kinds;
 mod owned_director;
 mod spelling;
 pub mod step_parts;
-mod unboxed_parts;
 mod words;
 mod written;
 

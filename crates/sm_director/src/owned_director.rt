@@ -1,9 +1,11 @@
 ghost use Rattle.std.specs.Prelude.{◌≡◌, Some, None, Option, is_some, true};
+ghost use Rattle.std.specs.Coded.{coded_option};
 ghost use Rattle.sm_director.specs.declared.director.Director.{Director as StateValue};
-ghost use Rattle.sm_director.specs.Owns.{director_owns, director_coded};
+ghost use Rattle.sm_director.specs.contracts.director.Director.{the_row as state_row};
+ghost use Rattle.sm_kept.specs.Owns.{state_owns};
 
 use crate::director::Director;
-use crate::unboxed_parts::UnboxedParts;
+use sm_kept::BoxParts;
 use std::alloc::Global;
 use std::marker::Model;
 
@@ -13,11 +15,11 @@ use std::marker::Model;
 pub struct OwnedDirector {
     ptr: *mut u8,
     alloc: Global,
-    pub ghost state: { Option StateValue } by { director_coded },
+    pub ghost state: { Option StateValue } by { coded_option state_row.coded },
 }
 
 impl Model for OwnedDirector {
-    ghost also_owns = { λ h. director_owns h.alloc h.ptr h.state };
+    ghost also_owns = { λ h. state_owns state_row h.alloc h.ptr h.state };
 }
 
 impl OwnedDirector {
@@ -32,10 +34,10 @@ impl OwnedDirector {
     }
 
     /// What owns the state of a box.
-    pub(crate) fn of_parts(parts: UnboxedParts<Director, Global>) -> OwnedDirector
+    pub(crate) fn of_parts(parts: BoxParts<Director, Global>) -> OwnedDirector
         ensures { result.state ≡ Some parts.value }
     {
-        let UnboxedParts { ptr, alloc } = parts;
+        let BoxParts { ptr, alloc } = parts;
         OwnedDirector {
             ptr: ptr as *mut u8,
             alloc,
@@ -43,12 +45,12 @@ impl OwnedDirector {
     }
 
     /// The box of the state that is owned.
-    pub(crate) fn into_parts(self) -> UnboxedParts<Director, Global>
+    pub(crate) fn into_parts(self) -> BoxParts<Director, Global>
         requires { is_some self.state ≡ true }
         ensures { self.state ≡ Some result.value }
     {
         let OwnedDirector { ptr, alloc } = self;
-        UnboxedParts {
+        BoxParts {
             ptr: ptr as *mut Director,
             alloc,
         }

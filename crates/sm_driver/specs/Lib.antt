@@ -1,4 +1,3 @@
 pub mod Calls
 pub mod Lending
-pub mod Owns
 pub mod Servers

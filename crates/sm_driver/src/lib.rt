@@ -16,7 +16,6 @@ ghost use Rattle.sm_driver.specs.Calls.{MakesOn, TellsRead, WritesPart, WritesSe
 ghost use Rattle.sm_driver.specs.Servers.{AddsBatch, AddsPart, IsAny, IsNewServer, IsReading, IsRecordReading};
 ghost use Rattle.sm_driver.specs.Servers.{TellsAnswers, is_basing, is_clearing, is_sending, passing_key};
 
-mod boxed_parts;
 mod codes;
 mod driver_fault;
 pub mod log_head;

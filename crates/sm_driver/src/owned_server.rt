@@ -1,9 +1,11 @@
 ghost use Rattle.std.specs.Prelude.{◌≡◌, Some, None, Option, is_some, true};
+ghost use Rattle.std.specs.Coded.{coded_option};
 ghost use Rattle.sm_driver.specs.declared.text_server.TextServer.{TextServer as StateValue};
-ghost use Rattle.sm_driver.specs.Owns.{server_owns, server_coded};
+ghost use Rattle.sm_driver.specs.contracts.text_server.TextServer.{the_row as state_row};
+ghost use Rattle.sm_kept.specs.Owns.{state_owns};
 
-use crate::boxed_parts::BoxedParts;
 use crate::text_server::TextServer;
+use sm_kept::BoxParts;
 use std::alloc::Global;
 use std::marker::Model;
 
@@ -13,11 +15,11 @@ use std::marker::Model;
 pub struct OwnedServer {
     ptr: *mut u8,
     alloc: Global,
-    pub ghost state: { Option StateValue } by { server_coded },
+    pub ghost state: { Option StateValue } by { coded_option state_row.coded },
 }
 
 impl Model for OwnedServer {
-    ghost also_owns = { λ h. server_owns h.alloc h.ptr h.state };
+    ghost also_owns = { λ h. state_owns state_row h.alloc h.ptr h.state };
 }
 
 impl OwnedServer {
@@ -32,10 +34,10 @@ impl OwnedServer {
     }
 
     /// What owns the state of a box.
-    pub(crate) fn of_parts(parts: BoxedParts<TextServer, Global>) -> OwnedServer
+    pub(crate) fn of_parts(parts: BoxParts<TextServer, Global>) -> OwnedServer
         ensures { result.state ≡ Some parts.value }
     {
-        let BoxedParts { ptr, alloc } = parts;
+        let BoxParts { ptr, alloc } = parts;
         OwnedServer {
             ptr: ptr as *mut u8,
             alloc,
@@ -43,12 +45,12 @@ impl OwnedServer {
     }
 
     /// The box of the state that is owned.
-    pub(crate) fn into_parts(self) -> BoxedParts<TextServer, Global>
+    pub(crate) fn into_parts(self) -> BoxParts<TextServer, Global>
         requires { is_some self.state ≡ true }
         ensures { self.state ≡ Some result.value }
     {
         let OwnedServer { ptr, alloc } = self;
-        BoxedParts {
+        BoxParts {
             ptr: ptr as *mut TextServer,
             alloc,
         }

@@ -1,8 +1,8 @@
 ghost use Rattle.std.specs.Prelude.{◌≡◌, Some, None, OnErr, OnOk, is_some, true};
 
-use crate::boxed_parts::BoxedParts;
 use crate::owned_server::OwnedServer;
 use crate::text_server::TextServer;
+use sm_kept::BoxParts;
 use std::alloc::{AllocError, Global};
 
 /// What a caller in C keeps, 16 bytes. It begins as bytes of 0, isn't copied, and is used by one call at a time.
@@ -46,7 +46,7 @@ impl ServerHandle {
     {
         *self = ServerHandle {
             full: true,
-            owned: OwnedServer::of_parts(BoxedParts::of(state)),
+            owned: OwnedServer::of_parts(BoxParts::of(state)),
         };
     }
 

@@ -4,6 +4,5 @@ pub mod Lending
 pub mod Maps
 pub mod Notes
 pub mod Opening
-pub mod Owns
 pub mod Plans
 pub mod Serving

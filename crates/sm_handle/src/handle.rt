@@ -1,8 +1,8 @@
 ghost use Rattle.std.specs.Prelude.{◌≡◌, Some, None, OnErr, OnOk, is_some, true};
 
-use crate::box_parts::BoxParts;
 use crate::handle_state::HandleState;
 use crate::owned::Owned;
+use sm_kept::BoxParts;
 use std::alloc::{AllocError, Global};
 
 /// What a caller in C keeps, 16 bytes. It begins as bytes of 0, isn't copied, and is used by one call at a time.

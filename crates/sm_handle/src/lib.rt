@@ -12,7 +12,6 @@
 pub mod act_fault;
 pub mod acts;
 pub mod answer_parts;
-mod box_parts;
 mod calls;
 pub mod cut_fault;
 pub mod handle;

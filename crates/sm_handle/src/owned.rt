@@ -1,9 +1,11 @@
 ghost use Rattle.std.specs.Prelude.{◌≡◌, Some, None, Option, is_some, true};
+ghost use Rattle.std.specs.Coded.{coded_option};
 ghost use Rattle.sm_handle.specs.declared.handle_state.HandleState.{HandleState as StateValue};
-ghost use Rattle.sm_handle.specs.Owns.{handle_owns, state_coded};
+ghost use Rattle.sm_handle.specs.contracts.handle_state.HandleState.{the_row as state_row};
+ghost use Rattle.sm_kept.specs.Owns.{state_owns};
 
-use crate::box_parts::BoxParts;
 use crate::handle_state::HandleState;
+use sm_kept::BoxParts;
 use std::alloc::Global;
 use std::marker::Model;
 
@@ -13,11 +15,11 @@ use std::marker::Model;
 pub struct Owned {
     ptr: *mut u8,
     alloc: Global,
-    pub ghost state: { Option StateValue } by { state_coded },
+    pub ghost state: { Option StateValue } by { coded_option state_row.coded },
 }
 
 impl Model for Owned {
-    ghost also_owns = { λ h. handle_owns h.alloc h.ptr h.state };
+    ghost also_owns = { λ h. state_owns state_row h.alloc h.ptr h.state };
 }
 
 impl Owned {

@@ -5,32 +5,32 @@ use std::alloc::Allocator;
 use std::marker::Model;
 
 /// What a box is made of, and what it owns.
-pub(crate) struct UnboxedParts<T, A: Allocator> {
-    pub(crate) ptr: *mut T,
-    pub(crate) alloc: A,
-    pub(crate) ghost value: { T },
+pub struct BoxParts<T, A: Allocator> {
+    pub ptr: *mut T,
+    pub alloc: A,
+    pub ghost value: { T },
 }
 
-impl<T, A: Allocator> Model for UnboxedParts<T, A> {
+impl<T, A: Allocator> Model for BoxParts<T, A> {
     ghost also_owns = { λ p. box_owns (A.dealloc_token p.alloc) T.row p.ptr p.value };
 }
 
-impl<T, A: Allocator> UnboxedParts<T, A> {
+impl<T, A: Allocator> BoxParts<T, A> {
     /// Takes a box apart.
-    pub(crate) fn of(b: Box<T, A>) -> UnboxedParts<T, A>
+    pub fn of(b: Box<T, A>) -> BoxParts<T, A>
     where
         T: Drop,
         ensures { result.value ≡ b.value }
     {
         let (ptr, alloc) = Box::into_raw_with_allocator(b);
-        UnboxedParts { ptr, alloc }
+        BoxParts { ptr, alloc }
     }
 
     /// Makes the box again.
-    pub(crate) fn into_box(self) -> Box<T, A>
+    pub fn into_box(self) -> Box<T, A>
         ensures { result.value ≡ self.value }
     {
-        let UnboxedParts { ptr, alloc } = self;
+        let BoxParts { ptr, alloc } = self;
         unsafe { Box::from_raw(alloc, ptr) }
     }
 }

@@ -1,0 +1,5 @@
+pub mod Owner
+pub mod OwnerEmpty
+pub mod OwnerIntoParts
+pub mod OwnerOfParts
+pub mod OwnerStateMut
