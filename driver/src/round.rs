@@ -223,8 +223,8 @@ impl Round {
         self.is_closed || self.asked.len() >= MOST_REQUESTS || self.bytes >= MOST_BYTES
     }
 
-    /// Whether each of its steps only reads. One that decides by what it reads doesn't: where it then writes nothing, no
-    /// later transaction finds that what it read was stale.
+    /// Whether each of its steps only reads. One that decides by what it reads doesn't: where it then writes nothing,
+    /// no later transaction finds that what it read was stale.
     pub(crate) fn only_reads(&self) -> bool {
         self.taken.iter().all(|it| it.step.begin.only_reads())
     }

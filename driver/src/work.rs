@@ -69,8 +69,8 @@ impl Begin {
     }
 }
 
-/// The number that a client gives its work. The same number always has the same requests, and once a greater one is made
-/// the smaller ones are [`NotDone::Passed`].
+/// The number that a client gives its work. The same number always has the same requests, and once a greater one is
+/// made the smaller ones are [`NotDone::Passed`].
 #[derive(Clone, Copy, Debug, PartialEq, Eq, Hash)]
 pub struct Numbered {
     /// The client, from 1 on.

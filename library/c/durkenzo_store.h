@@ -3,8 +3,8 @@
  * them. A program may link it beside the calls of durkenzo.h.
  *
  * Every call answers 0 or a code. Where that is none that the call speaks of, as for want of memory, close the handle
- * and make another server. A handle begins as bytes of 0, isn't copied, and is used by one call at a time. What pointers
- * of one call point to doesn't overlap, but where both are const.
+ * and make another server. A handle begins as bytes of 0, isn't copied, and is used by one call at a time. What
+ * pointers of one call point to doesn't overlap, but where both are const.
  *
  * The loop of a driver, for each shard:
  *  1. Read the shard's record and the head of its log, with their revisions, the parts of the base that the head names,

@@ -1,7 +1,8 @@
 """Packs what is handed to people into out/dist/: an archive, the Rust crate, the Python wheel and a Debian package.
 
 The archive is unpacked anywhere, as into /usr/local: programs, static and shared library, headers, pkg-config, unit,
-manual pages, completions, examples, docs and units of a cluster. The crate links what DURKENZO_LIB names: lib/durkenzo of the archive.
+manual pages, completions, examples, docs and units of a cluster. The crate links what DURKENZO_LIB names:
+lib/durkenzo of the archive.
 
 It packs what was proved. With --unproved it builds all without proof, and says so in each name, in --version, in INFO
 and in the package's description. The same sources, built in the same folder by the same compilers, give the same
