@@ -14,6 +14,8 @@ const TEXT_BYTES: usize = 32;
 const READS: usize = 300_000;
 const SCANS: usize = 10_000;
 const PLACED_BYTES: usize = 64 << 20;
+const GIVEN_BYTES: usize = 64 << 20;
+const KEY: &[u8] = b"account-00000007";
 
 /// What both sides work on: keys in their order, their texts, and the numbers of the keys that come in turn.
 pub struct Rows {
@@ -90,6 +92,19 @@ fn place(round: usize, length: usize) {
     compare(&format!("place of {length} bytes"), round, count, || run(ours::place), || run(theirs::place));
 }
 
+/// Texts are made, and put with their memory.
+fn given(round: usize, length: usize) {
+    let text: Vec<u8> = (0..length).map(|at| at as u8).collect();
+    let count = GIVEN_BYTES / length;
+    let run = |side: fn(&[u8], &[u8], usize) -> u64| {
+        let start = Instant::now();
+        let answer = side(KEY, black_box(&text), count);
+        (start.elapsed().as_nanos() as f64, answer)
+    };
+    let name = format!("a text of {length} bytes made, and put with its memory");
+    compare(&name, round, count, || run(ours::given), || run(theirs::given));
+}
+
 fn map_runs(round: usize, count: u32) {
     let empty = rows_of(count);
     let runs: [(&str, Run, Run, Vec<u32>); 7] = [
@@ -149,6 +164,8 @@ fn main() {
     for round in 0..rounds {
         place(round, 64);
         place(round, 65_535);
+        given(round, 4_096);
+        given(round, 65_535);
         map_runs(round, 1_000);
         map_runs(round, 10_000);
         put_runs(round, 100_000);

@@ -8,6 +8,7 @@ unsafe extern "C" {
     fn bench_map_put(
         keys: *const u8, keys_length: usize, texts: *const u8, texts_length: usize, order: *const u32, turns: usize, most_dead: u64,
     ) -> u64;
+    fn bench_map_given(key: *const u8, key_length: usize, text: *const u8, text_length: usize, count: usize) -> u64;
     fn bench_map_append(keys: *const u8, keys_length: usize, texts: *const u8, texts_length: usize, order: *const u32, turns: usize) -> u64;
     fn bench_map_scan(keys: *const u8, keys_length: usize, texts: *const u8, texts_length: usize, order: *const u32, turns: usize) -> u64;
     fn bench_map_rebuild(keys: *const u8, keys_length: usize, texts: *const u8, texts_length: usize, order: *const u32, turns: usize) -> u64;
@@ -43,6 +44,10 @@ pub fn put(rows: &Rows) -> u64 {
 /// Rebuilds where more bytes are dead than live.
 pub fn put_and_rebuild(rows: &Rows) -> u64 {
     done_with_most_dead(rows, (rows.keys.len() + rows.texts.len()) as u64)
+}
+
+pub fn given(key: &[u8], text: &[u8], count: usize) -> u64 {
+    unsafe { bench_map_given(key.as_ptr(), key.len(), text.as_ptr(), text.len(), count) }
 }
 
 pub fn append(rows: &Rows) -> u64 {

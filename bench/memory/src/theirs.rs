@@ -71,6 +71,15 @@ pub fn copy_over(rows: &Rows) -> u64 {
     sum_of(&map, rows)
 }
 
+/// Makes the key hold so many copies of the text in turn, and keeps those before, as an arena does.
+pub fn given(key: &[u8], text: &[u8], count: usize) -> u64 {
+    let (mut map, mut before) = (Map::new(), Vec::new());
+    for _ in 0..count {
+        before.extend(map.insert(key.to_vec(), text.to_vec()));
+    }
+    seen(map.get(key).map(Vec::as_slice))
+}
+
 pub fn append(rows: &Rows) -> u64 {
     let mut map = map_of(rows);
     for at in &rows.order {

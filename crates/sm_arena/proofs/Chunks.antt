@@ -10,11 +10,13 @@ use Rattle.std.proofs.lemmas.List.{get_or-set_same, get_or-set_other, set-append
 use Rattle.std.proofs.lemmas.List.Sums.{sum_by-cons, sum_by-append, sum_by-set}
 use Rattle.std.proofs.lemmas.List.Folds.{sum_by-replicate}
 use Rattle.sm_arena.specs.declared.span.Span.{Span}
-use Rattle.sm_arena.specs.declared.owned_chunk.OwnedChunk.{OwnedChunk}
+use Rattle.sm_arena.specs.declared.chunk.Chunk.{Chunk}
+use Rattle.sm_arena.specs.Chunk.{written_in}
 use Rattle.sm_arena.specs.declared.blocks.Blocks.{Blocks}
 use Rattle.sm_arena.specs.Blocks.{chunks_in, bytes_at, total, IsWriting, IsFilled, HasSpace}
 use Rattle.sm_arena.specs.Chunks.{chunks_of}
 use Rattle.sm_arena.specs.Sizes.{sizes_in}
+use Rattle.sm_arena.proofs.Sizes.{written_fits}
 
 pub is_nil : (xs : List ℕ) → length xs ≤ 0 → xs ≡ []
 is_nil [] le = refl
@@ -130,58 +132,77 @@ module _ (old new : List (List ℕ)) (k place : ℕ) (piece : List ℕ) (inside 
     total = totals;
   }
 
+-- the last chunk of these, written whole
+pub joins : (old : List (List ℕ)) (piece : List ℕ)
+    → IsWriting old piece (record { chunk = length old; start = 0; length = length piece }) (old ++ piece ∷ [])
+joins old piece =
+    let none : length old - length old ≡ 0 = omega arith in
+    let empty : get_or (old ++ replicate 1 []) (length old) [] ≡ [] = grown_at old 1 (length old) ∙ past old in
+    let inside : length old < length (old ++ replicate 1 []) = omega (arith, length-append old ([] ∷ [])) in
+    let same : set (old ++ replicate 1 []) (length old) piece ≡ old ++ piece ∷ [] =
+    set-append_right old (replicate 1 []) (length old) (length old) piece refl (omega arith)
+    ∙ ap (λ (n : ℕ). old ++ set (replicate 1 []) n piece) none in
+    let is : old ++ piece ∷ [] ≡ set (old ++ replicate 1 []) (length old)
+    (get_or (old ++ replicate 1 []) (length old) [] ++ piece) =
+    sym same ∙ ap (λ (l : List ℕ). set (old ++ replicate 1 []) (length old) (l ++ piece)) (sym empty) in
+    rw empty at (is_writing old (old ++ piece ∷ []) 1 (length old) piece inside is)
+  where
+    past : (xs : List (List ℕ)) → get_or xs (length xs) [] ≡ []
+    past [] = refl
+    past (x ∷ xs) = past xs
+
 -- a piece is written into a block
-module _ (old : List OwnedChunk) (place : ℕ) (piece : List ℕ) (inside : place < length old) (block block' : OwnedChunk)
-    (at : get_or old place block ≡ block) (bytes : block'.chunk.bytes ≡ block.chunk.bytes ++ piece)
+module _ (old : List Chunk) (place : ℕ) (piece : List ℕ) (inside : place < length old) (block block' : Chunk)
+    (at : get_or old place block ≡ block) (bytes : written_in block' ≡ written_in block ++ piece)
     (size : block'.size ≡ block.size) where
-  was : get_or (chunks_in old) place [] ≡ block.chunk.bytes
-  was = get_or-map (λ (b : OwnedChunk). b.chunk.bytes) old place block [] inside
-      ∙ ap (λ (b : OwnedChunk). b.chunk.bytes) at
+  was : get_or (chunks_in old) place [] ≡ written_in block
+  was = get_or-map written_in old place block [] inside
+      ∙ ap written_in at
 
   was_size : get_or (sizes_in old) place 0 ≡ block.size
-  was_size = get_or-map (λ (b : OwnedChunk). b.size) old place block 0 inside ∙ ap (λ (b : OwnedChunk). b.size) at
+  was_size = get_or-map (λ (b : Chunk). b.size) old place block 0 inside ∙ ap (λ (b : Chunk). b.size) at
 
   room : (count : ℕ) → HasSpace old place (length piece + count) → HasSpace (set old place block') place count
   room count has =
-      let here : (d : OwnedChunk) → get_or (set old place block') place d ≡ block' =
+      let here : (d : Chunk) → get_or (set old place block') place d ≡ block' =
       λ d. get_or-set_same old place block' d inside in
-      let before : length block.chunk.bytes + (length piece + count) ≤ block.size = rw at at (has.1 block) in
-      let after : length block'.chunk.bytes + count ≤ block'.size =
-      omega (arith, before, ap length bytes, length-append block.chunk.bytes piece, size) in
+      let before : length (written_in block) + (length piece + count) ≤ block.size = rw at at (has.1 block) in
+      let after : length (written_in block') + count ≤ block'.size =
+      omega (arith, before, ap length bytes, length-append (written_in block) piece, size) in
       (omega (arith, inside, length-set old place block'), λ d. rw (here d) after)
 
   pub fills : IsFilled old place piece (set old place block')
   fills = record {
-    chunks = map-set (λ (b : OwnedChunk). b.chunk.bytes) old place block'
+    chunks = map-set written_in old place block'
         ∙ ap (λ (l : List ℕ). set (chunks_in old) place l) (bytes ∙ ap (λ (l : List ℕ). l ++ piece) (sym was));
     room = room;
-    sizes = map-set (λ (b : OwnedChunk). b.size) old place block'
+    sizes = map-set (λ (b : Chunk). b.size) old place block'
         ∙ (ap (λ (n : ℕ). set (sizes_in old) place n) (size ∙ sym was_size) ∙ set-get_or (sizes_in old) place 0);
   }
 
 -- what lies in an earlier block
-pub reads_earlier : (blocks : List OwnedChunk) (place : ℕ) (s : Span) → s.chunk < place
+pub reads_earlier : (blocks : List Chunk) (place : ℕ) (s : Span) → s.chunk < place
     → bytes_at (chunks_in (take place blocks)) s ≡ bytes_at (chunks_in blocks) s
 reads_earlier blocks place s lt =
     ap (λ (l : List ℕ). take s.length (drop s.start l)) (ap (λ (l : List (List ℕ)). get_or l s.chunk []) (sym (take-map
-    (λ (b : OwnedChunk). b.chunk.bytes) place blocks)) ∙ get_or-take place (chunks_in blocks) s.chunk [] lt)
+    written_in place blocks)) ∙ get_or-take place (chunks_in blocks) s.chunk [] lt)
 
 -- a piece is written into the first block behind so many others
-pub fills_behind : (old front back : List OwnedChunk) (place : ℕ) (piece : List ℕ) (block block' : OwnedChunk)
-    → old ≡ front ++ back → length front ≡ place → place < length old → get_or back 0 block ≡ block → block'.chunk.bytes
-    ≡ block.chunk.bytes ++ piece → block'.size ≡ block.size → IsFilled old place piece (front ++ set back 0 block')
+pub fills_behind : (old front back : List Chunk) (place : ℕ) (piece : List ℕ) (block block' : Chunk)
+    → old ≡ front ++ back → length front ≡ place → place < length old → get_or back 0 block ≡ block → written_in block'
+    ≡ written_in block ++ piece → block'.size ≡ block.size → IsFilled old place piece (front ++ set back 0 block')
 fills_behind old front back place piece block block' split count inside at bytes size =
     let none : place - place ≡ 0 = omega arith in
-    let read : get_or old place block ≡ block = ap (λ (l : List OwnedChunk). get_or l place block) split
+    let read : get_or old place block ≡ block = ap (λ (l : List Chunk). get_or l place block) split
     ∙ (get_or-append_right front back place place block count (omega arith)
     ∙ (ap (λ (n : ℕ). get_or back n block) none ∙ at)) in
     let here : set old place block' ≡ front ++ set back 0 block' =
-    ap (λ (l : List OwnedChunk). set l place block') split ∙ (set-append_right front back place place block' count
+    ap (λ (l : List Chunk). set l place block') split ∙ (set-append_right front back place place block' count
     (omega arith) ∙ ap (λ (n : ℕ). front ++ set back n block') none) in
-    subst (λ (l : List OwnedChunk). IsFilled old place piece l) here
+    subst (λ (l : List Chunk). IsFilled old place piece l) here
     (fills old place piece inside block block' read bytes size)
 
-pub fills_nothing : (old : List OwnedChunk) (place : ℕ) → IsFilled old place [] old
+pub fills_nothing : (old : List Chunk) (place : ℕ) → IsFilled old place [] old
 fills_nothing old place = record {
   chunks = sym (ap (λ (l : List ℕ). set (chunks_in old) place l) (append-nil (get_or (chunks_in old) place []))
       ∙ set-get_or (chunks_in old) place []);
@@ -190,11 +211,11 @@ fills_nothing old place = record {
 }
 
 -- one piece after the other
-pub fills_both : (a b c : List OwnedChunk) (place : ℕ) (p q : List ℕ) → place < length a → IsFilled a place p b
+pub fills_both : (a b c : List Chunk) (place : ℕ) (p q : List ℕ) → place < length a → IsFilled a place p b
     → IsFilled b place q c → IsFilled a place (p ++ q) c
 fills_both a b c place p q inside first second =
     let within : place < length (chunks_in a) =
-    omega (arith, inside, length-map a (λ (b : OwnedChunk). b.chunk.bytes)) in
+    omega (arith, inside, length-map a written_in) in
     let x : List ℕ = get_or (chunks_in a) place [] in
     let middle : get_or (chunks_in b) place [] ≡ x ++ p = ap (λ (l : List (List ℕ)). get_or l place []) first.chunks
     ∙ get_or-set_same (chunks_in a) place (x ++ p) [] within in
@@ -208,7 +229,7 @@ fills_both a b c place p q inside first second =
           (subst (λ (n : ℕ). HasSpace a place n) (omega (arith, length-append p q)) has));
     }
 
-pub writes : (old : List (List ℕ)) (middle new : List OwnedChunk) (k place : ℕ) (piece : List ℕ)
+pub writes : (old : List (List ℕ)) (middle new : List Chunk) (k place : ℕ) (piece : List ℕ)
     → chunks_in middle ≡ old ++ replicate k [] → place < length middle → IsFilled middle place piece new
     → IsWriting old piece (record {
       chunk = place;
@@ -217,13 +238,13 @@ pub writes : (old : List (List ℕ)) (middle new : List OwnedChunk) (k place : �
     }) (chunks_in new)
 writes old middle new k place piece grown inside filled =
     let longer : place < length (old ++ replicate k []) =
-    omega (arith, inside, ap length grown, length-map middle (λ (b : OwnedChunk). b.chunk.bytes)) in
+    omega (arith, inside, ap length grown, length-map middle written_in) in
     let is : chunks_in new ≡ set (old ++ replicate k []) place (get_or (old ++ replicate k []) place [] ++ piece) =
     filled.chunks ∙ (λ i. set (grown i) place (get_or (grown i) place [] ++ piece)) in
     rw grown (is_writing old (chunks_in new) k place piece longer is)
 
 -- a piece more in the same block
-pub writes_next : (old new : List OwnedChunk) (place : ℕ) (piece : List ℕ) → place < length old
+pub writes_next : (old new : List Chunk) (place : ℕ) (piece : List ℕ) → place < length old
     → IsFilled old place piece new
     → IsWriting (chunks_in old) piece (record {
       chunk = place;
@@ -234,7 +255,7 @@ writes_next old new place piece inside filled =
     writes (chunks_in old) old new 0 place piece (sym (append-nil (chunks_in old))) inside filled
 
 -- what is written into a block keeps all that lay
-pub fills_keep : (old new : List OwnedChunk) (place : ℕ) (piece : List ℕ) → place < length old
+pub fills_keep : (old new : List Chunk) (place : ℕ) (piece : List ℕ) → place < length old
     → IsFilled old place piece new → (s : Span) → length (bytes_at (chunks_in old) s) ≡ s.length
     → bytes_at (chunks_in new) s ≡ bytes_at (chunks_in old) s
 fills_keep old new place piece inside filled = (writes_next old new place piece inside filled).keeps
@@ -263,7 +284,7 @@ part_inside chunks span copied count within full =
     ap length (part_lies chunks span copied count within) ∙ size
 
 -- a span is copied into a block: so many bytes stand there now, and count more come
-module _ (old now : List OwnedChunk) (place : ℕ) (span : Span) (copied count : ℕ) (inside : place < length old)
+module _ (old now : List Chunk) (place : ℕ) (span : Span) (copied count : ℕ) (inside : place < length old)
     (full : length (bytes_at (chunks_in old) span) ≡ span.length) (within : copied + count ≤ span.length)
     (filled : IsFilled old place (take copied (bytes_at (chunks_in old) span)) now) where
   abbrev part : Span
@@ -283,7 +304,7 @@ module _ (old now : List OwnedChunk) (place : ℕ) (span : Span) (copied count :
       (has.0, λ d. omega (arith, has.1 d, length-take copied b, full, within)) in
       filled.room count room
 
-  pub part_filled : (new : List OwnedChunk) → IsFilled now place (bytes_at (chunks_in now) part) new
+  pub part_filled : (new : List Chunk) → IsFilled now place (bytes_at (chunks_in now) part) new
       → IsFilled old place (take (copied + count) (bytes_at (chunks_in old) span)) new
   part_filled new more =
       let b : List ℕ = bytes_at (chunks_in old) span in
@@ -295,18 +316,18 @@ module _ (old now : List OwnedChunk) (place : ℕ) (span : Span) (copied count :
       (ap (λ (l : List ℕ). take copied b ++ l) piece ∙ sym (take-add copied count b)) both
 
 -- a new block is one empty chunk more
-pub pushed : (bs : List OwnedChunk) (block : OwnedChunk) → block.chunk.bytes ≡ []
+pub pushed : (bs : List Chunk) (block : Chunk) → written_in block ≡ []
     → chunks_in (bs ++ block ∷ []) ≡ chunks_in bs ++ replicate 1 []
 pushed bs block none =
-    map-append (λ (b : OwnedChunk). b.chunk.bytes) bs (block ∷ []) ∙ ap (λ (l : List ℕ). chunks_in bs ++ l ∷ []) none
+    map-append written_in bs (block ∷ []) ∙ ap (λ (l : List ℕ). chunks_in bs ++ l ∷ []) none
 
-chunk_fits : (bs : List OwnedChunk) (i : ℕ) → length (get_or (chunks_in bs) i []) < 2 ^ 32
+chunk_fits : (bs : List Chunk) (i : ℕ) → length (get_or (chunks_in bs) i []) < 2 ^ 32
 chunk_fits [] i = omega arith
-chunk_fits (b ∷ bs) zero = omega (arith, b.chunk.fits.0, b.chunk.fits.1, b.tied.1, b.small)
+chunk_fits (b ∷ bs) zero = omega (arith, written_fits b, b.small)
 chunk_fits (b ∷ bs) (suc i) = chunk_fits bs i
 
 -- a span of bytes ends where a number still says it
-pub span_fits : (bs : List OwnedChunk) (span : Span) → length (bytes_at (chunks_in bs) span) ≡ span.length
+pub span_fits : (bs : List Chunk) (span : Span) → length (bytes_at (chunks_in bs) span) ≡ span.length
     → 0 < span.length → span.start + span.length < 2 ^ 32
 span_fits bs span full some =
     let x : List ℕ = get_or (chunks_in bs) span.chunk [] in
@@ -319,15 +340,14 @@ span_fits bs span full some =
       chunk_fits bs span.chunk,
     )
 
-all_fit : (bs : List OwnedChunk) → total (chunks_in bs) ≤ length bs * 2 ^ 63
+all_fit : (bs : List Chunk) → total (chunks_in bs) ≤ length bs * 2 ^ 63
 all_fit [] = omega arith
 all_fit (b ∷ bs) = omega (
   arith,
-  sum_by-cons {X = List ℕ} length b.chunk.bytes (chunks_in bs),
+  sum_by-cons {X = List ℕ} length (written_in b) (chunks_in bs),
   all_fit bs,
-  b.chunk.fits.0,
-  b.chunk.fits.1,
-  b.chunk.fits.2,
+  written_fits b,
+  b.small,
 )
 
 pub total_fits : (b : Blocks) → total (chunks_of b) < 2 ^ 127

@@ -3,12 +3,13 @@ use Rattle.std.specs.Prelude.{◌≡◌, ◌+◌, ◌<◌, ◌≤◌, ◌++◌, 
 use Rattle.std.specs.Prelude.{slice_set}
 use Rattle.std.specs.List.{sum_by}
 use Rattle.sm_arena.specs.declared.span.Span.{Span}
-use Rattle.sm_arena.specs.declared.owned_chunk.OwnedChunk.{OwnedChunk}
+use Rattle.sm_arena.specs.declared.chunk.Chunk.{Chunk}
+use Rattle.sm_arena.specs.Chunk.{written_in}
 use Rattle.sm_arena.specs.Sizes.{sizes_in}
 
 -- the bytes of each block
-abbrev pub chunks_in : List OwnedChunk → List (List ℕ)
-chunks_in blocks = map (λ block. block.chunk.bytes) blocks
+abbrev pub chunks_in : List Chunk → List (List ℕ)
+chunks_in blocks = map written_in blocks
 
 -- what lies at a span of these chunks
 abbrev pub bytes_at : List (List ℕ) → Span → List ℕ
@@ -23,17 +24,17 @@ abbrev pub IsGrown : List (List ℕ) → List (List ℕ) → Type 0
 IsGrown old new = (n : ℕ) × (new ≡ old ++ replicate n [])
 
 -- so many bytes can still be written into the block at that place
-abbrev pub HasSpace : List OwnedChunk → ℕ → ℕ → Type 0
+abbrev pub HasSpace : List Chunk → ℕ → ℕ → Type 0
 HasSpace blocks place count =
     (place < length blocks) ×
-    ((d : OwnedChunk) → let block = slice_index_or blocks place d in length block.chunk.bytes + count ≤ block.size)
+    ((d : Chunk) → let block = slice_index_or blocks place d in length (written_in block) + count ≤ block.size)
 
 -- where so many bytes more would lie in the chunk at that place
 abbrev pub next_span : List (List ℕ) → ℕ → ℕ → Span
 next_span chunks place count = record { chunk = place; start = length (slice_index_or chunks place []); length = count }
 
 -- new is old with the piece written behind the bytes of the block at that place
-pub record IsFilled (old : List OwnedChunk) (place : ℕ) (piece : List ℕ) (new : List OwnedChunk) : Type 0 where
+pub record IsFilled (old : List Chunk) (place : ℕ) (piece : List ℕ) (new : List Chunk) : Type 0 where
   pub chunks : chunks_in new ≡ slice_set (chunks_in old) place (slice_index_or (chunks_in old) place [] ++ piece)
   pub room : (count : ℕ) → HasSpace old place (length piece + count) → HasSpace new place count
   pub sizes : sizes_in new ≡ sizes_in old

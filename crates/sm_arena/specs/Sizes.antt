@@ -1,8 +1,7 @@
--- The sizes of chunks: each is twice the one before, from 1,024 to 65,536 bytes.
-use Rattle.std.specs.Prelude.{◌≡◌, ◌*◌, ◌<◌, ◌++◌, ◌⊎◌, ℕ, nat_le, List, None, [], ◌∷◌, filter, find, map, unwrap_or}
+-- The sizes of chunks: each is twice the largest before, from 1,024 to 65,536 bytes.
+use Rattle.std.specs.Prelude.{◌≡◌, ◌*◌, ◌<◌, ◌++◌, ◌⊎◌, ℕ, nat_le, List, [], ◌∷◌, find, fold, map, unwrap_or}
 use Rattle.std.specs.Prelude.{cond, min, max}
-use Rattle.std.specs.List.{last_or}
-use Rattle.sm_arena.specs.declared.owned_chunk.OwnedChunk.{OwnedChunk}
+use Rattle.sm_arena.specs.declared.chunk.Chunk.{Chunk}
 
 -- the sizes of chunks for pieces that fit one of them
 abbrev pub chunk_sizes : List ℕ
@@ -12,13 +11,14 @@ chunk_sizes = 1024 ∷ 2048 ∷ 4096 ∷ 8192 ∷ 16384 ∷ 32768 ∷ 65536 ∷ 
 abbrev pub size_holding : ℕ → ℕ
 size_holding count = unwrap_or (find (λ size. nat_le count size) chunk_sizes) count
 
+-- the least size of the chunk after one of this size, where it was `least` for that one: twice the size at least, up to
+-- 65,536. A chunk that has more counts for nothing.
+abbrev pub least_after : ℕ → ℕ → ℕ
+least_after least size = cond (nat_le size 65536) (max least (min 65536 (2 * size))) least
+
 -- the least size of the chunk that comes after those of these sizes
 abbrev pub next_size : List ℕ → ℕ
-next_size sizes = min 65536 (2 * unwrap_or (last_or None (filter (λ size. nat_le size 65536) sizes)) 512)
-
--- the same after one chunk more, where it was `least` before
-abbrev pub least_after : ℕ → ℕ → ℕ
-least_after least size = cond (nat_le size 65536) (min 65536 (2 * size)) least
+next_size sizes = fold least_after 1024 sizes
 
 -- the size of the chunk that is made for so many bytes
 abbrev pub size_for : List ℕ → ℕ → ℕ
@@ -29,5 +29,5 @@ abbrev pub HasGrown : List ℕ → ℕ → List ℕ → Type 0
 HasGrown old count new = (new ≡ old) ⊎ ((0 < count) × (new ≡ old ++ size_for old count ∷ []))
 
 -- the size of each block
-abbrev pub sizes_in : List OwnedChunk → List ℕ
+abbrev pub sizes_in : List Chunk → List ℕ
 sizes_in blocks = map (λ block. block.size) blocks

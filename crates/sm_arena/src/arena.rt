@@ -1,4 +1,4 @@
-ghost use Rattle.std.specs.Prelude.{◌≡◌, ◌+◌, ◌<◌, ◌≤◌, ◌++◌, [], length, sum, OnErr, OnOk, IfOk};
+ghost use Rattle.std.specs.Prelude.{◌≡◌, ◌+◌, ◌<◌, ◌≤◌, ◌++◌, ◌∷◌, [], length, sum, OnErr, OnOk, IfErr, IfOk};
 ghost use Rattle.sm_arena.specs.Pieces.{IsPlaced, bytes_of};
 ghost use Rattle.sm_arena.specs.Sizes.{HasGrown};
 ghost use Rattle.sm_arena.specs.Value.{IsPlacing, IsPlacingPair, forgetting, times_forgotten, dead_of, live_of};
@@ -12,9 +12,10 @@ use std::marker::Model;
 /// Memory for pieces of bytes: a piece stays where it was placed, and reads the same, until the arena is dropped.
 ///
 /// Contracts see an arena as the pieces that were placed, by their spans, the list of the spans that were forgotten,
-/// and the sizes of its chunks. The first chunk has 1,024 bytes, and each next one twice as many, up to 65,536; a size
-/// that doesn't hold the piece, or the pair, is skipped. A piece or a pair of more than 65,536 bytes has a chunk of
-/// just its size. What would need a chunk of 2^32 bytes or more, or more than 2^32 chunks, is refused as memory is.
+/// and the sizes of its chunks. The first chunk has 1,024 bytes, and each next one at least twice as many as any before
+/// of up to 65,536, and at most so many; a size that doesn't hold the piece, or the pair, is skipped. A piece or a pair
+/// of more than 65,536 bytes has a chunk of just its size, and one that joins has its own memory. What would need a
+/// chunk of 2^32 bytes or more, or more than 2^32 chunks, is refused as memory is.
 #[derive(Drop)]
 pub struct Arena {
     blocks: Blocks,
@@ -84,6 +85,53 @@ impl Arena {
         self.placed.push(&first_span);
         self.placed.push(&second_span);
         Ok((first_span, second_span))
+    }
+
+    /// Places the piece as [`Arena::place`] does, and makes its memory a chunk of the arena instead of a copy.
+    /// What it has room for beyond its bytes isn't counted as held.
+    ///
+    /// # Errors
+    ///
+    /// `AllocError` with the piece where memory is refused, or the piece has 2^32 bytes or more; the arena is
+    /// then as it was.
+    pub fn join(&mut self, piece: Vec<u8>) -> Result<Span, (Vec<u8>, AllocError)>
+        ensures placed { IfOk result (λ span. IsPlacing self.old piece.items span self.new) }
+        ensures sizes { OnOk result (self.new.sizes ≡ self.old.sizes ++ length piece.items ∷ []) }
+        ensures handed_back { IfErr result (λ back. back.0.items ≡ piece.items) }
+        ensures err { OnErr result (self.new ≡ self.old) }
+    {
+        let count = piece.len();
+        let span = self.blocks.join(piece)?;
+        self.live += count as u128;
+        self.placed.push(&span);
+        Ok(span)
+    }
+
+    /// Places the one piece as [`Arena::join`] does and the other as [`Arena::place`] does, or neither, and answers
+    /// their spans.
+    ///
+    /// # Errors
+    ///
+    /// `AllocError` with the piece that was to join where memory is refused, it has 2^32 bytes or more, or the
+    /// other has so many bytes; the arena is then as it was.
+    pub fn join_and_place(
+        &mut self,
+        joined: Vec<u8>,
+        placed: &[u8],
+    ) -> Result<(Span, Span), (Vec<u8>, AllocError)>
+        ensures placed { IfOk result (λ spans. IsPlacingPair self.old joined.items placed.now spans self.new) }
+        ensures sizes { OnOk result
+            (HasGrown (self.old.sizes ++ length joined.items ∷ []) (length placed.now) self.new.sizes) }
+        ensures handed_back { IfErr result (λ back. back.0.items ≡ joined.items) }
+        ensures err { OnErr result (self.new ≡ self.old) }
+    {
+        let count = joined.len();
+        let (joined_span, placed_span) = self.blocks.join_and_write(joined, placed)?;
+        self.live += count as u128;
+        self.live += placed.len() as u128;
+        self.placed.push(&joined_span);
+        self.placed.push(&placed_span);
+        Ok((joined_span, placed_span))
     }
 
     /// Places a copy of the piece at the span followed by the tail, as one piece, and answers the span that reads it

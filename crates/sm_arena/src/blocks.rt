@@ -1,10 +1,11 @@
 ghost use Rattle.std.specs.Prelude.{◌≡◌, ◌+◌, ◌<◌, ◌≤◌, ◌^◌, ◌++◌, ◌∷◌, [], length, max, replicate, sum};
-ghost use Rattle.std.specs.Prelude.{slice_index_or, IfOk, OnOk, OnErr, IsTrue};
+ghost use Rattle.std.specs.Prelude.{slice_index_or, vec_capacity, vec_len, ℕ, List, IfOk, IfErr, OnOk, OnErr, IsTrue};
+ghost use Rattle.sm_arena.specs.Chunk.{written_in};
 ghost use Rattle.sm_arena.specs.Blocks.{chunks_in, bytes_at, next_span, IsWriting, IsWritingPair, IsGrown, IsFilled};
 ghost use Rattle.sm_arena.specs.Blocks.{HasSpace};
 ghost use Rattle.sm_arena.specs.Sizes.{sizes_in, next_size, size_holding, least_after, HasGrown};
 
-use crate::owned_chunk::OwnedChunk;
+use crate::chunk::Chunk;
 use crate::span::Span;
 use std::alloc::{AllocError, Global};
 
@@ -12,7 +13,7 @@ use std::alloc::{AllocError, Global};
 #[derive(Drop)]
 pub(crate) struct Blocks {
     alloc: Global,
-    pub(crate) blocks: Vec<OwnedChunk>,
+    pub(crate) blocks: Vec<Chunk>,
     // The place of the block that short pieces are written into.
     filling: u32,
     // The least size of the next block.
@@ -132,6 +133,63 @@ impl Blocks {
         })
     }
 
+    /// Makes the memory of the piece a block, and answers where it lies; or hands it back.
+    pub(crate) fn join(&mut self, piece: Vec<u8>) -> Result<Span, (Vec<u8>, AllocError)>
+        ensures written { IfOk result (λ span.
+            IsWriting (chunks_in self.old.blocks.items) piece.items span (chunks_in self.new.blocks.items)) }
+        ensures chunks { OnOk result
+            (chunks_in self.new.blocks.items ≡ chunks_in self.old.blocks.items ++ piece.items ∷ []) }
+        ensures sizes { OnOk result
+            (sizes_in self.new.blocks.items ≡ sizes_in self.old.blocks.items ++ length piece.items ∷ []) }
+        ensures back { IfErr result (λ refused. refused.0.items ≡ piece.items) }
+        ensures err { OnErr result ((chunks_in self.new.blocks.items ≡ chunks_in self.old.blocks.items)
+            × (sizes_in self.new.blocks.items ≡ sizes_in self.old.blocks.items)) }
+    {
+        let Ok(place) = u32::try_from(self.blocks.len()) else {
+            return Err((piece, AllocError));
+        };
+        if let Err(refused) = self.blocks.reserve(1) {
+            return Err((piece, refused));
+        }
+        match Chunk::of(piece) {
+            Err(piece) => Err((piece, AllocError)),
+            Ok(block) => {
+                let length = block.used();
+                self.add(block);
+                Ok(Span {
+                    chunk: place,
+                    start: 0,
+                    length,
+                })
+            }
+        }
+    }
+
+    /// Joins the one piece as [`Blocks::join`] does, and writes the other as [`Blocks::write`] does, or neither, and
+    /// answers where they lie.
+    pub(crate) fn join_and_write(
+        &mut self,
+        joined: Vec<u8>,
+        written: &[u8],
+    ) -> Result<(Span, Span), (Vec<u8>, AllocError)>
+        ensures written { IfOk result (λ spans.
+            IsWritingPair (chunks_in self.old.blocks.items) joined.items written.now spans
+            (chunks_in self.new.blocks.items)) }
+        ensures sizes { OnOk result
+            (HasGrown (sizes_in self.old.blocks.items ++ length joined.items ∷ []) (length written.now)
+            (sizes_in self.new.blocks.items)) }
+        ensures back { IfErr result (λ refused. refused.0.items ≡ joined.items) }
+        ensures err { OnErr result ((chunks_in self.new.blocks.items ≡ chunks_in self.old.blocks.items)
+            × (sizes_in self.new.blocks.items ≡ sizes_in self.old.blocks.items)) }
+    {
+        let least = self.least;
+        let first = self.join(joined)?;
+        match self.write(written) {
+            Ok(second) => Ok((first, second)),
+            Err(refused) => Err((self.part(least), refused)),
+        }
+    }
+
     /// The bytes at a span inside the blocks.
     pub(crate) fn piece(&self, span: Span) -> &[u8]
         requires { length (bytes_at (chunks_in self.now.blocks.items) span) ≡ span.length }
@@ -145,7 +203,7 @@ impl Blocks {
         requires { place < length self.now.blocks.items }
         ensures { result ≡ length (slice_index_or (chunks_in self.now.blocks.items) place []) }
     {
-        self.blocks[place as usize].written()
+        self.blocks[place as usize].used()
     }
 
     // Writes the piece into a block that has room for it, and answers where it lies.
@@ -244,16 +302,39 @@ impl Blocks {
         ensures err { OnErr result ((chunks_in self.new.blocks.items ≡ chunks_in self.old.blocks.items)
             × (sizes_in self.new.blocks.items ≡ sizes_in self.old.blocks.items)) }
     {
-        let block = OwnedChunk::new(self.alloc, size)?;
-        self.blocks.push(block)?;
-        self.held += size as u128;
-        self.least = next_least(self.least, size);
+        self.blocks.reserve(1)?;
+        let block = Chunk::new(self.alloc, size)?;
+        self.add(block);
         Ok(())
+    }
+
+    // Puts a block at the end, where there is a place for it.
+    fn add(&mut self, block: Chunk)
+        requires { vec_len self.old.blocks < vec_capacity self.old.blocks }
+        ensures blocks { self.new.blocks.items ≡ self.old.blocks.items ++ block ∷ [] }
+    {
+        self.held += block.size() as u128;
+        self.least = next_least(self.least, block.size());
+        self.blocks.push_reserved(block);
+    }
+
+    // Takes the last block's memory back, where the least size of the next block was `least` before it.
+    fn part(&mut self, least: u32) -> Vec<u8>
+        requires some { 0 < length self.old.blocks.items }
+        requires least { (sizes : List ℕ) (size : ℕ) → sizes_in self.old.blocks.items ≡ sizes ++ size ∷ []
+            → least ≡ next_size sizes }
+        ensures chunks { chunks_in self.old.blocks.items ≡ chunks_in self.new.blocks.items ++ result.items ∷ [] }
+        ensures sizes { (size : ℕ) × (sizes_in self.old.blocks.items ≡ sizes_in self.new.blocks.items ++ size ∷ []) }
+    {
+        let block = self.blocks.take_last();
+        self.held -= block.size() as u128;
+        self.least = least;
+        block.into_bytes()
     }
 }
 
 // The bytes at a span inside the blocks.
-fn piece_in(blocks: &[OwnedChunk], span: Span) -> &[u8]
+fn piece_in(blocks: &[Chunk], span: Span) -> &[u8]
     requires { length (bytes_at (chunks_in blocks.now) span) ≡ span.length }
     ensures { result.now ≡ bytes_at (chunks_in blocks.now) span }
 {
@@ -261,11 +342,11 @@ fn piece_in(blocks: &[OwnedChunk], span: Span) -> &[u8]
         return &[];
     }
     let start = span.start as usize;
-    &blocks[span.chunk as usize].bytes()[start..start + span.length as usize]
+    &blocks[span.chunk as usize].written()[start..start + span.length as usize]
 }
 
 // Writes the bytes at a span of an earlier block into a block that has room for them.
-fn copy_up(blocks: &mut [OwnedChunk], span: Span, place: u32)
+fn copy_up(blocks: &mut [Chunk], span: Span, place: u32)
     requires inside { length (bytes_at (chunks_in blocks.old) span) ≡ span.length }
     requires room { HasSpace blocks.old place span.length }
     requires earlier { span.chunk < place }
@@ -297,7 +378,7 @@ fn next_least(least: u32, size: u32) -> u32
     ensures { result ≡ least_after least size }
 {
     if size <= BLOCK_BYTES {
-        return BLOCK_BYTES.min(size.saturating_mul(2));
+        return least.max(BLOCK_BYTES.min(size.saturating_mul(2)));
     }
     least
 }

@@ -1,4 +1,4 @@
-//! An arena: pieces of bytes in chunks of raw memory, which never move and are freed once.
+//! An arena: pieces of bytes in chunks of memory, which never move and are freed once.
 //!
 //! ```rust
 //! let mut arena = Arena::new(rt.alloc());
@@ -16,7 +16,6 @@
 pub mod arena;
 mod blocks;
 mod chunk;
-mod owned_chunk;
 pub mod span;
 
 pub use arena::Arena;

@@ -26,6 +26,14 @@ impl From<Vec<u8>> for Bytes {
     }
 }
 
+impl From<Bytes> for Vec<u8> {
+    ghost from_gives = { λ text bytes. bytes.items ≡ text };
+
+    fn from(text: Bytes) -> Vec<u8> {
+        text.bytes
+    }
+}
+
 impl Bytes {
     /// A copy of the bytes.
     pub fn new(alloc: Global, bytes: &[u8]) -> Result<Bytes, AllocError>

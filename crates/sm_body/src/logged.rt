@@ -107,13 +107,14 @@ impl<M: Machine> Service for Logged<M> {
         if self.kept >= self.limit {
             return Err((request, ApplyFault::KeptFull));
         }
-        match self.machine.answer(self.alloc, &request) {
+        let requests = self.requests.and(&request);
+        match self.machine.answer_owned(self.alloc, request) {
             Ok(reply) => {
-                self.requests.push(&request);
+                self.requests = requests;
                 self.kept += 1;
                 Ok(reply)
             }
-            Err(_) => Err((request, ApplyFault::NoMemory)),
+            Err((request, _)) => Err((request, ApplyFault::NoMemory)),
         }
     }
 

@@ -1,4 +1,4 @@
-ghost use Rattle.std.specs.Prelude.{◌≡◌, List, ℕ, IfOk, OnOk, OnErr};
+ghost use Rattle.std.specs.Prelude.{◌≡◌, List, ℕ, IfOk, IfErr, OnOk, OnErr};
 
 use std::alloc::{AllocError, Global};
 
@@ -36,6 +36,24 @@ pub trait Machine: Drop + Send {
         ensures reply { IfOk result (λ made. made ≡ reply self.old request.now) }
         ensures after { OnOk result (self.new ≡ after self.old request.now) }
         ensures err { OnErr result (self.new ≡ self.old) };
+
+    /// Answers the request as [`Machine::answer`] does, and may keep memory of it instead of a copy. Where memory is
+    /// refused the request comes back. A machine that keeps what requests bring writes its own.
+    fn answer_owned(
+        &mut self,
+        alloc: Global,
+        request: Self::Request,
+    ) -> Result<Self::Reply, (Self::Request, AllocError)>
+        ensures reply { IfOk result (λ made. made ≡ reply self.old request) }
+        ensures after { OnOk result (self.new ≡ after self.old request) }
+        ensures handed_back { IfErr result (λ back. back.0 ≡ request) }
+        ensures err { OnErr result (self.new ≡ self.old) }
+    {
+        match self.answer(alloc, &request) {
+            Ok(made) => Ok(made),
+            Err(refused) => Err((request, refused)),
+        }
+    }
 
     /// Is to move the machine into fresh memory, or to leave it in the old where a growth is refused. In both cases its
     /// value stays the same, and that alone is proved.

@@ -1,6 +1,6 @@
 -- The pairs of entries: at a place, where what is in use reads the same, and after an edit.
 use Rattle.std.proofs.Common.{◌≡◌, ℕ, ℤ, ◌<◌, ◌≤◌, ◌+◌, List, [], ◌∷◌, length, sum, get_or, Option, unwrap_or, refl}
-use Rattle.std.proofs.Common.{sym, ap, ◌∙◌, arith}
+use Rattle.std.proofs.Common.{sym, ap, subst, ◌∙◌, arith}
 use Rattle.std.specs.List.{AllWithin, HoldsAt, insert, remove}
 use Rattle.std.specs.Borrow.{Bor}
 use Rattle.std.specs.declared.cmp.Ordering.{Ordering}
@@ -155,6 +155,27 @@ pair_reads old key text s t new p =
     piece_reads old key s p.middle p.one (uses_piece t) new (piece_stored p.middle text t new p.other) in
     let second : bytes_of new.placed t ≡ text = ap (λ (o : Option (List ℕ)). unwrap_or o []) p.other.reads in
     λ i. record { key = first i; value = HeldText (second i) }
+
+-- the text was placed first
+pub joined_stored : (old : ArenaValue) (key text : List ℕ) (s t : Span) (new : ArenaValue)
+    → IsPlacingPair old text key (t, s) new → IsStored old (uses_entry (record { key = s; slot = Text t })) new
+joined_stored old key text s t new p =
+    let turn : (u : Span) → uses_piece t u + uses_piece s u ≡ uses_piece s u + uses_piece t u = λ u. omega arith in
+    let turned : ◌≡◌ {A = Span → ℕ} (λ u. uses_piece t u + uses_piece s u) (λ u. uses_piece s u + uses_piece t u) =
+    λ i u. turn u i in
+    subst (λ (uses : Span → ℕ). IsStored old uses new) turned
+    (both_stored old p.middle new (uses_piece t) (uses_piece s)
+    (piece_stored old text t p.middle p.one) (piece_stored p.middle key s new p.other))
+
+pub joined_reads : (old : ArenaValue) (key text : List ℕ) (s t : Span) (new : ArenaValue) → IsPlacingPair old text key (
+  t,
+  s,
+) new → pair_of new.placed (record { key = s; slot = Text t }) ≡ record { key = key; value = HeldText text }
+joined_reads old key text s t new p =
+    let first : bytes_of new.placed t ≡ text =
+    piece_reads old text t p.middle p.one (uses_piece s) new (piece_stored p.middle key s new p.other) in
+    let second : bytes_of new.placed s ≡ key = ap (λ (o : Option (List ℕ)). unwrap_or o []) p.other.reads in
+    λ i. record { key = second i; value = HeldText (first i) }
 
 pub count_stored : (old : ArenaValue) (key : List ℕ) (s : Span) (count : ℤ) (new : ArenaValue) → IsPlacing old key s new
     → IsStored old (uses_entry (record { key = s; slot = Count count })) new

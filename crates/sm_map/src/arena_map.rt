@@ -24,6 +24,9 @@ use sm_arena::arena::Arena;
 use std::alloc::{AllocError, Global};
 use std::marker::Model;
 
+/// A text of so many bytes or more lies in memory of its own, and shorter ones side by side.
+pub const LONG_TEXT: usize = 4_096;
+
 /// A map from keys to texts and counts, in the order of the keys. Keys are compared byte by byte as numbers, and a
 /// proper prefix comes first. The bytes of keys and texts lie in an arena, where those that are written over or removed
 /// stay as dead ones until a rebuild.
@@ -153,9 +156,44 @@ impl ArenaMap {
             (self.new.dead ≡ self.old.dead + length (text_at self.old.pairs position.entry.key.now)) }
         ensures err { OnErr result (self.new ≡ self.old) }
     {
+        if let Val::Text(text) = value {
+            if text.len() >= LONG_TEXT {
+                let copy = Vec::from_slice(self.alloc, text)?;
+                return match self.put_owned_at(position, copy) {
+                    Ok(()) => Ok(()),
+                    Err((_, refused)) => Err(refused),
+                };
+            }
+        }
         match position.place {
             Ok(place) => self.write_at(place, value),
             Err(place) => self.insert_at(place, position.key, value),
+        }
+    }
+
+    /// Makes the key at the position hold the text, as [`ArenaMap::put_at`] does, and keeps its memory in place of a
+    /// copy. For a short text that takes more memory than a copy beside others.
+    ///
+    /// # Errors
+    ///
+    /// `AllocError` with the text where memory is refused, or text or key have 2^32 bytes or more; the map is then as
+    /// it was.
+    pub fn put_owned_at(
+        &mut self,
+        position: Position<'_>,
+        text: Vec<u8>,
+    ) -> Result<(), (Vec<u8>, AllocError)>
+        requires { IsPositionIn self.old position }
+        ensures ok { OnOk result
+            (self.new.pairs ≡ holding self.old.pairs position.entry.key.now (HeldText text.items)) }
+        ensures dead { OnOk result
+            (self.new.dead ≡ self.old.dead + length (text_at self.old.pairs position.entry.key.now)) }
+        ensures handed_back { IfErr result (λ back. back.0.items ≡ text.items) }
+        ensures err { OnErr result (self.new ≡ self.old) }
+    {
+        match position.place {
+            Ok(place) => self.write_owned_at(place, text),
+            Err(place) => self.insert_owned_at(place, position.key, text),
         }
     }
 
@@ -368,6 +406,22 @@ impl ArenaMap {
         Ok(())
     }
 
+    // Writes the text over the value of the pair at a place, and keeps its memory.
+    fn write_owned_at(&mut self, place: Place, text: Vec<u8>) -> Result<(), (Vec<u8>, AllocError)>
+        requires { HasEntry self.old.blocks place }
+        ensures ok { OnOk result (HoldsAt (λ pair. IsRewrite self.old (number_of self.old.blocks place) pair
+            (HeldText text.items) self.new) self.old.pairs (number_of self.old.blocks place)) }
+        ensures handed_back { IfErr result (λ back. back.0.items ≡ text.items) }
+        ensures err { OnErr result (self.new ≡ self.old) }
+    {
+        let KeyEntry { key, slot: before } = self.index.entry(place);
+        let span = self.arena.join(text)?;
+        let slot = Slot::Text(span);
+        self.index.set(place, KeyEntry { key, slot });
+        before.forget(&mut self.arena);
+        Ok(())
+    }
+
     // Writes its text followed by the tail over the text of the pair at a place.
     fn lengthen_at(&mut self, place: Place, tail: &[u8]) -> Result<(), AllocError>
         requires entry { HasEntry self.old.blocks place }
@@ -393,6 +447,34 @@ impl ArenaMap {
     {
         let room = self.index.reserve(place)?;
         let entry = KeyEntry::place(&mut self.arena, key, value)?;
+        self.index.insert(place, entry, tag_of(key), room);
+        self.index.note(place, &self.arena);
+        Ok(())
+    }
+
+    // Puts a new pair of this text in at the place where its key goes, and keeps the text's memory.
+    fn insert_owned_at(
+        &mut self,
+        place: Place,
+        key: &[u8],
+        text: Vec<u8>,
+    ) -> Result<(), (Vec<u8>, AllocError)>
+        requires gap { IsGap self.old.blocks place }
+        requires absent { IsKeyGap key_of self.old.pairs key.now (number_of self.old.blocks place) }
+        ensures ok { OnOk result (IsAddition self.old (number_of self.old.blocks place)
+            (record { key = key.now; value = HeldText text.items }) self.new) }
+        ensures handed_back { IfErr result (λ back. back.0.items ≡ text.items) }
+        ensures err { OnErr result (self.new ≡ self.old) }
+    {
+        let room = match self.index.reserve(place) {
+            Ok(room) => room,
+            Err(refused) => return Err((text, refused)),
+        };
+        let (text_span, key_span) = self.arena.join_and_place(text, key)?;
+        let entry = KeyEntry {
+            key: key_span,
+            slot: Slot::Text(text_span),
+        };
         self.index.insert(place, entry, tag_of(key), room);
         self.index.note(place, &self.arena);
         Ok(())

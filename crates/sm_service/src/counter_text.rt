@@ -1,4 +1,4 @@
-ghost use Rattle.std.specs.Prelude.{◌≡◌, IfOk, OnOk, OnErr, length, option_map};
+ghost use Rattle.std.specs.Prelude.{◌≡◌, IfOk, IfErr, OnOk, OnErr, length, nat_le, not, option_map};
 ghost use Rattle.sm_map.specs.KeyMap.{held_at};
 ghost use Rattle.sm_map.specs.Val.{held_of};
 ghost use Rattle.sm_service.specs.LentRequest.{request_lent};
@@ -11,7 +11,7 @@ use crate::reply::Reply;
 use crate::request::Request;
 use sm_body::logged::Logged;
 use sm_body::machine::Machine;
-use sm_map::arena_map::ArenaMap;
+use sm_map::arena_map::{ArenaMap, LONG_TEXT};
 use sm_map::val::Val;
 use std::alloc::{AllocError, Global};
 use std::marker::Model;
@@ -78,6 +78,27 @@ impl Machine for KeyMachine {
 
     fn answer(&mut self, alloc: Global, request: &Request) -> Result<Reply, AllocError> {
         self.answer_lent(alloc, request.lend())
+    }
+
+    // A long text of a `put` stays in its memory.
+    fn answer_owned(
+        &mut self,
+        alloc: Global,
+        request: Request,
+    ) -> Result<Reply, (Request, AllocError)> {
+        match request {
+            Request::Put(key, text) => {
+                self.drop_the_dead(alloc);
+                match put_owned(&mut self.map, key.as_bytes(), Vec::from(text)) {
+                    Ok(made) => Ok(made),
+                    Err((text, refused)) => Err((Request::Put(key, Bytes::from(text)), refused)),
+                }
+            }
+            request => match self.answer(alloc, &request) {
+                Ok(made) => Ok(made),
+                Err(refused) => Err((request, refused)),
+            },
+        }
     }
 
     fn rebuild(&mut self, _: Global) -> Result<(), AllocError> {
@@ -164,11 +185,35 @@ fn put(map: &mut ArenaMap, key: &[u8], text: &[u8]) -> Result<Reply, AllocError>
     if let Some(Val::Count(_)) = map.get_at(position) {
         return Ok(Reply::WrongKind);
     }
-    if text.len() > MAX_TEXT {
+    if is_too_long(text.len()) {
         return Ok(Reply::TooLong);
     }
     map.put_at(position, Val::Text(text))?;
     Ok(Reply::Done)
+}
+
+// The same, and a long text stays in its memory; a refused one comes back.
+fn put_owned(map: &mut ArenaMap, key: &[u8], text: Vec<u8>) -> Result<Reply, (Vec<u8>, AllocError)>
+    ensures reply { IfOk result (λ made. made ≡ reply map.old.pairs (Request.Put key.now text.items)) }
+    ensures after { OnOk result (map.new.pairs ≡ after map.old.pairs (Request.Put key.now text.items)) }
+    ensures handed_back { IfErr result (λ back. back.0.items ≡ text.items) }
+    ensures err { OnErr result (map.new ≡ map.old) }
+{
+    let position = map.locate(key);
+    if let Some(Val::Count(_)) = map.get_at(position) {
+        return Ok(Reply::WrongKind);
+    }
+    if is_too_long(text.len()) {
+        return Ok(Reply::TooLong);
+    }
+    if text.len() >= LONG_TEXT {
+        map.put_owned_at(position, text)?;
+        return Ok(Reply::Done);
+    }
+    match map.put_at(position, Val::Text(&text)) {
+        Ok(()) => Ok(Reply::Done),
+        Err(refused) => Err((text, refused)),
+    }
 }
 
 fn inc(map: &mut ArenaMap, key: &[u8], amount: i64) -> Result<Reply, AllocError>
@@ -200,7 +245,7 @@ fn append(map: &mut ArenaMap, key: &[u8], tail: &[u8]) -> Result<Reply, AllocErr
         Some(Val::Count(_)) => return Ok(Reply::WrongKind),
         Some(Val::Text(text)) => text.len(),
     };
-    if length + tail.len() > MAX_TEXT {
+    if is_too_long(length + tail.len()) {
         return Ok(Reply::TooLong);
     }
     map.append_at(position, tail)?;
@@ -230,6 +275,13 @@ fn scan(
     let count = (most as usize).min(MAX_SCANNED);
     let rows = map.scan(low, high, count)?;
     Ok(Reply::Pairs(PairList::new(alloc, &rows)?))
+}
+
+// Whether a key can't hold a text of so many bytes.
+fn is_too_long(count: usize) -> bool
+    ensures { result ≡ not (nat_le count MAX_TEXT) }
+{
+    count > MAX_TEXT
 }
 
 // The sum, where it has 64 bits.

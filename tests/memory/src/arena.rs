@@ -171,6 +171,26 @@ fn joined_pieces_read_back(rt: HostRuntime) {
     assert!(rt; shelf.bytes() == 18 + 40_000 + 70_000);
 }
 
+// Joins both pieces, and places the short ones beside, and tells whether all read the same.
+fn joins_memory(shelf: &mut Shelf, first: Vec<u8>, second: Vec<u8>, long: &[u8]) -> bool {
+    shelf.join(first).is_ok()
+        && shelf.last() == long
+        && matches!(shelf.join_and_place(second, b"key"), Ok(true))
+        && shelf.last() == long
+        && shelf.first() == b"abc".as_slice()
+}
+
+// A piece that joins has its own memory, and short pieces go on where they were.
+#[test]
+fn memory_joins(rt: HostRuntime) {
+    let mut shelf = new_shelf(&rt, rt.alloc(), b"abc");
+    let long = bytes(&rt, rt.alloc(), 3, 5_000);
+    let first = bytes(&rt, rt.alloc(), 3, 5_000);
+    let second = bytes(&rt, rt.alloc(), 3, 5_000);
+    assert!(rt; joins_memory(&mut shelf, first, second, &long));
+    assert!(rt; shelf.bytes() == 3 + 5_000 + 5_000 + 3 && shelf.held() == 1_024 + 10_000);
+}
+
 // Whether the shelf, which is dropped here, has these pieces first and last.
 fn ends_with(shelf: Shelf, first: &[u8], last: &[u8]) -> bool {
     shelf.first() == first && shelf.last() == last
@@ -219,9 +239,22 @@ fn pair_or_nothing(shelf: &mut Shelf, first: &[u8], second: &[u8]) -> bool {
     }
 }
 
+// Joins the piece and places a key, or hands the piece back and finds the arena as it was.
+fn join_or_nothing(shelf: &mut Shelf, alloc: Global, piece: &[u8]) -> bool {
+    let Ok(copy) = Vec::from_slice(alloc, piece) else {
+        return true;
+    };
+    let before = shelf.bytes();
+    match shelf.join_and_place(copy, b"key") {
+        Ok(key_reads) => key_reads && shelf.last() == piece && shelf.bytes() > before,
+        Err((copy, AllocError)) => copy.as_slice() == piece && shelf.bytes() == before,
+    }
+}
+
 // Does each of these once. What was placed first still reads the same, and nothing is dead.
-fn all_or_nothing(shelf: &mut Shelf, short: &[u8], long: &[u8]) -> bool {
+fn all_or_nothing(shelf: &mut Shelf, alloc: Global, short: &[u8], long: &[u8]) -> bool {
     place_or_nothing(shelf, short)
+        && join_or_nothing(shelf, alloc, long)
         && place_or_nothing(shelf, b"")
         && place_or_nothing(shelf, long)
         && lengthen_or_nothing(shelf)
@@ -231,9 +264,9 @@ fn all_or_nothing(shelf: &mut Shelf, short: &[u8], long: &[u8]) -> bool {
 }
 
 // Does so twice, which takes some nine chunks, so that the list of them grows twice.
-fn each_all_or_nothing(shelf: &mut Shelf, short: &[u8], long: &[u8]) -> bool {
+fn each_all_or_nothing(shelf: &mut Shelf, alloc: Global, short: &[u8], long: &[u8]) -> bool {
     for _ in 0..2 {
-        if !all_or_nothing(shelf, short, long) {
+        if !all_or_nothing(shelf, alloc, short, long) {
             return false;
         }
     }
@@ -251,6 +284,6 @@ fn refused_memory_changes_nothing(rt: HostRuntime) {
         return;
     };
     if let Ok(mut shelf) = Shelf::new(rt.alloc(), b"first") {
-        assert!(rt; each_all_or_nothing(&mut shelf, &short, &long));
+        assert!(rt; each_all_or_nothing(&mut shelf, rt.alloc(), &short, &long));
     }
 }

@@ -6,9 +6,11 @@ mod state;
 mod step;
 mod twins;
 
+use limits::holds_bytes;
 use numbers::Numbers;
 use sm_map::{ArenaMap, Val};
 use state::{make_all_in_two, rebuilt_in_two};
+use std::alloc::Global;
 use std::process::Abort;
 use std::test::Fail;
 use step::{Step, make_all, rebuilt};
@@ -59,6 +61,29 @@ fn one_search_serves(map: &mut ArenaMap) -> bool {
 fn one_search_serves_several_calls(rt: HostRuntime) {
     let mut map = ArenaMap::new(rt.alloc());
     assert!(rt; one_search_serves(&mut map));
+}
+
+// Makes the key hold so many bytes with their memory.
+fn gives(rt: &impl Abort, alloc: Global, map: &mut ArenaMap, key: &[u8], count: usize) -> bool {
+    let text = vec![in alloc; b'x'; count].ok().expect(rt, "memory");
+    let position = map.locate(key);
+    map.put_owned_at(position, text).is_ok()
+}
+
+// Texts join at a new key and over a text.
+fn texts_join(rt: &impl Abort, alloc: Global, map: &mut ArenaMap) -> bool {
+    gives(rt, alloc, map, b"a", 5_000)
+        && gives(rt, alloc, map, b"b", 3)
+        && gives(rt, alloc, map, b"a", 4_096)
+        && holds_bytes(map, b"a", 4_096)
+        && holds_bytes(map, b"b", 3)
+}
+
+#[test]
+fn texts_join_with_their_memory(rt: HostRuntime) {
+    let mut map = ArenaMap::new(rt.alloc());
+    assert!(rt; texts_join(&rt, rt.alloc(), &mut map));
+    assert!(rt; map.bytes() == 1 + 1 + 4_096 + 3 && map.dead() == 5_000);
 }
 
 // Writes over a text, whose byte is dead then.

@@ -217,6 +217,31 @@ fn rebuilt(alloc: Global, keys: &[u8], texts: &[u8], order: &[u32]) -> Option<u6
     u64::try_from(map.len()).ok()
 }
 
+/// Makes the key hold so many copies of the text in turn, each with its memory, and tells whether there was memory for
+/// them.
+fn put_owned(alloc: Global, map: &mut ArenaMap, key: &[u8], text: &[u8], count: usize) -> bool {
+    for _ in 0..count {
+        let Ok(copy) = Vec::from_slice(alloc, text) else {
+            return false;
+        };
+        let position = map.locate(key);
+        if map.put_owned_at(position, copy).is_err() {
+            return false;
+        }
+    }
+    true
+}
+
+/// The sum over the key, once it was made to hold so many copies of the text.
+fn given(alloc: Global, key: &[u8], text: &[u8], count: usize) -> Option<u64> {
+    let mut map = ArenaMap::new(alloc);
+    if put_owned(alloc, &mut map, key, text, count) {
+        Some(seen(map.get(key)))
+    } else {
+        None
+    }
+}
+
 /// Places the piece so many times.
 #[unsafe(no_mangle)]
 pub extern "C" fn bench_map_place(alloc: Global, piece: &[u8], count: usize) -> u64 {
@@ -239,6 +264,12 @@ pub extern "C" fn bench_map_put(
     most_dead: u64,
 ) -> u64 {
     written_over(alloc, keys, texts, order, most_dead).unwrap_or(u64::MAX)
+}
+
+/// Makes the key hold so many copies of the text in turn, each with its memory.
+#[unsafe(no_mangle)]
+pub extern "C" fn bench_map_given(alloc: Global, key: &[u8], text: &[u8], count: usize) -> u64 {
+    given(alloc, key, text, count).unwrap_or(u64::MAX)
 }
 
 /// Appends to the keys' texts in turn.

@@ -38,6 +38,10 @@ impl Shelf {
         self.arena.bytes()
     }
 
+    pub(crate) fn held(&self) -> u128 {
+        self.arena.held()
+    }
+
     pub(crate) fn dead(&self) -> u128 {
         self.arena.dead()
     }
@@ -62,6 +66,25 @@ impl Shelf {
         let (one, other) = self.arena.place_pair(first, second)?;
         self.last = other;
         Ok(self.arena.get(one) == first)
+    }
+
+    // Joins the piece, which is then the last one.
+    #[tactic(auto, using(sm_arena::specs::lemmas::Placing::placed_now, sm_arena::specs::lemmas::Placing::placed_later))]
+    pub(crate) fn join(&mut self, piece: Vec<u8>) -> Result<(), (Vec<u8>, AllocError)> {
+        self.last = self.arena.join(piece)?;
+        Ok(())
+    }
+
+    // Joins the one piece, which is then the last one, and places the other, and tells whether that one reads the same.
+    #[tactic(auto, using(sm_arena::specs::lemmas::Placing::pair_now, sm_arena::specs::lemmas::Placing::pair_later))]
+    pub(crate) fn join_and_place(
+        &mut self,
+        joined: Vec<u8>,
+        placed: &[u8],
+    ) -> Result<bool, (Vec<u8>, AllocError)> {
+        let (one, other) = self.arena.join_and_place(joined, placed)?;
+        self.last = one;
+        Ok(self.arena.get(other) == placed)
     }
 
     // Places the last piece followed by the tail, which is then the last one, and tells whether it reads so.

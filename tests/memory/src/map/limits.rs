@@ -79,7 +79,7 @@ fn longest_keys_are_scanned_and_removed(rt: HostRuntime) {
 }
 
 // Whether the key holds a text of so many bytes `x`.
-fn holds_bytes(map: &ArenaMap, key: &[u8], count: usize) -> bool {
+pub(crate) fn holds_bytes(map: &ArenaMap, key: &[u8], count: usize) -> bool {
     match map.get(key) {
         Some(Val::Text(text)) => text.len() == count && text.iter().all(|byte| *byte == b'x'),
         _ => false,
