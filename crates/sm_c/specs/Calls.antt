@@ -11,6 +11,7 @@ use Rattle.sm_handle.specs.Plans.{IsMove, IsPlanOf}
 use Rattle.sm_word.specs.Word.{server_of}
 use Rattle.sm_handle.specs.declared.act_fault.ActFault.{ActFault}
 use Rattle.sm_handle.specs.declared.handle_state.HandleState.{HandleState}
+use Rattle.sm_c.specs.Codes.{act_fault_code, pass_code}
 use Rattle.sm_c.specs.Reading.{TellsAdmission, TellsRecord, act_read}
 use Rattle.sm_c.specs.Words.{ArePartsOf, CameFrom, IsNoChange, IsNoServer, IsOfKind}
 use Rattle.sm_c.specs.declared.record_parts.RecordParts.{RecordParts}
@@ -33,21 +34,25 @@ abbrev pub AdmitsFrom : Option HandleState → Option HandleState → ℕ → �
 AdmitsFrom before after shard from number =
     (mode : Mode) × CameFrom from mode × AdmitsHandle before after shard mode number
 
+-- no shard, or no server, has the number, as the code says
+abbrev pub NamesNothing : ℕ → ℕ → ℕ → Type 0
+NamesNothing shard from code = ((code ≡ 10) × (MAX_SHARD < shard)) ⊎ ((code ≡ 2) × (MAX_SERVER < from))
+
 -- no shard or no server has the number, and nothing was done; or the pass has looked and isn't admitted, and the parts
--- are those of the record that was read
+-- are those of the record that was read; and the code says why
 abbrev pub RefusesFrom :
-    Option HandleState → Option HandleState → ℕ → ℕ → RecordParts → RecordParts → Type 0
-RefusesFrom before after shard from unread read =
-    ((after ≡ before) × (read ≡ unread) × ((MAX_SHARD < shard) ⊎ (MAX_SERVER < from)))
+    Option HandleState → Option HandleState → ℕ → ℕ → RecordParts → RecordParts → ℕ → Type 0
+RefusesFrom before after shard from unread read code =
+    ((after ≡ before) × (read ≡ unread) × NamesNothing shard from code)
     ⊎ ((mode : Mode) × (fault : ActFault) × CameFrom from mode × RefusesHandle before after shard mode fault
-    × TellsRecord (act_read fault) unread read)
+    × TellsRecord (act_read fault) unread read × (code ≡ pass_code fault))
 
 -- the same, and the word is that of the record that was read
-abbrev pub RefusesByWord : Option HandleState → Option HandleState → ℕ → ℕ → ℕ → ℕ → Type 0
-RefusesByWord before after shard from unread read =
-    ((after ≡ before) × (read ≡ unread) × ((MAX_SHARD < shard) ⊎ (MAX_SERVER < from)))
+abbrev pub RefusesByWord : Option HandleState → Option HandleState → ℕ → ℕ → ℕ → ℕ → ℕ → Type 0
+RefusesByWord before after shard from unread read code =
+    ((after ≡ before) × (read ≡ unread) × NamesNothing shard from code)
     ⊎ ((mode : Mode) × (fault : ActFault) × CameFrom from mode × RefusesHandle before after shard mode fault
-    × TellsAdmission fault unread read)
+    × TellsAdmission fault unread read × (code ≡ pass_code fault))
 
 -- the pass has seen more, in which these are the parts of the shard's record
 abbrev pub LooksAt : Option HandleState → Option HandleState → ℕ → RecordParts → Type 0
@@ -59,24 +64,27 @@ ChangesBoard before after shard kind server =
     (change : Change) × IsOfKind kind server change × CommandsHandle before after (ChangeOf shard change) (Ok tt)
 
 -- there is no such shard or change, and nothing was done; or the control refused a change of this kind and server, its
--- desk is as it was, and the parts are those of the record that was read
+-- desk is as it was, and the parts are those of the record that was read; and the code says why
 abbrev pub RefusesChange :
-    Option HandleState → Option HandleState → ℕ → ℕ → ℕ → RecordParts → RecordParts → Type 0
-RefusesChange before after shard kind server unread read =
-    ((after ≡ before) × (read ≡ unread) × ((MAX_SHARD < shard) ⊎ IsNoChange kind server))
+    Option HandleState → Option HandleState → ℕ → ℕ → ℕ → RecordParts → RecordParts → ℕ → Type 0
+RefusesChange before after shard kind server unread read code =
+    ((after ≡ before) × (read ≡ unread)
+    × (((code ≡ 10) × (MAX_SHARD < shard)) ⊎ ((code ≡ 2) × IsNoChange kind server)))
     ⊎ ((change : Change) × (fault : ActFault) × IsOfKind kind server change
-    × CommandsHandle before after (ChangeOf shard change) (Err fault) × TellsRecord (act_read fault) unread read)
+    × CommandsHandle before after (ChangeOf shard change) (Err fault) × TellsRecord (act_read fault) unread read
+    × (code ≡ act_fault_code fault))
 
 -- the control made the step of this kind of the server's restart
 abbrev pub Restarts : Option HandleState → Option HandleState → ℕ → ℕ → Type 0
 Restarts before after kind server =
     (step : Command) × IsStep kind server step × CommandsHandle before after step (Ok tt)
 
--- there is no such step, and nothing was done; or the control refused one of this kind
-abbrev pub RefusesRestart : Option HandleState → Option HandleState → ℕ → ℕ → Type 0
-RefusesRestart before after kind server =
-    ((after ≡ before) × IsNoStep kind server)
-    ⊎ ((step : Command) × (fault : ActFault) × IsStep kind server step × CommandsHandle before after step (Err fault))
+-- there is no such step, and nothing was done; or the control refused one of this kind; and the code says why
+abbrev pub RefusesRestart : Option HandleState → Option HandleState → ℕ → ℕ → ℕ → Type 0
+RefusesRestart before after kind server code =
+    ((after ≡ before) × (code ≡ 2) × IsNoStep kind server)
+    ⊎ ((step : Command) × (fault : ActFault) × IsStep kind server step × CommandsHandle before after step (Err fault)
+    × (code ≡ act_fault_code fault))
 
 -- the plan of the control for the shards that this server serves, or for 0 for the vacant ones
 abbrev pub PlansFrom : Option HandleState → Option HandleState → ℕ → Type 0

@@ -1,4 +1,5 @@
 pub mod Calls
+pub mod Codes
 pub mod Opening
 pub mod Reading
 pub mod Requests

@@ -1,6 +1,6 @@
 -- Requests of the sample service by their parts.
 use Rattle.std.specs.Prelude.{ℕ, ℤ, pos, ◌≡◌, ◌<◌, ◌⊎◌, ◌^◌, ◌-◌, List, Option, length, min}
-use Rattle.sm_ranges.specs.declared.limits.TheConstants.{MAX_KEY}
+use Rattle.sm_ranges.specs.declared.limits.TheConstants.{MAX_KEY, MAX_SHARD}
 use Rattle.sm_server.specs.declared.refusal.Refusal.{Refusal}
 use Rattle.sm_service.specs.declared.request.Request.{Request}
 use Rattle.sm_service.specs.declared.request.Request.TheVariants.{Get, Put, Append, Inc, Del, Scan}
@@ -8,8 +8,9 @@ use Rattle.sm_handle.specs.declared.handle_state.HandleState.{HandleState}
 use Rattle.sm_handle.specs.declared.act_fault.ActFault.{ActFault}
 use Rattle.sm_handle.specs.declared.served_as.ServedAs.TheVariants.{Refused}
 use Rattle.sm_handle.specs.Maps.{HoldsKeys, MakesReply}
-use Rattle.sm_handle.specs.Serving.{Carries, IsSentAs, RefusesCheckpoint, Serves}
+use Rattle.sm_handle.specs.Serving.{Carries, IsSentAs, RefusesCheckpoint, Serves, ServesNowhere}
 use Rattle.sm_handle.specs.declared.sent_as.SentAs.{SentAs}
+use Rattle.sm_c.specs.Codes.{act_fault_code, refusal_code}
 use Rattle.sm_c.specs.Words.{CameFrom}
 use Rattle.sm_c.specs.declared.sent_parts.SentParts.{SentParts}
 use Rattle.sm_c.specs.Reading.{TellsRecord, act_read, refusal_read}
@@ -56,17 +57,20 @@ SendsRequest pass envelope parts kind key other amount =
 abbrev pub TellsSent : Option HandleState → SentParts → Type 0
 TellsSent envelope parts = (sent : SentAs) × IsSentAs envelope sent × AreSentParts parts sent
 
--- nothing was done, or the server refused the envelope, and the parts are those of the record that was read
+-- no server, layout or envelope is kept, and nothing was done; or the server refused the envelope, and the parts are
+-- those of the record that was read; and the code says why
 abbrev pub ComesBack :
     Option HandleState → Option HandleState → Option HandleState → Option HandleState → Option HandleState
-    → RecordParts → RecordParts → Type 0
-ComesBack before after layout envelope kept unread read =
-    ((after ≡ before) × (kept ≡ envelope) × (read ≡ unread))
+    → RecordParts → RecordParts → ℕ → Type 0
+ComesBack before after layout envelope kept unread read code =
+    ((after ≡ before) × (kept ≡ envelope) × (read ≡ unread) × (code ≡ 1) × ServesNowhere before layout envelope)
     ⊎ ((refusal : Refusal) × Serves before after layout envelope kept (Refused refusal)
-    × TellsRecord (refusal_read refusal) unread read)
+    × TellsRecord (refusal_read refusal) unread read × (code ≡ refusal_code refusal))
 
--- nothing was done, or the pass made no checkpoint of the shard, and the parts are those of the record that was read
-abbrev pub LeavesShard : Option HandleState → Option HandleState → ℕ → RecordParts → RecordParts → Type 0
-LeavesShard before after shard unread read =
-    ((after ≡ before) × (read ≡ unread))
-    ⊎ ((fault : ActFault) × RefusesCheckpoint before after shard fault × TellsRecord (act_read fault) unread read)
+-- no shard has the number, and nothing was done; or the pass made no checkpoint of the shard, and the parts are those
+-- of the record that was read; and the code says why
+abbrev pub LeavesShard : Option HandleState → Option HandleState → ℕ → RecordParts → RecordParts → ℕ → Type 0
+LeavesShard before after shard unread read code =
+    ((after ≡ before) × (read ≡ unread) × (code ≡ 10) × (MAX_SHARD < shard))
+    ⊎ ((fault : ActFault) × RefusesCheckpoint before after shard fault × TellsRecord (act_read fault) unread read
+    × (code ≡ act_fault_code fault))

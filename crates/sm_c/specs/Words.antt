@@ -1,5 +1,5 @@
 -- What calls of words say.
-use Rattle.std.specs.Prelude.{ℕ, Bool, ◌≡◌, ◌<◌, ◌≤◌, ◌⊎◌, Some, None, true, false}
+use Rattle.std.specs.Prelude.{ℕ, Bool, ◌≡◌, ◌<◌, ◌≤◌, ◌⊎◌, ◌+◌, ◌*◌, ◌^◌, Some, None, true, false}
 use Rattle.sm_ranges.specs.declared.limits.TheConstants.{MAX_SERVER}
 use Rattle.sm_ranges.specs.Stand.{owner_number, other_number}
 use Rattle.sm_ownership.specs.declared.admit_fault.AdmitFault.{AdmitFault}
@@ -14,7 +14,8 @@ use Rattle.sm_ownership.specs.declared.record.TheConstants.{MAX_GENERATION}
 use Rattle.sm_ownership.specs.History.{after_admit, after_change, after_done}
 use Rattle.sm_ownership.specs.Rules.{accepts, admit_fault}
 use Rattle.sm_ownership.specs.Tables.{change_fault}
-use Rattle.sm_word.specs.Word.{IsWellFormed, phase_of, word_of}
+use Rattle.sm_word.specs.Word.{IsWellFormed, bit_of, phase_of, word_of}
+use Rattle.sm_c.specs.Codes.{admit_fault_code, change_fault_code}
 use Rattle.sm_c.specs.declared.record_parts.RecordParts.{RecordParts}
 
 -- a change has this kind, and names this server where it names one
@@ -58,17 +59,22 @@ abbrev pub ChangesWord : ℕ → ℕ → ℕ → ℕ → ℕ → Type 0
 ChangesWord word kind server ceiling next =
     (change : Change) × IsOfKind kind server change × ChangesBy word ceiling change next
 
--- the ceiling is above the greatest generation, no record has the word, or its record forbids the change
-abbrev pub ForbidsBy : ℕ → ℕ → Change → Type 0
-ForbidsBy word ceiling change =
-    (MAX_GENERATION < ceiling) ⊎ IsNoWord word
+-- as the code says, the ceiling is above the greatest generation, or no record has the word
+abbrev pub HasNoStep : ℕ → ℕ → ℕ → Type 0
+HasNoStep word ceiling code = ((code ≡ 5) × (MAX_GENERATION < ceiling)) ⊎ ((code ≡ 4) × IsNoWord word)
+
+-- the same, or its record forbids the change by the fault of the code
+abbrev pub ForbidsBy : ℕ → ℕ → Change → ℕ → Type 0
+ForbidsBy word ceiling change code =
+    HasNoStep word ceiling code
     ⊎ ((state : Record) × (fault : ChangeFault) × IsWellFormed state × (word_of state ≡ word)
-    × (change_fault ceiling state change ≡ Some fault))
+    × (change_fault ceiling state change ≡ Some fault) × (code ≡ change_fault_code fault))
 
 -- there is no such change; or the same of the change of this kind and server
-abbrev pub ForbidsChange : ℕ → ℕ → ℕ → ℕ → Type 0
-ForbidsChange word kind server ceiling =
-    IsNoChange kind server ⊎ ((change : Change) × IsOfKind kind server change × ForbidsBy word ceiling change)
+abbrev pub ForbidsChange : ℕ → ℕ → ℕ → ℕ → ℕ → Type 0
+ForbidsChange word kind server ceiling code =
+    ((code ≡ 2) × IsNoChange kind server)
+    ⊎ ((change : Change) × IsOfKind kind server change × ForbidsBy word ceiling change code)
 
 -- the word of the record after an admission, which no fault forbids and which can end
 abbrev pub AdmitsBy : ℕ → ℕ → ℕ → Mode → ℕ → Type 0
@@ -80,18 +86,19 @@ AdmitsBy word ceiling server mode next =
 abbrev pub AdmitsWord : ℕ → ℕ → ℕ → ℕ → ℕ → Type 0
 AdmitsWord word server from ceiling next = (mode : Mode) × CameFrom from mode × AdmitsBy word ceiling server mode next
 
--- the ceiling is above the greatest generation, no record has the word, or its record doesn't admit the server for a
--- request that came so
-abbrev pub RefusesBy : ℕ → ℕ → ℕ → Mode → Type 0
-RefusesBy word ceiling server mode =
-    (MAX_GENERATION < ceiling) ⊎ IsNoWord word
+-- there is no word to step from, or its record doesn't admit the server for a request that came so, by the fault of the
+-- code
+abbrev pub RefusesBy : ℕ → ℕ → ℕ → Mode → ℕ → Type 0
+RefusesBy word ceiling server mode code =
+    HasNoStep word ceiling code
     ⊎ ((state : Record) × (fault : AdmitFault) × IsWellFormed state × (word_of state ≡ word)
-    × (admit_fault ceiling state server mode ≡ Some fault))
+    × (admit_fault ceiling state server mode ≡ Some fault) × (code ≡ admit_fault_code fault))
 
 -- a number is no server's, or the same of a request that came from this server, or directly where it is 0
-abbrev pub RefusesWord : ℕ → ℕ → ℕ → ℕ → Type 0
-RefusesWord word server from ceiling =
-    IsNoServer server ⊎ (MAX_SERVER < from) ⊎ ((mode : Mode) × CameFrom from mode × RefusesBy word ceiling server mode)
+abbrev pub RefusesWord : ℕ → ℕ → ℕ → ℕ → ℕ → Type 0
+RefusesWord word server from ceiling code =
+    ((code ≡ 2) × (IsNoServer server ⊎ (MAX_SERVER < from)))
+    ⊎ ((mode : Mode) × CameFrom from mode × RefusesBy word ceiling server mode code)
 
 -- the word of the record after the end of its admission
 abbrev pub EndsWord : ℕ → ℕ → Type 0
@@ -110,6 +117,21 @@ abbrev pub ArePartsOf : RecordParts → Record → Type 0
 ArePartsOf parts state =
     (parts.phase ≡ phase_of state.stand) × (parts.admitted ≡ state.admitted) × (parts.owner ≡ owner_number state.stand)
     × (parts.other ≡ other_number state.stand) × (parts.generation ≡ state.generation)
+
+-- each part has room in a word
+abbrev pub FitWord : RecordParts → Type 0
+FitWord parts =
+    (parts.phase ≤ 5) × (parts.owner < 4096) × (parts.other < 4096) × (parts.generation ≤ MAX_GENERATION)
+
+-- the word of these parts
+abbrev pub parts_word : RecordParts → ℕ
+parts_word parts =
+    parts.phase * 2 ^ 61 + bit_of parts.admitted * 2 ^ 60 + parts.owner * 2 ^ 48 + parts.other * 2 ^ 36
+    + parts.generation
+
+-- no record has these parts
+abbrev pub HasNoRecord : RecordParts → Type 0
+HasNoRecord parts = (state : Record) → IsWellFormed state → ArePartsOf parts state → ⊥
 
 -- the word of the record that has these parts
 abbrev pub PacksParts : RecordParts → ℕ → Type 0

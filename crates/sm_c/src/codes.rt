@@ -1,5 +1,7 @@
 //! The codes by which calls answer C.
-ghost use Rattle.std.specs.Prelude.{◌≢◌, ◌<◌};
+ghost use Rattle.std.specs.Prelude.{◌≡◌, ◌≢◌, ◌<◌};
+ghost use Rattle.sm_c.specs.Codes.{act_fault_code, admit_fault_code, change_fault_code, command_fault_code, pass_code};
+ghost use Rattle.sm_c.specs.Codes.{refusal_code, restart_fault_code, told_code, word_fault_code};
 
 use crate::requests::RequestFault;
 use crate::word_fault::WordFault;
@@ -164,7 +166,8 @@ pub(crate) const KEPT_FULL: u32 = 63;
 
 /// The code of what forbids a step of a word.
 pub(crate) fn code_of_word(fault: WordFault) -> u32
-    ensures { result ≢ 0 }
+    ensures code { result ≡ word_fault_code fault }
+    ensures refused { result ≢ 0 }
 {
     match fault {
         WordFault::BadWord => BAD_WORD,
@@ -227,6 +230,7 @@ pub(crate) fn code_of_request(fault: RequestFault) -> u32
 
 /// The code of why a call on a handle did nothing.
 pub(crate) fn code_of_act(fault: ActFault) -> u32
+    ensures code { result ≡ act_fault_code fault }
     ensures refused { result ≢ 0 }
     ensures stays { result ≢ FORWARD }
 {
@@ -249,6 +253,7 @@ pub(crate) fn code_of_act(fault: ActFault) -> u32
 
 /// The code of why a server refused an envelope.
 pub(crate) fn code_of_refusal(refusal: Refusal) -> u32
+    ensures code { result ≡ refusal_code refusal }
     ensures refused { result ≢ 0 }
     ensures stays { result ≢ FORWARD }
 {
@@ -265,7 +270,8 @@ pub(crate) fn code_of_refusal(refusal: Refusal) -> u32
 /// stands in the way of calls that count each instruction.
 #[inline(always)]
 pub(crate) fn code_of_pass(fault: &ActFault) -> u32
-    ensures { result ≢ 0 }
+    ensures code { result ≡ pass_code fault.now }
+    ensures refused { result ≢ 0 }
 {
     match fault {
         ActFault::Admit(refusal) => code_of_told(refusal),
@@ -276,6 +282,7 @@ pub(crate) fn code_of_pass(fault: &ActFault) -> u32
 
 #[inline(always)]
 fn code_of_told(refusal: &ToldRefusal) -> u32
+    ensures code { result ≡ told_code refusal.now }
     ensures refused { result ≢ 0 }
     ensures stays { result ≢ FORWARD }
 {
@@ -286,6 +293,7 @@ fn code_of_told(refusal: &ToldRefusal) -> u32
 }
 
 fn code_of_admission(refusal: AdmitRefusal) -> u32
+    ensures code { result ≡ told_code refusal }
     ensures refused { result ≢ 0 }
     ensures stays { result ≢ FORWARD }
 {
@@ -296,6 +304,7 @@ fn code_of_admission(refusal: AdmitRefusal) -> u32
 }
 
 fn code_of_change(fault: ChangeFault) -> u32
+    ensures code { result ≡ change_fault_code fault }
     ensures refused { result ≢ 0 }
     ensures stays { result ≢ FORWARD }
 {
@@ -309,6 +318,7 @@ fn code_of_change(fault: ChangeFault) -> u32
 }
 
 fn code_of_admit(fault: AdmitFault) -> u32
+    ensures code { result ≡ admit_fault_code fault }
     ensures refused { result ≢ 0 }
     ensures stays { result ≢ FORWARD }
 {
@@ -323,6 +333,7 @@ fn code_of_admit(fault: AdmitFault) -> u32
 }
 
 fn code_of_command(fault: CommandFault) -> u32
+    ensures code { result ≡ command_fault_code fault }
     ensures refused { result ≢ 0 }
     ensures stays { result ≢ FORWARD }
 {
@@ -340,6 +351,7 @@ fn code_of_command(fault: CommandFault) -> u32
 }
 
 fn code_of_restart(fault: RestartFault) -> u32
+    ensures code { result ≡ restart_fault_code fault }
     ensures refused { result ≢ 0 }
     ensures stays { result ≢ FORWARD }
 {

@@ -13,7 +13,7 @@ ghost use Rattle.sm_word.specs.Word.{IsWellFormed, word_of};
 ghost use Rattle.sm_c.specs.Calls.{AdmitsFrom, ChangesBoard, LooksAt, RefusesChange, RefusesFrom, RefusesRestart};
 ghost use Rattle.sm_c.specs.Calls.{RefusesByWord, Restarts};
 ghost use Rattle.sm_c.specs.Words.{AcceptsWord, AdmitsWord, ArePartsOf, ChangesWord, EndsWord, ForbidsChange, HasNoEnd};
-ghost use Rattle.sm_c.specs.Words.{IsNoServer, IsNoWord, PacksParts, RefusesWord};
+ghost use Rattle.sm_c.specs.Words.{HasNoRecord, IsNoServer, IsNoWord, PacksParts, RefusesWord};
 
 mod codes;
 mod kinds;
@@ -57,7 +57,7 @@ pub extern "C" fn durkenzo_changed(
     next: &mut u64,
 ) -> u32
     ensures made { result ≡ 0 → ChangesWord word kind server ceiling next.new }
-    ensures refused { result ≢ 0 → ForbidsChange word kind server ceiling }
+    ensures refused { result ≢ 0 → ForbidsChange word kind server ceiling result }
     ensures kept { result ≢ 0 → next.new ≡ next.old }
 {
     let Some(change) = change_of(kind, server) else {
@@ -82,7 +82,7 @@ pub extern "C" fn durkenzo_admitted(
     next: &mut u64,
 ) -> u32
     ensures made { result ≡ 0 → AdmitsWord word server from ceiling next.new }
-    ensures refused { result ≢ 0 → RefusesWord word server from ceiling }
+    ensures refused { result ≢ 0 → RefusesWord word server from ceiling result }
     ensures kept { result ≢ 0 → next.new ≡ next.old }
 {
     let Some(server) = known_server(server) else {
@@ -137,6 +137,7 @@ pub extern "C" fn durkenzo_unpack(word: u64, parts: &mut RecordParts) -> u32
 #[unsafe(no_mangle)]
 pub extern "C" fn durkenzo_pack(parts: &RecordParts, word: &mut u64) -> u32
     ensures made { result ≡ 0 → PacksParts parts.now word.new }
+    ensures refused { result ≢ 0 → HasNoRecord parts.now }
     ensures kept { result ≢ 0 → word.new ≡ word.old }
 {
     match packed_word(parts) {
@@ -203,7 +204,7 @@ pub extern "C" fn durkenzo_open(
     ops: u16,
     ceiling: u64,
 ) -> u32
-    ensures made { result ≡ 0 → IsOpened chief.new.owned.state numbers.now ops ceiling }
+    ensures made { result ≡ 0 → IsOpened chief.new.owned.state numbers.now servers ops ceiling }
     ensures kept { result ≢ 0 → chief.new.owned.state ≡ chief.old.owned.state }
 {
     match chief.open(alloc, numbers, servers, ops, ceiling) {
@@ -287,7 +288,7 @@ pub extern "C" fn durkenzo_admit(
 ) -> u32
     ensures admitted { result ≡ 0 → AdmitsFrom pass.old.owned.state pass.new.owned.state shard from number.new }
     ensures refused { result ≢ 0
-        → RefusesFrom pass.old.owned.state pass.new.owned.state shard from read.old read.new }
+        → RefusesFrom pass.old.owned.state pass.new.owned.state shard from read.old read.new result }
     ensures unread { result ≡ 0 → read.new ≡ read.old }
     ensures unwritten { result ≢ 0 → number.new ≡ number.old }
 {
@@ -320,7 +321,7 @@ pub extern "C" fn durkenzo_admit_word(
 ) -> u32
     ensures admitted { result ≡ 0 → AdmitsFrom pass.old.owned.state pass.new.owned.state shard from number.new }
     ensures refused { result ≢ 0
-        → RefusesByWord pass.old.owned.state pass.new.owned.state shard from word.old word.new }
+        → RefusesByWord pass.old.owned.state pass.new.owned.state shard from word.old word.new result }
     ensures unread { result ≡ 0 → word.new ≡ word.old }
     ensures unwritten { result ≢ 0 → number.new ≡ number.old }
 {
@@ -370,7 +371,7 @@ pub extern "C" fn durkenzo_change(
 ) -> u32
     ensures made { result ≡ 0 → ChangesBoard chief.old.owned.state chief.new.owned.state shard kind server }
     ensures refused { result ≢ 0
-        → RefusesChange chief.old.owned.state chief.new.owned.state shard kind server read.old read.new }
+        → RefusesChange chief.old.owned.state chief.new.owned.state shard kind server read.old read.new result }
     ensures unread { result ≡ 0 → read.new ≡ read.old }
 {
     let Some(k) = ShardId::new(shard) else {
@@ -392,7 +393,7 @@ pub extern "C" fn durkenzo_change(
 #[unsafe(no_mangle)]
 pub extern "C" fn durkenzo_restart(chief: &mut Handle, kind: u8, server: u16) -> u32
     ensures made { result ≡ 0 → Restarts chief.old.owned.state chief.new.owned.state kind server }
-    ensures refused { result ≢ 0 → RefusesRestart chief.old.owned.state chief.new.owned.state kind server }
+    ensures refused { result ≢ 0 → RefusesRestart chief.old.owned.state chief.new.owned.state kind server result }
 {
     let Some(step) = step_of(kind, server) else {
         return BAD_ARGUMENT;

@@ -1,7 +1,7 @@
-ghost use Rattle.std.specs.Prelude.{◌≡◌, IsTrue, unwrap_or};
+ghost use Rattle.std.specs.Prelude.{◌≡◌, ◌↔◌, IfNone, IfSome, IsTrue, unwrap_or};
 ghost use Rattle.sm_ownership.specs.declared.record.Record.{Record as RecordValue};
 ghost use Rattle.sm_word.specs.Word.{IsWellFormed, phase_of, word_of};
-ghost use Rattle.sm_c.specs.Words.{ArePartsOf};
+ghost use Rattle.sm_c.specs.Words.{ArePartsOf, FitWord, parts_word};
 
 use sm_ownership::record::{MAX_GENERATION, Record};
 use sm_ranges::server_id::ServerId;
@@ -48,12 +48,11 @@ impl RecordParts {
     }
 
     /// The word that a record with these parts has, if there is one.
-    pub(crate) fn word(&self) -> Option<u64> {
-        if self.phase > 5
-            || u64::from(self.owner) >= SERVERS
-            || u64::from(self.other) >= SERVERS
-            || self.generation > MAX_GENERATION
-        {
+    pub(crate) fn word(&self) -> Option<u64>
+        ensures some { IfSome result (λ word. word ≡ parts_word self.now) }
+        ensures none { IfNone result (FitWord self.now → ⊥) }
+    {
+        if !self.fit() {
             return None;
         }
         let admitted = if self.admitted { ADMITTED } else { 0 };
@@ -61,9 +60,19 @@ impl RecordParts {
         Some(u64::from(self.phase) * PHASE + admitted + servers + self.generation)
     }
 
+    // Whether each part has room in a word.
+    fn fit(&self) -> bool
+        ensures { IsTrue result ↔ FitWord self.now }
+    {
+        self.phase <= 5
+            && u64::from(self.owner) < SERVERS
+            && u64::from(self.other) < SERVERS
+            && self.generation <= MAX_GENERATION
+    }
+
     /// Whether these are the same parts.
     pub(crate) fn is(&self, other: &RecordParts) -> bool
-        ensures { IsTrue result → self.now ≡ other.now }
+        ensures { IsTrue result ↔ (self.now ≡ other.now) }
     {
         self.generation == other.generation
             && self.owner == other.owner

@@ -5,6 +5,7 @@ ghost use Rattle.sm_handle.specs.Serving.{IsOfBoard, IsServiceOpened, KeepsNoAns
 ghost use Rattle.sm_handle.specs.Serving.{Serves, TellsAnswer};
 ghost use Rattle.sm_handle.specs.declared.served_as.ServedAs.TheVariants.{Answered, Forward, Refused};
 ghost use Rattle.sm_server.specs.declared.refusal.Refusal.{Refusal as RefusalValue};
+ghost use Rattle.sm_c.specs.Codes.{refusal_code};
 ghost use Rattle.sm_c.specs.Reading.{TellsRecord, refusal_read};
 ghost use Rattle.sm_c.specs.Requests.{ComesBack, LeavesShard, SendsRequest, TellsSent};
 
@@ -33,7 +34,7 @@ pub extern "C" fn durkenzo_open_service(
     ops: u16,
     ceiling: u64,
 ) -> u32
-    ensures made { result ≡ 0 → IsServiceOpened chief.new.owned.state shards kept ops ceiling }
+    ensures made { result ≡ 0 → IsServiceOpened chief.new.owned.state shards kept servers ops ceiling }
     ensures kept { result ≢ 0 → chief.new.owned.state ≡ chief.old.owned.state }
 {
     match chief.open_service(alloc, shards, kept, servers, ops, ceiling) {
@@ -90,7 +91,7 @@ pub extern "C" fn durkenzo_serve(
     ensures forwarded { result ≡ FORWARD → Serves pass.old.owned.state pass.new.owned.state layout.old.owned.state
         envelope.old.owned.state envelope.new.owned.state (Forward to.new) }
     ensures refused { result ≢ 0 → result ≢ FORWARD → ComesBack pass.old.owned.state pass.new.owned.state
-        layout.old.owned.state envelope.old.owned.state envelope.new.owned.state read.old read.new }
+        layout.old.owned.state envelope.old.owned.state envelope.new.owned.state read.old read.new result }
     ensures unread { result ≡ 0 → read.new ≡ read.old }
     ensures layout { layout.new.owned.state ≡ layout.old.owned.state }
     ensures unwritten { result ≢ FORWARD → to.new ≡ to.old }
@@ -157,7 +158,7 @@ pub extern "C" fn durkenzo_checkpoint(
     ensures made { result ≡ 0 → MakesCheckpoint pass.old.owned.state pass.new.owned.state shard
         generation.new }
     ensures refused { result ≢ 0
-        → LeavesShard pass.old.owned.state pass.new.owned.state shard read.old read.new }
+        → LeavesShard pass.old.owned.state pass.new.owned.state shard read.old read.new result }
     ensures unread { result ≡ 0 → read.new ≡ read.old }
     ensures unwritten { result ≢ 0 → generation.new ≡ generation.old }
 {
@@ -181,7 +182,7 @@ fn code_of_served(served: ServedAs, to: &mut u16, read: &mut RecordParts) -> u32
     ensures answered { result ≡ 0 → served ≡ Answered }
     ensures forwarded { result ≡ FORWARD → served ≡ Forward to.new }
     ensures refused { result ≢ 0 → result ≢ FORWARD → (refusal : RefusalValue) × (served ≡ Refused refusal)
-        × TellsRecord (refusal_read refusal) read.old read.new }
+        × TellsRecord (refusal_read refusal) read.old read.new × (result ≡ refusal_code refusal) }
     ensures unread { result ≡ 0 → read.new ≡ read.old }
     ensures unwritten { result ≢ FORWARD → to.new ≡ to.old }
 {

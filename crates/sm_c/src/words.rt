@@ -1,7 +1,9 @@
 //! Steps from word to word.
 ghost use Rattle.std.specs.Prelude.{◌≡◌, ◌≢◌, ◌⊎◌, IfErr, IfNone, IfOk, IfSome, None};
 ghost use Rattle.sm_word.specs.Known.{NewlyNamesServer};
-ghost use Rattle.sm_c.specs.Words.{AdmitsBy, ChangesBy, EndsWord, ForbidsBy, HasNoEnd, IsNoWord, PacksParts, RefusesBy};
+ghost use Rattle.sm_c.specs.Codes.{word_fault_code};
+ghost use Rattle.sm_c.specs.Words.{AdmitsBy, ChangesBy, EndsWord, ForbidsBy, HasNoEnd, HasNoRecord, IsNoWord};
+ghost use Rattle.sm_c.specs.Words.{PacksParts, RefusesBy};
 
 use crate::record_parts::RecordParts;
 use crate::word_fault::WordFault;
@@ -27,7 +29,7 @@ fn names_servers(change: &Change)
 /// The word after the change, or why there is none.
 pub(crate) fn changed_word(word: u64, change: Change, ceiling: u64) -> Result<u64, WordFault>
     ensures next { IfOk result (ChangesBy word ceiling change) }
-    ensures refused { IfErr result (λ fault. ForbidsBy word ceiling change) }
+    ensures refused { IfErr result (λ fault. ForbidsBy word ceiling change (word_fault_code fault)) }
 {
     if ceiling > MAX_GENERATION {
         return Err(WordFault::BadCeiling);
@@ -50,7 +52,7 @@ pub(crate) fn admitted_word(
     ceiling: u64,
 ) -> Result<u64, WordFault>
     ensures next { IfOk result (AdmitsBy word ceiling server mode) }
-    ensures refused { IfErr result (λ fault. RefusesBy word ceiling server mode) }
+    ensures refused { IfErr result (λ fault. RefusesBy word ceiling server mode (word_fault_code fault)) }
 {
     if MAX_GENERATION < ceiling {
         return Err(WordFault::BadCeiling);
@@ -80,7 +82,8 @@ pub(crate) fn ended_word(word: u64) -> Option<u64>
 
 /// The word of the record with these parts, or none where there is no such record.
 pub(crate) fn packed_word(parts: &RecordParts) -> Option<u64>
-    ensures { IfSome result (PacksParts parts.now) }
+    ensures made { IfSome result (PacksParts parts.now) }
+    ensures refused { IfNone result (HasNoRecord parts.now) }
 {
     let word = parts.word()?;
     let Some(state) = unpack(word) else {

@@ -1,10 +1,12 @@
 -- The bodies of a board that another program owns, and the books of new ones.
-use Rattle.std.specs.Prelude.{ℕ, ◌≡◌, List, length, map, Option, Some, None}
+use Rattle.std.specs.Prelude.{ℕ, zero, suc, ◌≡◌, ◌++◌, List, [], ◌∷◌, length, map, replicate, Option, Some, None}
 use Rattle.sm_control.specs.Controls.{ControlValue}
 use Rattle.sm_desk.specs.Desk.{DeskView}
 use Rattle.sm_place.specs.Books.{BooksView, new_books}
 use Rattle.sm_place.specs.Plans.{assign_plan, drain_plan}
 use Rattle.sm_place.specs.declared.plan.Plan.{Plan as PlanValue}
+use Rattle.sm_rows.specs.Domains.{equal_domains}
+use Rattle.sm_rows.specs.declared.limits.TheConstants.{MAX_DOMAIN_DOWN}
 use Rattle.sm_rows.specs.declared.domain_row.DomainRow.{DomainRow}
 use Rattle.sm_rows.specs.declared.group_row.GroupRow.{GroupRow}
 use Rattle.sm_rows.specs.declared.server_row.ServerRow.{ServerRow}
@@ -20,6 +22,18 @@ foreign_of numbers = map (λ number. record { number = number }) numbers
 abbrev pub desk_of_rows : List ServerRow → List GroupRow → List ShardRow → List DomainRow → ℕ → DeskView
 desk_of_rows servers groups shards domains ops =
     record { books = new_books servers groups shards domains; caps = record { ops = ops } }
+
+-- the rows of servers 1 to so many, each in a domain of its own
+abbrev pub first_servers : ℕ → List ServerRow
+first_servers zero = []
+first_servers (suc n) = first_servers n ++ (record { id = suc n; domain = n; capacity = 4096 } ∷ [])
+
+-- the desk of these servers, and of so many shards of load 1 and of one group, whose restarts this cap alone limits
+abbrev pub first_desk : ℕ → ℕ → ℕ → DeskView
+first_desk servers count ops =
+    desk_of_rows (first_servers servers) (record { limit = 4096; down = 4096 } ∷ [])
+    (replicate count (record { group = 0; load = 1; cap = 1 }))
+    (equal_domains MAX_DOMAIN_DOWN (first_servers servers)) ops
 
 -- the control of a new board with bodies of these limits, with a row for each shard of the settings and their other
 -- rows and limits

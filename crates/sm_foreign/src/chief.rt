@@ -5,7 +5,7 @@ ghost use Rattle.sm_control.specs.Controls.{Commanded};
 ghost use Rattle.sm_desk.specs.Desk.{desk_fault};
 ghost use Rattle.sm_settings.specs.SettingsLine.{values_of};
 ghost use Rattle.sm_settings.specs.SettingsRules.{KeepsRules};
-ghost use Rattle.sm_foreign.specs.Chiefs.{IsControlBy, desk_of_rows, planned_for};
+ghost use Rattle.sm_foreign.specs.Chiefs.{IsControlBy, desk_of_rows, first_desk, first_servers, planned_for};
 
 use crate::board_pass::BoardPass;
 use crate::foreign::Foreign;
@@ -62,7 +62,7 @@ impl<S: Service> Chief<S> {
         ensures count { IfOk result (λ chief. chief.value.chair.board.limits.count ≡ length bodies.items) }
         ensures ceiling { IfOk result (λ chief. chief.value.chair.board.limits.ceiling ≡ ceiling) }
         ensures bodies { IfOk result (λ chief. chief.value.chair.board.limits.bodies ≡ map S.limit bodies.items) }
-        ensures ops { IfOk result (λ chief. chief.value.desk.caps.ops ≡ ops) }
+        ensures desk { IfOk result (λ chief. chief.value.desk ≡ first_desk servers (length bodies.items) ops) }
     {
         if servers > 4095 {
             return Err(OpenFault::Servers);
@@ -186,28 +186,28 @@ impl Chief<Foreign> {
 }
 
 // Servers 1 to this one, each in a domain of its own.
-fn rows_of(alloc: Global, last: u16) -> Result<Vec<ServerRow>, AllocError> {
+fn rows_of(alloc: Global, last: u16) -> Result<Vec<ServerRow>, AllocError>
+    requires { last ≤ 4095 }
+    ensures { IfOk result (λ rows. rows.items ≡ first_servers last) }
+{
     let mut rows = Vec::new(alloc);
     for number in 0..last {
-        if number < 4095
-            && let Some(id) = ServerId::new(number + 1)
-        {
-            rows.push(ServerRow {
-                id,
-                domain: number,
-                capacity: 4096,
-            })?;
-        }
+        rows.push(ServerRow {
+            id: ServerId::of(number + 1),
+            domain: number,
+            capacity: 4096,
+        })?;
     }
     Ok(rows)
 }
 
 // The desk of so many servers, and of so many shards of load 1, all vacant and of one group.
 fn desk_of(alloc: Global, servers: u16, count: usize, ops: u16) -> Result<Desk, BooksFault>
-    requires { ops ≤ 4095 }
+    requires servers { servers ≤ 4095 }
+    requires ops { ops ≤ 4095 }
+    ensures desk { IfOk result (λ desk. desk ≡ first_desk servers count ops) }
     ensures count { IfOk result (λ desk. length desk.books.shards ≡ count) }
     ensures vacant { IfOk result (λ desk. All (λ shard. shard.stand ≡ Vacant) desk.books.shards) }
-    ensures ops { IfOk result (λ desk. desk.caps.ops ≡ ops) }
 {
     let groups = [GroupRow {
         limit: 4096,

@@ -1,5 +1,5 @@
 -- What calls do to the state of a handle.
-use Rattle.std.specs.Prelude.{ℕ, ◌≡◌, ◌≤◌, ◌⊎◌, ⊤, true, List, length, map}
+use Rattle.std.specs.Prelude.{ℕ, ◌≡◌, ◌≤◌, ⊤, true, List, length, map}
 use Rattle.std.specs.Prelude.{Option, Some, None, is_some, Result, Ok, Err}
 use Rattle.sm_ownership.specs.declared.mode.Mode.{Mode}
 use Rattle.sm_ownership.specs.declared.record.Record.{Record}
@@ -9,11 +9,12 @@ use Rattle.sm_rule.specs.Words.{IsWordOf}
 use Rattle.sm_desk.specs.declared.command.Command.{Command}
 use Rattle.sm_desk.specs.Desk.{desk_fault}
 use Rattle.sm_foreign.specs.declared.foreign.Foreign.{Foreign}
-use Rattle.sm_foreign.specs.Chiefs.{foreign_of}
+use Rattle.sm_foreign.specs.Chiefs.{first_desk, foreign_of}
 use Rattle.sm_foreign.specs.Controls.{Commanded}
 use Rattle.sm_foreign.specs.Holding.{AdmitsPass, EndsPermit}
 use Rattle.sm_handle.specs.declared.act_fault.ActFault.{ActFault}
-use Rattle.sm_handle.specs.declared.act_fault.ActFault.TheVariants.{WrongHandle, Admit, Command as CommandRefused}
+use Rattle.sm_handle.specs.declared.act_fault.ActFault.TheVariants.{WrongHandle, UnknownShard, Admit}
+use Rattle.sm_handle.specs.declared.act_fault.ActFault.TheVariants.{Command as CommandRefused}
 use Rattle.sm_handle.specs.declared.handle_state.HandleState.{HandleState}
 use Rattle.sm_handle.specs.declared.handle_state.HandleState.TheVariants.{Chief, Pass, TextChief, TextPass}
 
@@ -23,18 +24,20 @@ AdmitsState (Pass before) (Pass after) shard mode number =
     (before.held.1 ≡ None) × AdmitsPass before.held after.held shard mode number
 AdmitsState before after shard mode number = ⊥
 
--- the handle keeps no pass to foreign bodies that holds no permit, on a board with this shard
-abbrev pub AdmitsNowhere : Option HandleState → ℕ → Type 0
-AdmitsNowhere (Some (Pass pass)) shard =
-    (is_some pass.held.1 ≡ true) ⊎ (pass.held.0.board.limits.count ≤ shard)
-AdmitsNowhere state shard = ⊤
+-- this is why no pass is admitted: the handle keeps none to foreign bodies that holds no permit, or its board hasn't
+-- this shard
+abbrev pub AdmitsNowhere : Option HandleState → ℕ → ActFault → Type 0
+AdmitsNowhere (Some (Pass pass)) shard WrongHandle = is_some pass.held.1 ≡ true
+AdmitsNowhere (Some (Pass pass)) shard UnknownShard = pass.held.0.board.limits.count ≤ shard
+AdmitsNowhere (Some (Pass pass)) shard fault = ⊥
+AdmitsNowhere state shard fault = fault ≡ WrongHandle
 
 -- a pass isn't admitted and has looked; or the state is as it was, and admits nowhere
 abbrev pub RefusesState : HandleState → HandleState → ℕ → Mode → ActFault → Type 0
 RefusesState (Pass before) (Pass after) shard mode (Admit refusal) =
     PassLooks before.held.0 after.held.0 × RefusedBy before.held.0 after.held.0 shard mode refusal
     × (after.held.1 ≡ before.held.1)
-RefusesState before after shard mode fault = (after ≡ before) × AdmitsNowhere (Some before) shard
+RefusesState before after shard mode fault = (after ≡ before) × AdmitsNowhere (Some before) shard fault
 
 -- the admission of the pass has ended, and it holds nothing
 abbrev pub EndsState : HandleState → HandleState → ℕ → Type 0
@@ -95,7 +98,7 @@ AdmitsHandle before after shard mode number = ⊥
 -- the same of a refusal; a handle without a state keeps none
 abbrev pub RefusesHandle : Option HandleState → Option HandleState → ℕ → Mode → ActFault → Type 0
 RefusesHandle (Some before) (Some after) shard mode fault = RefusesState before after shard mode fault
-RefusesHandle before after shard mode fault = (before ≡ None) × (after ≡ None)
+RefusesHandle before after shard mode fault = (before ≡ None) × (after ≡ None) × (fault ≡ WrongHandle)
 
 -- the same of the end of an admission
 abbrev pub EndsHandle : Option HandleState → Option HandleState → ℕ → Type 0
@@ -125,9 +128,11 @@ IsPassOf chief pass server = ⊥
 abbrev pub foreign_limits : List ℕ → List ℕ
 foreign_limits numbers = map (λ (body : Foreign). body.number) (foreign_of numbers)
 
--- the handle keeps the control of a board with a body for each number, under this cap of restarts and this ceiling
-abbrev pub IsOpened : Option HandleState → List ℕ → ℕ → ℕ → Type 0
-IsOpened (Some (Chief chief)) numbers ops ceiling =
+-- the handle keeps the control of a new board with a body for each number, of so many servers, under this cap of
+-- restarts and this ceiling
+abbrev pub IsOpened : Option HandleState → List ℕ → ℕ → ℕ → ℕ → Type 0
+IsOpened (Some (Chief chief)) numbers servers ops ceiling =
     (chief.value.chair.board.limits.count ≡ length numbers) × (chief.value.chair.board.limits.ceiling ≡ ceiling)
-    × (chief.value.chair.board.limits.bodies ≡ foreign_limits numbers) × (chief.value.desk.caps.ops ≡ ops)
-IsOpened state numbers ops ceiling = ⊥
+    × (chief.value.chair.board.limits.bodies ≡ foreign_limits numbers)
+    × (chief.value.desk ≡ first_desk servers (length numbers) ops)
+IsOpened state numbers servers ops ceiling = ⊥

@@ -1,6 +1,7 @@
 -- Boards of the sample service, their passes, and envelopes, that handles keep.
-use Rattle.std.specs.Prelude.{ℕ, ◌≡◌, ⊤, [], replicate, Option, Some}
+use Rattle.std.specs.Prelude.{ℕ, ◌≡◌, ◌≤◌, ⊤, [], replicate, Option, Some, None}
 use Rattle.sm_body.specs.Service.{Meaning, meaning_of}
+use Rattle.sm_foreign.specs.Chiefs.{first_desk}
 use Rattle.sm_rule.specs.Passes.{PassLooks, record_of}
 use Rattle.sm_rule.specs.Views.{Begins}
 use Rattle.sm_server.specs.Answers.{AnswerValue}
@@ -13,7 +14,7 @@ use Rattle.sm_service.specs.Service.{after, key_of_request, reply}
 use Rattle.sm_service.specs.declared.reply.Reply.{Reply as ReplyValue}
 use Rattle.sm_service.specs.declared.request.Request.{Request}
 use Rattle.sm_handle.specs.declared.act_fault.ActFault.{ActFault}
-use Rattle.sm_handle.specs.declared.act_fault.ActFault.TheVariants.{Checkpoint}
+use Rattle.sm_handle.specs.declared.act_fault.ActFault.TheVariants.{Checkpoint, UnknownShard, WrongHandle}
 use Rattle.sm_handle.specs.declared.answer_parts.AnswerParts.{AnswerParts}
 use Rattle.sm_handle.specs.declared.handle_state.HandleState.{HandleState}
 use Rattle.sm_handle.specs.declared.handle_state.HandleState.TheVariants.{Answer, Envelope, Layout, TextChief, TextPass}
@@ -25,13 +26,14 @@ use Rattle.sm_handle.specs.declared.served_as.ServedAs.TheVariants.{Answered, Fo
 abbrev pub sample : Meaning Request ReplyValue
 sample = meaning_of [] after reply key_of_request
 
--- the handle keeps the control of a board of so many empty bodies that keep so many requests each, under this cap of
--- restarts and this ceiling
-abbrev pub IsServiceOpened : Option HandleState → ℕ → ℕ → ℕ → ℕ → Type 0
-IsServiceOpened (Some (TextChief chief)) count kept ops ceiling =
+-- the handle keeps the control of a new board of so many empty bodies that keep so many requests each, of so many
+-- servers, under this cap of restarts and this ceiling
+abbrev pub IsServiceOpened : Option HandleState → ℕ → ℕ → ℕ → ℕ → ℕ → Type 0
+IsServiceOpened (Some (TextChief chief)) count kept servers ops ceiling =
     (chief.value.chair.board.limits.count ≡ count) × (chief.value.chair.board.limits.ceiling ≡ ceiling)
-    × (chief.value.chair.board.limits.bodies ≡ replicate count kept) × (chief.value.desk.caps.ops ≡ ops)
-IsServiceOpened state count kept ops ceiling = ⊥
+    × (chief.value.chair.board.limits.bodies ≡ replicate count kept)
+    × (chief.value.desk ≡ first_desk servers count ops)
+IsServiceOpened state count kept servers ops ceiling = ⊥
 
 -- the handle keeps an envelope with this number for this shard, which came so and was forwarded so often
 abbrev pub IsSentAs : Option HandleState → SentAs → Type 0
@@ -72,6 +74,11 @@ Serves (Some (TextPass before)) (Some (TextPass after)) (Some (Layout bounds)) (
     × KeepsOutcome kept outcome served
 Serves before after layout envelope kept served = ⊥
 
+-- the handles keep no pass that acts as a server, no layout or no envelope
+abbrev pub ServesNowhere : Option HandleState → Option HandleState → Option HandleState → Type 0
+ServesNowhere (Some (TextPass pass)) (Some (Layout bounds)) (Some (Envelope envelope)) = pass.server ≡ None
+ServesNowhere pass layout envelope = ⊤
+
 -- where the handles keep a pass and an envelope, these are of one board
 abbrev pub IsOfBoard : Option HandleState → Option HandleState → Type 0
 IsOfBoard (Some (TextPass pass)) (Some (Envelope envelope)) = envelope.note.board ≡ pass.board
@@ -94,8 +101,13 @@ MakesCheckpoint (Some (TextPass before)) (Some (TextPass after)) shard generatio
     HasMadeCheckpoint before shard after × (generation ≡ (record_of after shard).generation)
 MakesCheckpoint before after shard generation = ⊥
 
--- the pass made no checkpoint of the shard, by this fault; or nothing was done
+-- this is why there is no checkpoint: the handle keeps no pass of the sample service, or its board hasn't this shard
+abbrev pub BasesNowhere : Option HandleState → ℕ → ActFault → Type 0
+BasesNowhere (Some (TextPass pass)) shard fault = (fault ≡ UnknownShard) × (pass.board.limits.count ≤ shard)
+BasesNowhere state shard fault = fault ≡ WrongHandle
+
+-- the pass made no checkpoint of the shard, by this fault; or nothing was done, since there is none to make
 abbrev pub RefusesCheckpoint : Option HandleState → Option HandleState → ℕ → ActFault → Type 0
 RefusesCheckpoint (Some (TextPass before)) (Some (TextPass after)) shard (Checkpoint fault) =
     CheckpointRefused before shard after fault
-RefusesCheckpoint before after shard fault = after ≡ before
+RefusesCheckpoint before after shard fault = (after ≡ before) × BasesNowhere before shard fault

@@ -25,7 +25,7 @@ impl Handle {
         ops: u16,
         ceiling: u64,
     ) -> Result<(), OpenFault>
-        ensures made { OnOk result (IsOpened self.new.owned.state numbers.now ops ceiling) }
+        ensures made { OnOk result (IsOpened self.new.owned.state numbers.now servers ops ceiling) }
         ensures refused { IfErr result (λ fault. self.new.owned.state ≡ self.old.owned.state) }
     {
         let Ok(bodies) = Foreign::all(alloc, numbers) else {

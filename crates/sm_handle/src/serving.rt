@@ -3,7 +3,8 @@ ghost use Rattle.std.specs.Prelude.{◌≡◌, [], IfErr, IfOk, IfSome, IsSome, 
 ghost use Rattle.sm_handle.specs.declared.handle_state.HandleState.TheVariants.{Envelope as Sent};
 ghost use Rattle.sm_handle.specs.declared.handle_state.HandleState.TheVariants.{Layout as LayoutOf, TextPass};
 ghost use Rattle.sm_handle.specs.Serving.{Carries, IsOfBoard, IsSentAs, IsServiceOpened, KeepsNoAnswer};
-ghost use Rattle.sm_handle.specs.Serving.{KeepsNoEnvelope, MakesCheckpoint, RefusesCheckpoint, Serves, TellsAnswer};
+ghost use Rattle.sm_handle.specs.Serving.{KeepsNoEnvelope, MakesCheckpoint, RefusesCheckpoint, Serves};
+ghost use Rattle.sm_handle.specs.Serving.{ServesNowhere, TellsAnswer};
 
 use crate::act_fault::ActFault;
 use crate::answer_parts::AnswerParts;
@@ -38,7 +39,7 @@ impl Handle {
         ops: u16,
         ceiling: u64,
     ) -> Result<(), OpenFault>
-        ensures made { OnOk result (IsServiceOpened self.new.owned.state count kept ops ceiling) }
+        ensures made { OnOk result (IsServiceOpened self.new.owned.state count kept servers ops ceiling) }
         ensures refused { IfErr result (λ fault. self.new.owned.state ≡ self.old.owned.state) }
     {
         let Ok(bodies) = empty_bodies(alloc, count, kept) else {
@@ -86,6 +87,9 @@ impl Handle {
         ensures served { IfOk result (Serves self.old.owned.state self.new.owned.state layout.old.owned.state
             envelope.old.owned.state envelope.new.owned.state) }
         ensures layout { layout.new.owned.state ≡ layout.old.owned.state }
+        ensures refused { IfErr result
+            (λ fault. ServesNowhere self.old.owned.state layout.old.owned.state envelope.old.owned.state) }
+        ensures fault { IfErr result (λ fault. fault ≡ ActFault.WrongHandle) }
         ensures kept { IfErr result (λ fault. self.new.owned.state ≡ self.old.owned.state) }
         ensures back { IfErr result (λ fault. envelope.new.owned.state ≡ envelope.old.owned.state) }
     {
@@ -201,16 +205,26 @@ fn served_by(
     requires { IsOfBoard (Some state.old) (Some sent) }
     ensures served { IfOk result.1
         (Serves (Some state.old) (Some state.new) (Some layout.now) (Some sent) (Some result.0)) }
+    ensures refused { IfErr result.1 (λ fault. ServesNowhere (Some state.old) (Some layout.now) (Some sent)) }
+    ensures fault { IfErr result.1 (λ fault. fault ≡ ActFault.WrongHandle) }
     ensures kept { IfErr result.1 (λ fault. state.new ≡ state.old) }
     ensures back { IfErr result.1 (λ fault. result.0 ≡ sent) }
 {
-    match (state, layout, sent) {
-        (HandleState::TextPass(pass), HandleState::Layout(layout), HandleState::Envelope(envelope))
-            if pass.server().is_some() => {
+    let HandleState::TextPass(pass) = state else {
+        return (sent, Err(ActFault::WrongHandle));
+    };
+    if pass.server().is_none() {
+        return (sent, Err(ActFault::WrongHandle));
+    }
+    let HandleState::Layout(layout) = layout else {
+        return (sent, Err(ActFault::WrongHandle));
+    };
+    match sent {
+        HandleState::Envelope(envelope) => {
             let (next, served) = serve_at(pass, layout, envelope);
             (next, Ok(served))
         }
-        (_, _, sent) => (sent, Err(ActFault::WrongHandle)),
+        other => (other, Err(ActFault::WrongHandle)),
     }
 }
 

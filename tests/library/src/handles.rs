@@ -4,6 +4,17 @@ use sm_handle::{ActFault, Handle};
 use sm_ownership::change::Change;
 use sm_ownership::mode::Mode;
 use sm_ranges::{ServerId, ShardId};
+use std::alloc::Global;
+
+// Shard 1, of the board of two that the control's handle keeps from now on: server 1 owns it, and has the pass.
+fn open(alloc: Global, chief: &mut Handle, pass: &mut Handle) -> Option<ShardId> {
+    let (one, k) = (ServerId::of(1), ShardId::new(1)?);
+    let assign = Command::Change(k, Change::Assign(one));
+    let done = chief.open(alloc, &[70, 80], 2, 1, 100).is_ok()
+        && chief.command(assign).is_ok()
+        && pass.pass(alloc, chief, Some(one)).is_ok();
+    if done { Some(k) } else { None }
+}
 
 #[test]
 fn admits_and_finishes(rt: HostRuntime) {
@@ -20,6 +31,23 @@ fn admits_and_finishes(rt: HostRuntime) {
     assert!(rt; matches!(pass.admit(k, Mode::Direct), Ok(80)));
     assert!(rt; matches!(pass.finish(), Ok(3)));
     assert!(rt; matches!(pass.finish(), Err(ActFault::WrongHandle)));
+    pass.close(alloc);
+    chief.close(alloc);
+}
+
+#[test]
+fn close_ends_an_admission(rt: HostRuntime) {
+    let alloc = rt.alloc();
+    let (mut chief, mut pass) = (Handle::new(alloc), Handle::new(alloc));
+    let Some(k) = open(alloc, &mut chief, &mut pass) else {
+        unreachable!()
+    };
+    assert!(rt; matches!(pass.admit(k, Mode::Direct), Ok(80)));
+    pass.close(alloc);
+    assert!(rt; matches!(pass.admit(k, Mode::Direct), Err(ActFault::WrongHandle)));
+    assert!(rt; pass.pass(alloc, &mut chief, Some(ServerId::of(1))).is_ok());
+    assert!(rt; matches!(pass.admit(k, Mode::Direct), Ok(80)));
+    assert!(rt; matches!(pass.finish(), Ok(5)));
     pass.close(alloc);
     chief.close(alloc);
 }

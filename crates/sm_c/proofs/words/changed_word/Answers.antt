@@ -24,4 +24,4 @@ returns-in-Ok-clause-next c =
 pub returns-in-Err-clause-refused : goal.returns-in-Err-clause-refused
 returns-in-Err-clause-refused c =
     let known = (c.in-Some.ensures c.in-Some.state).0 refl in
-    inr (inr (c.in-Some.state, c.in-Err.fault, known.0, known.1, sym c.in-Err.ensures.fault))
+    inr (c.in-Some.state, c.in-Err.fault, known.0, known.1, sym c.in-Err.ensures.fault, refl)
