@@ -6,6 +6,7 @@ use std::io;
 use std::net::SocketAddr;
 use std::sync::Arc;
 use std::time::Duration;
+use tokio::net::TcpListener;
 use tokio::runtime::{Builder, Runtime};
 use tokio::signal::unix::{signal, Signal, SignalKind};
 
@@ -16,6 +17,7 @@ pub struct Attendant {
     runtime: Runtime,
     terminate: Signal,
     interrupt: Signal,
+    page: Option<TcpListener>,
 }
 
 impl Attendant {
@@ -37,24 +39,38 @@ impl Attendant {
             runtime,
             terminate,
             interrupt,
+            page: None,
         })
     }
 
-    /// Serves the page at this address, if any, until a signal comes, or a thread of the cluster or its store ends.
+    /// Takes this address for the page: who asks there waits until [`Attendant::attend`].
+    ///
+    /// # Errors
+    ///
+    /// Where it is taken, or isn't this machine's.
+    pub fn bind_page(&mut self, address: SocketAddr) -> Result<(), Fault> {
+        let told = |error| format!("{address}: {error}; --http-port takes another port");
+        let bound = self.runtime.block_on(TcpListener::bind(address));
+        self.page = Some(bound.map_err(told)?);
+        Ok(())
+    }
+
+    /// Serves the page, if it has an address, until a signal comes, or a thread of the cluster or its store ends.
     ///
     /// # Errors
     ///
     /// Where the page can't be served, or no signal ended it.
-    pub fn attend(self, cluster: &Arc<Cluster>, page: Option<SocketAddr>) -> Result<(), Fault> {
+    pub fn attend(self, cluster: &Arc<Cluster>) -> Result<(), Fault> {
         let Attendant {
             runtime,
             mut terminate,
             mut interrupt,
+            page,
         } = self;
         let site = async {
             match page {
                 None => std::future::pending().await,
-                Some(address) => http::serve(cluster.clone(), address).await,
+                Some(listener) => http::serve(cluster.clone(), listener).await,
             }
         };
         runtime.block_on(async {

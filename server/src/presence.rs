@@ -98,11 +98,21 @@ impl Presence {
         !is_closed && self.standing(server).is_some_and(Standing::is_reached)
     }
 
-    /// The first server but this one that is away, or may go, and how it stands.
+    /// The first server but this one that is away for a restart, or may go for one, and how it stands; if there is
+    /// none, the first one that has failed.
     pub fn away(&self, but: u16) -> Option<(u16, Standing)> {
         let others = (1..=self.servers()).filter(|it| *it != but);
         let mut standings = others.filter_map(|it| Some((it, self.standing(it)?)));
-        standings.find(|it| !matches!(it.1, Standing::Up | Standing::Asked))
+        let restarts =
+            |it: &(u16, Standing)| matches!(it.1, Standing::Approved | Standing::Stopped);
+        let restarting = standings.clone().find(restarts);
+        restarting.or_else(|| standings.find(|it| it.1 == Standing::Failed))
+    }
+
+    /// The servers that have failed.
+    pub fn failed(&self) -> Vec<u16> {
+        let has_failed = |it: &u16| self.standing(*it) == Some(Standing::Failed);
+        (1..=self.servers()).filter(has_failed).collect()
     }
 
     /// Sets the standing of a server that there is, and returns the version since then.

@@ -92,5 +92,9 @@ mod tests {
             "waiting for server 2, failed"
         );
         assert_eq!(presence.away(2), None);
+        // It may go once this one is back, whoever has failed.
+        presence.set(3, Standing::Stopped);
+        assert_eq!(presence.away(1), Some((3, Standing::Stopped)));
+        assert_eq!(presence.failed(), [2]);
     }
 }

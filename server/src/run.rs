@@ -32,11 +32,15 @@ const MOST_USUAL_THREADS: usize = 4;
 /// Serves until a signal ends it.
 pub fn run(options: &Options) -> Result<(), Fault> {
     begin_log(options)?;
-    let attendant = Attendant::new()?;
+    let mut attendant = Attendant::new()?;
     let configuration = configuration(options)?;
     let address = SocketAddr::new(options.bind, options.port);
     let told = |error| format!("{address}: {error}; --port takes another port");
     let listener = Acceptor::bind(address).map_err(told)?;
+    // A process joins others once nothing of this machine keeps it from serving.
+    if options.http_port > 0 {
+        attendant.bind_page(SocketAddr::new(options.bind, options.http_port))?;
+    }
     let joined = joined(options, &configuration, listener.local_addr()?)?;
     let storage = storage(options, &configuration, joined.as_ref())?;
     let cluster = Arc::new(Cluster::new(configuration, storage)?);
@@ -58,8 +62,7 @@ pub fn run(options: &Options) -> Result<(), Fault> {
         controlling();
         Ok(())
     })?);
-    let page = (options.http_port > 0).then(|| SocketAddr::new(options.bind, options.http_port));
-    let attended = attendant.attend(&cluster, page);
+    let attended = attendant.attend(&cluster);
     cluster.stop();
     waker.wake()?;
     let ended = end(&cluster, threads, between);

@@ -1,4 +1,5 @@
 //! How servers and shards stand, for whoever looks.
+use crate::presence::Standing;
 use durkenzo::Record;
 use serde::Serialize;
 use std::fmt;
@@ -37,7 +38,7 @@ impl ShardRow {
     }
 
     /// The same with its number and its keys.
-    pub fn line(&self) -> String {
+    fn line(&self) -> String {
         format!("{} {self} {}", self.shard, counted(self.keys))
     }
 }
@@ -79,6 +80,14 @@ pub struct ServerRow {
     pub doing: Option<String>,
     /// Its process, where servers have one each.
     pub process: Option<ProcessRow>,
+}
+
+impl ServerRow {
+    /// Whether it is up, and its process is there, where it has one.
+    pub fn is_up_and_there(&self) -> bool {
+        let is_there = self.process.as_ref().is_none_or(|it| it.number > 0);
+        self.standing == Standing::Up.name() && is_there
+    }
 }
 
 /// How the process of a server stands, where servers have one each.
@@ -139,6 +148,12 @@ impl fmt::Display for ServerRow {
     }
 }
 
+/// The names of what the line of a shard tells, in their order.
+const SHARD_COLUMNS: &str = "shard stand owner other admitted generation keys";
+/// Those of a server's, before and behind what is told of its process, where servers have one each.
+const SERVER_COLUMNS: [&str; 2] = ["server standing domain shards admissions", "doing"];
+const PROCESS_COLUMNS: &str = "process leads followed servers clients";
+
 /// How all stands.
 #[derive(Clone, Debug, Serialize)]
 pub struct Snapshot {
@@ -148,4 +163,73 @@ pub struct Snapshot {
     pub shards: Vec<ShardRow>,
     /// Where data lies.
     pub data: &'static str,
+}
+
+impl Snapshot {
+    /// The names of what is told of each shard, and then a line for each.
+    pub fn shard_lines(&self) -> Vec<String> {
+        let lines = self.shards.iter().map(ShardRow::line);
+        std::iter::once(SHARD_COLUMNS.to_owned())
+            .chain(lines)
+            .collect()
+    }
+
+    /// The names of what is told of each server, and then a line for each.
+    pub fn server_lines(&self) -> Vec<String> {
+        let [first, last] = SERVER_COLUMNS;
+        let names = match self.servers.iter().any(|it| it.process.is_some()) {
+            true => format!("{first} {PROCESS_COLUMNS} {last}"),
+            false => format!("{first} {last}"),
+        };
+        let lines = self.servers.iter().map(ToString::to_string);
+        std::iter::once(names).chain(lines).collect()
+    }
+}
+
+#[cfg(test)]
+mod tests {
+    use super::*;
+
+    fn server(process: Option<ProcessRow>) -> ServerRow {
+        ServerRow {
+            server: 1,
+            standing: "up",
+            domain: 1,
+            shards: 2,
+            admissions: None,
+            doing: None,
+            process,
+        }
+    }
+
+    #[test]
+    fn each_value_has_a_name() {
+        let process = ProcessRow {
+            number: 3,
+            leads: true,
+            followed: 9,
+            servers: "a:1".to_owned(),
+            clients: String::new(),
+        };
+        let shard = ShardRow {
+            shard: 0,
+            stand: "Serving",
+            owner: 1,
+            other: 0,
+            is_admitted: false,
+            generation: 1,
+            keys: Some(0),
+        };
+        for process in [None, Some(process)] {
+            let snapshot = Snapshot {
+                servers: vec![server(process)],
+                shards: vec![shard.clone()],
+                data: "",
+            };
+            for lines in [snapshot.server_lines(), snapshot.shard_lines()] {
+                let counts: Vec<_> = lines.iter().map(|it| it.split(' ').count()).collect();
+                assert!(counts.len() == 2 && counts[0] == counts[1], "{lines:?}");
+            }
+        }
+    }
 }

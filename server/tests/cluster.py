@@ -187,12 +187,12 @@ def eventually(look, seconds=PATIENCE):
 
 def rows(client):
     """What SM SERVERS tells of each server."""
-    return [it.decode().split() for it in client.ask("SM", "SERVERS")]
+    return client.rows("SERVERS")
 
 
 def shards(client):
     """The stand and the owner of each shard."""
-    return [tuple(it.decode().split()[1:3]) for it in client.ask("SM", "SHARDS")]
+    return [tuple(it[1:3]) for it in client.rows("SHARDS")]
 
 
 def is_settled(client, without=None):
@@ -413,10 +413,12 @@ def strangers_are_refused(several):
 
 
 def refused_by_name(program, several):
-    """Starts that are refused, beside a cluster that runs."""
+    """Starts that are refused, beside a cluster that runs; where the page's port is taken before anything else is said
+    to etcd."""
+    taken = several.processes[1].port
     for options, server, name in (
         (("--servers", 2), 1, "OTHERSETTINGS"), (("--shards", 5), 1, "OTHERSETTINGS"), ((), 2, "running already"),
-        ((), 9, "--name 9"),
+        ((), 9, "--name 9"), (("--http-port", taken), 2, "--http-port takes another port"),
     ):
         words = command(program, several, server, (*several.options, *options))
         ran = subprocess.run(words, capture_output=True, text=True, timeout=PATIENCE)
@@ -484,6 +486,21 @@ def migrations_lose_no_addition(program):
         assert not sum(load.unknown), load.unknown
         total = load.checked(client)
     return f"{total} additions, {moves} migrations"
+
+
+def shards_spread_over_servers_again(program):
+    """By one command, under load."""
+    with cluster(program) as several, Load(several, 6) as load, several.any() as client:
+        client.ask("SM", "DRAIN", 2)
+        owned = sorted(owner for _, owner in shards(client))
+        assert owned.count("2") == 0, owned
+        told = client.ask("SM", "SPREAD")
+        spread = sorted(owner for _, owner in shards(client))
+        assert spread == sorted("123" * (SHARDS // SERVERS)), (owned, told, spread)
+        assert len(told) == SHARDS // SERVERS and client.ask("SM", "SPREAD") == [], told
+        load.__exit__()
+        assert not load.errors, load.errors[:3]
+        return f"{load.checked(client)} additions"
 
 
 def kills_of_a_process_lose_nothing(program):
@@ -665,6 +682,25 @@ def restarts_are_told_when_a_process_may_end(program):
         return f"{load.checked(client)} additions, {len(load.errors)} of unknown outcome"
 
 
+def restarts_wait_for_no_process_that_has_failed(program):
+    with cluster(program) as several:
+        killed, server = (it for it in several.processes if it != several.leader())
+        several.processes[killed].kill()
+        del several.processes[killed]
+        with several.client(server) as client:
+            eventually(lambda: rows(client)[killed - 1][1] == "failed")
+            several.settled(without=killed)
+            began = time.monotonic()
+            told = str(served_answer(client, ("SM", "RESTART", server)))
+            took = time.monotonic() - began
+            assert told.startswith("REFUSED GlobalCap: ") and f"server {killed} has failed" in told, told
+            assert took < SOON and rows(client)[server - 1][1] == "up", (took, rows(client))
+            several.begin(killed)
+            eventually(lambda: rows(client)[killed - 1][1] == "up")
+            told = client.ask("SM", "RESTART", server)
+            assert "is stopped" in told, told
+
+
 TESTS = [
     any_process_answers_any_key,
     any_process_scans_all_keys,
@@ -672,6 +708,7 @@ TESTS = [
     reads_by_lease_make_no_transaction,
     a_process_past_its_lease_tells_what_others_wrote,
     migrations_lose_no_addition,
+    shards_spread_over_servers_again,
     kills_of_a_process_lose_nothing,
     who_does_not_wait_is_told,
     who_takes_the_place_of_a_process_is_asked,
@@ -679,6 +716,7 @@ TESTS = [
     kills_of_the_leader_let_migrations_go_on,
     kills_of_the_leader_let_drains_go_on,
     restarts_are_told_when_a_process_may_end,
+    restarts_wait_for_no_process_that_has_failed,
 ]
 
 if __name__ == "__main__":

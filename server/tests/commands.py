@@ -336,10 +336,17 @@ def words_of_sm_say_how_they_are_written(program):
             (("SM", "KEY", ""), "BADKEY"),
             (("SM", "ROUTES"), "REFUSED NotThere: SM ROUTES is there with --etcd alone;"),
             (("SM", "CALL", 1, 1, "DEL", "a"), "REFUSED NotThere: SM CALL is there with --data or --etcd alone;"),
+            (("SM", "SPREAD"), "REFUSED NotThere: SM SPREAD is there with --data or --etcd alone;"),
+            (("SM", "HELP", "nothing"), "REFUSED UnknownWord: SM has no such word, nor a name of its own that is so;"),
         ]:
             client.send(*words)
             found = client.read()
             assert isinstance(found, Refused) and str(found).startswith(wanted), (words, found)
+        assert client.ask("SM", "HELP", "NotThere")[0].startswith(b"NotThere: the word is there where data lies")
+        assert client.ask("SM", "HELP", "look") == [b"SM LOOK k: how shard k stands"]
+        for word, first in (("SHARDS", b"shard stand owner "), ("SERVERS", b"server standing domain ")):
+            names, *lines = client.ask("SM", word)
+            assert names.startswith(first) and {len(it.split()) for it in lines} == {len(names.split())}, names
         found = [client.ask("SM", "KEY", it) for it in ("a", "{a}b", *map(str, range(99)))]
         assert found[0] == found[1] and set(found) == set(range(8)), found
         for key in ("a", "7"):

@@ -18,7 +18,7 @@ def refused(client, *words):
 
 def stands(client):
     """How each shard stands, and how many keys it has, but for its generation, and the generations."""
-    rows = [it.decode().split(" ") for it in client.ask("SM", "SHARDS")]
+    rows = client.rows("SHARDS")
     return [it[:5] + it[6:] for it in rows], [int(it[5]) for it in rows]
 
 

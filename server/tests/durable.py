@@ -6,6 +6,7 @@
 A server that is killed at random under load, so often: tools/kills."""
 import contextlib
 import itertools
+import json
 import pathlib
 import random
 import re
@@ -43,7 +44,7 @@ def over(program, data, *options):
 
 def stands(client):
     """Each shard's stand and generation."""
-    return [it.split()[:6] for it in client.ask("SM", "SHARDS")]
+    return [it[:6] for it in client.rows("SHARDS")]
 
 
 def restarts_keep_all(program):
@@ -361,7 +362,7 @@ def kills_lose_nothing_that_was_answered(program):
 
 
 def owners(client):
-    return [it.split()[2] for it in client.ask("SM", "SHARDS")]
+    return [it[2] for it in client.rows("SHARDS")]
 
 
 def wait_until(is_so, what):
@@ -383,8 +384,47 @@ def drains_and_returns_go_on_at_the_next_start(program):
                 time.sleep(0.1)
             with over(program, data) as server, server.client() as client:
                 are_elsewhere = word == "DRAIN"
-                wait_until(lambda: b"2" not in owners(client) if are_elsewhere else owners(client) == before, word)
+                wait_until(lambda: "2" not in owners(client) if are_elsewhere else owners(client) == before, word)
                 wait_until(lambda: not any(b" of " in it for it in client.ask("SM", "SERVERS")), "its end is told")
+
+
+def restarts_wait_for_no_server_that_has_failed(program):
+    """As nobody has it be back; they do for one that restarts, until it has failed."""
+    with folder() as data, over(program, data) as server, server.client() as client, server.client() as other:
+        for begins in ((), ("ASK", "APPROVE")):
+            for word in begins:
+                client.ask("SM", word, 2)
+            if not begins:
+                client.ask("SM", "FAIL", 2)
+            other.send("SM", "RESTART", 1)
+            if begins:
+                waits = b"waiting for server 2, approved"
+                wait_until(lambda: any(waits in it for it in client.ask("SM", "SERVERS")), "it waits")
+                client.ask("SM", "FAIL", 2)
+            told = str(other.read())
+            assert told.startswith("REFUSED GlobalCap: ") and "server 2 has failed" in told, told
+            assert [it[1] for it in client.rows("SERVERS")] == ["up", "failed", "up", "up"]
+            client.ask("SM", "BACK", 2)
+        assert str(client.ask("SM", "RESTART", 1)).startswith("server 1 is back")
+
+
+def shards_spread_as_far_as_they_fit(program):
+    """What has no room elsewhere stays, which is told."""
+    rows = {
+        "version": 1, "bounds": ["", "g", "n", "t", "w"], "groups": [{"limit": 5, "down": 5}], "ops": 2, "kept": 9,
+        "servers": [{"id": it, "domain": it, "capacity": size} for it, size in ((1, 5), (2, 1), (3, 5))],
+        "shards": [{"group": 0, "load": 1, "cap": 1}] * 5, "ceiling": 10_000, "workers": 1,
+    }  # fmt: skip
+    with folder() as data:
+        settings = pathlib.Path(f"{data}.json")
+        settings.write_text(json.dumps(rows))
+        with served.served(program, "--data", data, "--settings", settings) as server, server.client() as client:
+            for shard, owner in enumerate(owners(client)):
+                if owner != "1":
+                    client.ask("SM", "MIGRATE", shard, 1)
+            told = client.ask("SM", "SPREAD")
+            assert sorted(owners(client)) == ["1", "1", "2", "3", "3"], (owners(client), told)
+            assert [it.split(b";")[0].split(b":")[1:2] for it in told].count([b" REFUSED NoCapacity"]) == 1, told
 
 
 def migrations_lose_no_addition(program):
@@ -546,6 +586,8 @@ TESTS = [
     full_disks_are_refused_by_name,
     waiting_stops_its_own_connections_alone,
     drains_and_returns_go_on_at_the_next_start,
+    restarts_wait_for_no_server_that_has_failed,
+    shards_spread_as_far_as_they_fit,
     migrations_lose_no_addition,
     kills_lose_nothing_that_was_answered,
 ]

@@ -94,7 +94,7 @@ def restarts_are_not_noticed(program):
         with server.client() as control:
             for _ in range(3):
                 assert len(control.ask("SM", "RESTART")) == SERVERS
-            rows = [it.decode().split(" ") for it in control.ask("SM", "SERVERS")]
+            rows = control.rows("SERVERS")
             assert all(it[1] == "up" and it[3] == str(SHARDS // SERVERS) for it in rows), rows
             return f"{3 * SERVERS} restarts"
 
@@ -122,7 +122,7 @@ def restarts_at_once_are_not_noticed(program):
 
 
 def servers_of(client):
-    return [it.decode().split(" ", 5) for it in client.ask("SM", "SERVERS")]
+    return client.rows("SERVERS", 5)
 
 
 def others_are_answered_while_a_server_restarts(program):
@@ -174,7 +174,7 @@ def paused_shards_hold_back_who_asks_for_them(program):
     with served(program, "--wait", 400) as server, server.client() as control, server.client() as client:
         control.ask("SET", "held", 1)
         with server.client() as look:
-            before = [it.decode().split(" ") for it in look.ask("SM", "SHARDS")]
+            before = look.rows("SHARDS")
         shard = next(it[0] for it in before if it[-1] == "1")
         assert control.ask("SM", "PAUSE", shard) == "OK"
         waiting = []

@@ -106,7 +106,7 @@ def compare(program, seed):
                 assert found == wanted(
                     answer
                 ), f"seed {seed}, line {at}, {line[:90]}: {found[:90]}, and not {answer[:90]}"
-            rows = [it.decode().split(" ") for it in client.ask("SM", "SERVERS")]
+            rows = client.rows("SERVERS")
     counts = collections.Counter(int(it[1]) for it in map(EXECUTED.search, answers) if it)
     assert {int(it[0]): int(it[4]) for it in rows} == {it: counts[it] for it in range(1, len(rows) + 1)}, rows
     return len(asked)

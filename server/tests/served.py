@@ -45,6 +45,11 @@ class Client:
             raise answer
         return answer
 
+    def rows(self, word, most=-1):
+        """What SM answers to this word: the words of each line behind the names of its columns, the last with all that
+        is left where there are this many more."""
+        return [it.decode().split(" ", most) for it in self.ask("SM", word)[1:]]
+
     def piped(self, commands):
         """The answers to these commands, which are sent at once; errors are among them."""
         self.socket.sendall(b"".join(packed(*it) for it in commands))

@@ -92,8 +92,8 @@ def what_is_not_counted_is_not_told(program):
             state = json.loads(got(port, "/state.json"))
             assert {it["keys"] for it in state["shards"]} == {it["admissions"] for it in state["servers"]} == {None}
             assert state["data"].startswith("in a folder") and b"# Keyspace" not in client.ask("INFO")
-            assert {it.split()[-1] for it in client.ask("SM", "SHARDS")} == {b"-"}
-            assert {it.split()[4] for it in client.ask("SM", "SERVERS")} == {b"-"}
+            assert {it[-1] for it in client.rows("SHARDS")} == {"-"}
+            assert {it[4] for it in client.rows("SERVERS")} == {"-"}
 
 
 def settings_of(count, **members):
@@ -159,8 +159,8 @@ def limits_of_settings_bind(program):
             assert client.ask("SM", "ASK", 2) == "OK"
             assert refused(client, "SM", "APPROVE", 2) == name
     with by_settings(program, settings_of(1)) as client:
-        told = client.ask("SM", "SHARDS")
-        assert told[1].startswith(b"1 Vacant"), ("the second shard fits nowhere", told)
+        told = client.rows("SHARDS")
+        assert told[1][:2] == ["1", "Vacant"], ("the second shard fits nowhere", told)
 
 
 def loads_stay_within_settings(program):

@@ -30,7 +30,7 @@ def told(file):
 
 
 def shards_of(client):
-    rows = [it.decode().split() for it in client.ask("SM", "SHARDS")]
+    rows = client.rows("SHARDS")
     return {int(it[0]): (it[1], int(it[2]), int(it[3]), int(it[5])) for it in rows}
 
 
@@ -70,7 +70,7 @@ def data_in_a_folder_is_read(program):
                 fallen = [it for it, row in now.items() if row[3] < stood[it][3]]
                 assert not fallen, f"generations of {fallen} fell"
                 up = {it: "asked" if name == "asked" else "up" for it, name in servers.items()}
-                found = {int(it.split()[0]): it.decode().split()[1] for it in client.ask("SM", "SERVERS")}
+                found = {int(it[0]): it[1] for it in client.rows("SERVERS")}
                 assert found == up, f"servers {found} and not {up}"
                 are_held(client, values, now)
     return f"{len(versions())} versions"

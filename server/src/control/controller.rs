@@ -13,7 +13,6 @@ use crate::dump::DumpFault;
 use crate::io::ReplyTo;
 use crate::observer::Observer;
 use crate::resp::{number, Command, OwnedCommand, Replies};
-use crate::snapshot::ShardRow;
 use durkenzo::{ChangeFault, Move, PassFault};
 use std::collections::{BTreeMap, VecDeque};
 use std::fmt;
@@ -190,7 +189,7 @@ impl Controller {
         let (one, two) = (numeral(command, 2), numeral(command, 3));
         let servers = 1..=self.cluster.presence.servers();
         Ok(match (&word[..], command.len(), one, two) {
-            ("HELP", 2, ..) => help_lines().into(),
+            ("HELP", 2 | 3, ..) => help_lines(command)?.into(),
             ("SHARDS", 2, ..) => self.shards().into(),
             ("SERVERS", 2, ..) => self.servers().into(),
             ("SETTINGS", 2, ..) => self.settings().into(),
@@ -207,7 +206,9 @@ impl Controller {
             ("ROUTES" | "COMPACT", 2, ..) => {
                 return Err(Refusal::there_alone(&word, "with --etcd"))
             }
-            ("CALL", ..) => return Err(Refusal::there_alone(&word, "with --data or --etcd")),
+            ("CALL", ..) | ("SPREAD", 2, ..) => {
+                return Err(Refusal::there_alone(&word, "with --data or --etcd"))
+            }
             (word, 3, Some(server), _) if is_standing(word) => self.stand(word, server)?.into(),
             (word, length, Some(shard), server) => {
                 let change = Change::of(word, server).ok_or_else(usage)?;
@@ -303,14 +304,11 @@ impl Controller {
     }
 
     fn shards(&mut self) -> Answer {
-        let shards = self.observer.snapshot().shards;
-        Answer::Lines(shards.iter().map(ShardRow::line).collect())
+        Answer::Lines(self.observer.snapshot().shard_lines())
     }
 
     fn servers(&mut self) -> Answer {
-        let servers = self.observer.snapshot().servers;
-        let lines = servers.iter().map(ToString::to_string);
-        Answer::Lines(lines.collect())
+        Answer::Lines(self.observer.snapshot().server_lines())
     }
 
     fn settings(&self) -> Answer {
@@ -354,11 +352,18 @@ pub(super) fn numeral(command: Command<'_>, index: usize) -> Option<u16> {
     number::parse(command.get(index)).and_then(|it| u16::try_from(it).ok())
 }
 
-pub(super) fn help_lines() -> Answer {
+/// All words of SM, or what the word or the name behind HELP means.
+pub(super) fn help_lines(command: Command<'_>) -> Result<Answer, Refusal> {
+    if command.len() > 2 {
+        return match help::meanings(&String::from_utf8_lossy(command.get(2))) {
+            told if told.is_empty() => Err(Refusal::no_meaning()),
+            told => Ok(Answer::Lines(told)),
+        };
+    }
     let lines = WORDS
         .iter()
         .map(|(form, does)| format!("SM {form:<16} {does}"));
-    Answer::Lines(lines.collect())
+    Ok(Answer::Lines(lines.collect()))
 }
 
 /// The name of the file behind the word.

@@ -1,9 +1,9 @@
 /// Each word behind SM: how it is written, and what it does.
-pub const WORDS: [(&str, &str); 33] = [
-    ("SHARDS", "each shard: number, stand, owner, next or previous owner, idle or admitted, generation, keys"),
-    ("SERVERS", "each server: number, standing, domain, shards that it owns, admissions, what a restart does now; \
-      before that with --etcd the number of its process, whether that leads, up to which revision it follows records, \
-      and where processes and clients reach it"),
+pub const WORDS: [(&str, &str); 34] = [
+    ("SHARDS", "how each shard stands, below the columns' names; other is its next or previous owner"),
+    ("SERVERS", "how each server stands, below the columns' names: the shards that it owns, admissions, and what a \
+      restart of it is doing; with --etcd also the number of its process, whether that leads, up to which revision it \
+      follows records, and where processes and clients reach it"),
     ("SETTINGS", "how the server runs"),
     ("LOOK k", "how shard k stands"),
     ("KEY key", "the number of the key's shard"),
@@ -18,6 +18,7 @@ pub const WORDS: [(&str, &str); 33] = [
     ("REASSIGN k b", "the paused shard k gets the owner b"),
     ("MIGRATE k b", "moves shard k to server b by a whole migration, under load"),
     ("DRAIN a", "migrates all shards of server a to other servers, as planned by the library"),
+    ("SPREAD", "where data outlives the process: migrates shards from servers that have many to those that have few"),
     ("PLAN a", "where DRAIN a would have shards go; nothing is moved"),
     ("PLAN", "where PLACE would"),
     ("PLACE", "gives each vacant shard an owner, as planned by the library"),
@@ -35,11 +36,66 @@ pub const WORDS: [(&str, &str); 33] = [
     ("CALL c n COMMAND ..", "where data outlives the process: a write without reading, once for number n of client c"),
     ("COMPACT", "with --etcd: makes a base of each shard that this process executes, and has etcd give back room"),
     ("AT a COMMAND ..", "sends a command with keys of one shard to server a, as a client with an old map does"),
-    ("HELP", "these lines"),
+    ("HELP", "these lines; SM HELP x tells what the word or the name of a refusal x means"),
 ];
+
+/// Each name by which the control refuses and scripts don't: when, and what to do. `./sm help` reads them here.
+pub const NAMES: [(&str, &str, &str); 23] = [
+    ("NotThere", "the word is there where data lies elsewhere", "SM HELP tells where it is"),
+    ("NotDurable", "the word is there for data in memory alone", "SM HELP lists all words"),
+    ("OneByOne", "processes of a cluster are ended and begun again by hand, one after another", "SM RESTART a"),
+    ("UnderWay", "a migration, a restart, a drain or a dump goes on", "wait for its end, which SM SERVERS tells"),
+    ("NotLeader", "no process leads for now, or another one does from now on, and goes on with what is under way",
+      "look how far it is by SM SERVERS, and try again"),
+    ("NotMoved", "the shard isn't at the server to which it was to go: that one failed, or somebody had the shard \
+      stay, or go elsewhere", "SM LOOK k tells where it is"),
+    ("NotNow", "a process hasn't read yet that the shard was taken", "try again"),
+    ("ThreadBusy", "a thread hasn't noticed for 10 s how servers stand", "look at the log"),
+    ("Stopping", "the process ends", "start it again"),
+    ("StoreFull", "the disk, or etcd, is full, and nothing has changed", "make room; for etcd SM COMPACT does"),
+    ("StoreDown", "the store isn't reached, or didn't say what became of it", "look at the log, and try again"),
+    ("StoreDamaged", "what lies in the store isn't what commands lead to", "restore the folder"),
+    ("BadFile", "the system doesn't write or read the file", "--folder names the folder of such files"),
+    ("BadName", "a file's name has letters, digits, -, _ and ., and begins with none of - and .", "take another name"),
+    ("ForeignFile", "the file isn't a dump", "name a file that SM DUMP of this version wrote"),
+    ("BadVersion", "the dump has another version", "name a file that SM DUMP of this version wrote"),
+    ("TornFile", "the dump is cut, or was changed", "name an earlier file"),
+    ("OtherShards", "the dump is of other servers or shards", "begin a server so, and load it there"),
+    ("BadStand", "a shard can't stand here as in the dump", "begin a server as that one was, and load it there"),
+    ("BadShard", "a shard isn't read for the dump", "look at the log"),
+    ("NoMemory", "memory was refused", "try again"),
+    ("Holding", "the thread has another shard still", "try again"),
+    ("BadServer", "a server has a number from 1 to 4095", "SM SERVERS lists them"),
+];
+
+/// What the word means, in each of its forms, or the name of a refusal; none where it is neither.
+pub fn meanings(asked: &str) -> Vec<String> {
+    let is_asked = |it: &str| it.eq_ignore_ascii_case(asked);
+    let words = WORDS
+        .iter()
+        .filter(|it| it.0.split(' ').next().is_some_and(is_asked));
+    let names = NAMES.iter().filter(|it| is_asked(it.0));
+    let words = words.map(|(form, does)| format!("SM {form}: {does}"));
+    let names = names.map(|(name, when, advice)| format!("{name}: {when}; try: {advice}"));
+    words.chain(names).collect()
+}
 
 /// How the word is written; none where it is no word.
 pub fn usage(word: &str) -> Option<&'static str> {
     let mut words = WORDS.iter().map(|it| it.0);
     words.find(|it| it.split(' ').next() == Some(word))
+}
+
+#[cfg(test)]
+mod tests {
+    use super::*;
+
+    #[test]
+    fn words_and_names_have_a_meaning() {
+        assert_eq!(meanings("look"), ["SM LOOK k: how shard k stands"]);
+        assert_eq!(meanings("RESTART").len(), 2);
+        let told = "NotNow: a process hasn't read yet that the shard was taken; try: try again";
+        assert_eq!(meanings("notnow"), [told]);
+        assert!(meanings("LOO").is_empty());
+    }
 }

@@ -18,6 +18,7 @@ mod restart;
 mod restarting;
 mod returning;
 mod routes;
+mod spreading;
 mod standings;
 mod stored;
 mod task;

@@ -48,6 +48,16 @@ impl Refusal {
         Refusal::new("BadLine", format!("it is written SM {wanted}{of}"), advice)
     }
 
+    /// That SM has no word, and refuses by no name, that is so.
+    pub fn no_meaning() -> Refusal {
+        let reason = "SM has no such word, nor a name of its own that is so";
+        Refusal::new(
+            "UnknownWord",
+            reason,
+            "./sm help NAME knows those of scripts too",
+        )
+    }
+
     /// That the word is there in this case alone.
     pub fn there_alone(word: &str, case: &str) -> Refusal {
         let reason = format!("SM {word} is there {case} alone");
@@ -208,6 +218,26 @@ impl Refusal {
         };
         Refusal::new(&name_of(&fault), fault.to_string(), advice)
     }
+
+    /// The same, where a cap counts servers that have failed, with these, and with how they come back: by processes of
+    /// theirs, or within this one.
+    pub fn of_failed(mut self, failed: &[u16], are_processes: bool) -> Refusal {
+        let is_of_caps = matches!(&*self.name, "GlobalCap" | "GroupCap" | "DomainCap");
+        let (Some(first), true) = (failed.first(), is_of_caps) else {
+            return self;
+        };
+        let named: Vec<String> = failed.iter().map(u16::to_string).collect();
+        let have = match failed.len() {
+            1 => format!("server {first} has"),
+            _ => format!("servers {} have", named.join(", ")),
+        };
+        self.reason = format!("{}, as {have} failed", self.reason);
+        self.advice = match are_processes {
+            true => format!("start the process of server {first} again, and then this"),
+            false => format!("SM BACK {first}, and then this again"),
+        };
+        self
+    }
 }
 
 /// The fault of a change that has this code, but for those of admissions.
@@ -298,6 +328,23 @@ impl Error for Refusal {}
 #[cfg(test)]
 mod tests {
     use super::*;
+
+    #[test]
+    fn who_has_failed_is_named_where_a_cap_counts_him() {
+        let of = |fault, failed: &[u16]| Refusal::of_restart(fault, 1).of_failed(failed, true);
+        let told = of(RestartFault::GlobalCap, &[2]).to_string();
+        assert_eq!(
+            told,
+            "REFUSED GlobalCap: too many servers would be leaving, as server 2 has failed; \
+             try: start the process of server 2 again, and then this"
+        );
+        let told = of(RestartFault::DomainCap, &[2, 4]).to_string();
+        assert!(told.contains("as servers 2, 4 have failed; "), "{told}");
+        let without = Refusal::of_restart(RestartFault::GlobalCap, 1);
+        assert_eq!(of(RestartFault::GlobalCap, &[]), without);
+        let without = Refusal::of_restart(RestartFault::ShardCap, 1);
+        assert_eq!(of(RestartFault::ShardCap, &[2]), without);
+    }
 
     #[test]
     fn what_a_process_has_not_read_is_refused_for_now_alone() {

@@ -105,7 +105,11 @@ impl Restart {
                 progress.set(self.server, Doing::Waiting(away));
                 return Ok(Next::At(Instant::now() + PAUSE));
             }
-            Err(fault) => self.give_up(Refusal::of_restart(fault, self.server)),
+            Err(fault) => {
+                let failed = control.cluster.presence.failed();
+                let refusal = Refusal::of_restart(fault, self.server);
+                self.give_up(refusal.of_failed(&failed, false));
+            }
         }
         Ok(Next::soon())
     }

@@ -3,7 +3,6 @@ use super::controller::Answer;
 use super::moving::{Advance, Draining, Moving};
 use super::stored::StoredController;
 use super::Refusal;
-use crate::presence::Standing;
 use crate::progress::{Doing, Share};
 use durkenzo_driver::{Command, Next};
 
@@ -11,6 +10,8 @@ use durkenzo_driver::{Command, Next};
 pub(super) struct Restarting {
     server: u16,
     stage: Stage,
+    /// Whether somebody may wait for it: it ends then, rather than wait for servers that have failed.
+    is_awaited: bool,
     draining: Draining,
     /// The shards that are still to come home.
     home: Vec<u16>,
@@ -19,8 +20,10 @@ pub(super) struct Restarting {
     current: Option<Moving>,
 }
 
-/// The state of a server that is up, that of one that is stopped, and that of one that has failed.
+/// The state of a server that is up, that of one that may go, that of one that is stopped, and that of one that has
+/// failed.
 const UP: u8 = 0;
+const APPROVED: u8 = 2;
 const STOPPED: u8 = 3;
 const FAILED: u8 = 4;
 
@@ -38,6 +41,7 @@ impl Restarting {
         Restarting {
             server,
             stage: Stage::Asks,
+            is_awaited: true,
             draining: Draining::new(server, true),
             home: Vec::new(),
             of: 0,
@@ -45,10 +49,11 @@ impl Restarting {
         }
     }
 
-    /// One that was asked for.
+    /// One that was asked for, of another process.
     pub(super) fn going_on(server: u16) -> Restarting {
         Restarting {
             stage: Stage::Leaves,
+            is_awaited: false,
             ..Restarting::new(server)
         }
     }
@@ -112,20 +117,50 @@ impl Restarting {
                     false => Advance::Again,
                 })
             }
-            Next::Waits => {
-                let standing = control.cluster.presence.standing(self.server);
-                if standing != Some(Standing::Approved) {
-                    let away = control.cluster.presence.away(self.server);
-                    let progress = &control.cluster.progress;
-                    progress.set(self.server, Doing::Waiting(away));
-                    return Ok(Advance::Later);
-                }
+            Next::Waits if control.control.state_of(self.server)? == APPROVED => {
                 match self.draining.advance(control)? {
                     Advance::Done(_) => Ok(Advance::Later),
                     other => Ok(other),
                 }
             }
+            Next::Waits => self.wait(control),
         }
+    }
+
+    /// Waits until the caps let the server go, as they may once others are back from their restarts.
+    fn wait(&self, control: &mut StoredController) -> Result<Advance, Refusal> {
+        if self.is_awaited && !self.do_others_restart(control)? {
+            return self.give_up(control);
+        }
+        let away = control.cluster.presence.away(self.server);
+        let progress = &control.cluster.progress;
+        progress.set(self.server, Doing::Waiting(away));
+        Ok(Advance::Later)
+    }
+
+    /// Whether another server is away for a restart, or may go for one.
+    fn do_others_restart(&self, control: &mut StoredController) -> Result<bool, Refusal> {
+        for server in 1..=control.control.servers() {
+            let is_other = server != self.server;
+            if is_other && matches!(control.control.state_of(server)?, APPROVED | STOPPED) {
+                return Ok(true);
+            }
+        }
+        Ok(false)
+    }
+
+    /// Ends it, as the proved control refuses it, and nobody's restart changes that.
+    fn give_up(&self, control: &mut StoredController) -> Result<Advance, Refusal> {
+        let refusal = match control.make(Command::Approve(self.server)) {
+            // The caps let it go by now.
+            Ok(()) => return Ok(Advance::Again),
+            Err(refusal) if refusal.is_of_store() => return Err(refusal),
+            Err(refusal) => refusal,
+        };
+        control.make(Command::Back(self.server))?;
+        control.cluster.progress.clear(self.server);
+        let failed = control.cluster.presence.failed();
+        Err(refusal.of_failed(&failed, control.peers.is_some()))
     }
 
     /// Waits until the server is up again, as it is once another process runs it; where this one runs all, at once.

@@ -3,6 +3,7 @@ use super::help;
 use super::moving::{Advance, Draining, Moving};
 use super::restarting::{Restarting, Rolling};
 use super::routes;
+use super::spreading::Spreading;
 use super::Refusal;
 use crate::cluster::Cluster;
 use crate::io::ReplyTo;
@@ -10,7 +11,6 @@ use crate::observer::Observer;
 use crate::peers::Peers;
 use crate::presence::Standing;
 use crate::resp::Command as Words;
-use crate::snapshot::ShardRow;
 use durkenzo::PassFault;
 use durkenzo_driver::{Command, Control, Next};
 use std::collections::{BTreeMap, BTreeSet, VecDeque};
@@ -120,6 +120,7 @@ enum Work {
     Draining(Draining),
     Restarting(Restarting),
     Rolling(Rolling),
+    Spreading(Spreading),
 }
 
 impl Work {
@@ -129,6 +130,7 @@ impl Work {
             Work::Draining(it) => it.advance(control),
             Work::Restarting(it) => it.advance(control),
             Work::Rolling(it) => it.advance(control),
+            Work::Spreading(it) => it.advance(control),
         }
     }
 
@@ -138,7 +140,7 @@ impl Work {
             Work::Moving(it) => it.has_begun(),
             Work::Draining(it) => it.is_wished(),
             Work::Restarting(it) => it.is_wished(),
-            Work::Rolling(_) => false,
+            Work::Rolling(_) | Work::Spreading(_) => false,
         }
     }
 
@@ -147,6 +149,10 @@ impl Work {
         match self {
             Work::Moving(it) => Some(Work::Moving(Moving::going_on(it.shard()))),
             Work::Rolling(it) => it.left().map(Work::Restarting),
+            Work::Spreading(it) => {
+                let shard = it.shard()?;
+                Some(Work::Moving(Moving::going_on(shard)))
+            }
             Work::Draining(_) | Work::Restarting(_) => None,
         }
     }
@@ -338,9 +344,9 @@ impl StoredController {
         let usage = || Refusal::usage(help::usage(&word));
         let (one, two) = (numeral(command, 2), numeral(command, 3));
         Ok(match (&word[..], command.len(), one, two) {
-            ("HELP", 2, ..) => help_lines().into(),
-            ("SHARDS", 2, ..) => lines(self.observer.snapshot().shards.iter().map(ShardRow::line)),
-            ("SERVERS", 2, ..) => lines(self.observer.snapshot().servers.iter()),
+            ("HELP", 2 | 3, ..) => help_lines(command)?.into(),
+            ("SHARDS", 2, ..) => Answer::Lines(self.observer.snapshot().shard_lines()).into(),
+            ("SERVERS", 2, ..) => Answer::Lines(self.observer.snapshot().server_lines()).into(),
             ("SETTINGS", 2, ..) => settings_lines(&self.cluster).into(),
             ("LOOK", 3, Some(shard), _) => match self.observer.shard(shard) {
                 Some(row) => Answer::Line(row.to_string()).into(),
@@ -352,16 +358,13 @@ impl StoredController {
             }
             ("MIGRATE", 4, Some(shard), Some(server)) => {
                 self.forget_home(shard)?;
-                Begun::Work(Work::Moving(Moving::new(shard, server)))
+                Work::Moving(Moving::new(shard, server)).into()
             }
-            ("DRAIN", 3, Some(server), _) => {
-                Begun::Work(Work::Draining(Draining::new(server, false)))
-            }
-            ("RESTART", 3, Some(server), _) => {
-                Begun::Work(Work::Restarting(Restarting::new(server)))
-            }
+            ("SPREAD", 2, ..) => Work::Spreading(Spreading::default()).into(),
+            ("DRAIN", 3, Some(server), _) => Work::Draining(Draining::new(server, false)).into(),
+            ("RESTART", 3, Some(server), _) => Work::Restarting(Restarting::new(server)).into(),
             ("RESTART", 2, ..) if self.peers.is_some() => return Err(Refusal::one_by_one()),
-            ("RESTART", 2, ..) => Begun::Work(Work::Rolling(Rolling::new(self.control.servers()))),
+            ("RESTART", 2, ..) => Work::Rolling(Rolling::new(self.control.servers())).into(),
             ("ROUTES" | "COMPACT", 2, ..) => {
                 return Err(Refusal::there_alone(&word, "with --etcd"))
             }
@@ -475,15 +478,16 @@ enum Begun {
     Work(Work),
 }
 
+impl From<Work> for Begun {
+    fn from(work: Work) -> Begun {
+        Begun::Work(work)
+    }
+}
+
 impl From<Answer> for Begun {
     fn from(answer: Answer) -> Begun {
         Begun::Answer(answer)
     }
-}
-
-/// An answer of these lines.
-fn lines(lines: impl Iterator<Item = impl ToString>) -> Begun {
-    Begun::Answer(Answer::Lines(lines.map(|it| it.to_string()).collect()))
 }
 
 fn answer(reply_to: Option<ReplyTo>, answer: Result<Answer, Refusal>) {

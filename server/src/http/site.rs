@@ -11,7 +11,6 @@ use hyper::{Body, Method, Request, Response, StatusCode};
 use std::collections::VecDeque;
 use std::convert::Infallible;
 use std::error::Error;
-use std::net::SocketAddr;
 use std::sync::Arc;
 use std::time::Duration;
 use tokio::io::{AsyncRead, AsyncWrite};
@@ -35,10 +34,8 @@ struct Site {
 }
 
 /// Serves there for as long as it is polled.
-pub async fn serve(cluster: Arc<Cluster>, address: SocketAddr) -> Result<(), Fault> {
+pub async fn serve(cluster: Arc<Cluster>, listener: TcpListener) -> Result<(), Fault> {
     let site = Arc::new(Site { cluster });
-    let told = |error| format!("{address}: {error}; --http-port takes another port");
-    let listener = TcpListener::bind(address).await.map_err(told)?;
     tracing::info!(address = %listener.local_addr()?, "page, /metrics and /healthz");
     let safety = &site.cluster.configuration.safety;
     let tls = safety.tls.as_ref().map(|it| it.config().into());
