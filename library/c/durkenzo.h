@@ -193,12 +193,14 @@ enum durkenzo_change_kind {
     DURKENZO_REASSIGN = 9            /* a paused shard gets this owner */
 };
 
-/* Steps of a server's restart. */
+/* Steps of a server's restart: between APPROVE and STOPPED its shards migrate as durkenzo_plan says, and after BACK
+ * they migrate home. FAIL changes no shard: the server's own passes are admitted to what it owns until DURKENZO_PAUSE,
+ * behind which DURKENZO_REASSIGN gives the shard another owner. */
 enum durkenzo_restart_kind {
     DURKENZO_ASK = 1,
-    DURKENZO_APPROVE = 2,
-    DURKENZO_STOPPED = 3,
-    DURKENZO_BACK = 4,
+    DURKENZO_APPROVE = 2, /* within the caps */
+    DURKENZO_STOPPED = 3, /* once it serves no shard */
+    DURKENZO_BACK = 4,    /* it is up again, or its restart is given up */
     DURKENZO_FAIL = 5
 };
 

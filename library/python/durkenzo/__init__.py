@@ -185,7 +185,11 @@ class Plan:
 
 
 class Control(Generic[T]):
-    """Moves the shards of a board between its servers. Threads may share it: each call takes the control's lock."""
+    """Moves the shards of a board between its servers. Threads may share it: each call takes the control's lock.
+
+    A server restarts in this order: ask, approve within the caps, a migrate for each move of plan_drain, and stopped.
+    Its passes go then, and it begins anew, with back and a migrate home for each shard that left. Whoever gives it up
+    before calls back too."""
 
     def __init__(self, board: Board[T] | Service) -> None:
         self._board = board
@@ -247,7 +251,7 @@ class Control(Generic[T]):
         self._again(lambda: self.drop_shard(shard))
 
     def ask(self, server: int) -> None:
-        """Asks for a restart of the server."""
+        """Asks for a restart of the server: the first of its steps."""
         self._restart(1, server)
 
     def approve(self, server: int) -> None:
@@ -255,15 +259,16 @@ class Control(Generic[T]):
         self._restart(2, server)
 
     def stopped(self, server: int) -> None:
-        """Notes that the server was stopped for its restart."""
+        """Notes that the server was stopped for its restart, once it serves no shard."""
         self._restart(3, server)
 
     def back(self, server: int) -> None:
-        """Notes that the server is up again."""
+        """Notes that the server is up again, also where it had failed, or where its restart is given up."""
         self._restart(4, server)
 
     def fail(self, server: int) -> None:
-        """Notes that the server failed."""
+        """Notes that the server failed. That changes no shard: its own passes are admitted to what it owns until
+        pause, behind which reassign gives the shard another owner."""
         self._restart(5, server)
 
     def plan_assign(self) -> Plan:

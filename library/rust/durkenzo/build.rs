@@ -35,7 +35,7 @@ fn said(run: &Output) -> String {
 fn build(folder: &Path) {
     println!(
         "cargo:warning=`rt lib` proves and builds {PROVED}, which takes long; `tools/unproved --library` makes \
-         one without proof in a minute, in the folder that it prints, which DURKENZO_LIB may name"
+         one without proof in some 2 processor minutes, in the folder that it prints, which DURKENZO_LIB may name"
     );
     match Command::new("rt").arg("lib").current_dir(folder).output() {
         Ok(run) if run.status.success() => {}

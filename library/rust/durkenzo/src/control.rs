@@ -9,6 +9,12 @@ use std::sync::Arc;
 
 /// The control of a board: it alone changes who owns a shard. Each call takes the control's lock for its own time.
 ///
+/// # Restarts
+///
+/// A server restarts in this order: [`Control::ask`], [`Control::approve`] within the caps, a [`Control::migrate`] for
+/// each move of [`Control::plan_drain`], and [`Control::stopped`]. Its passes go then, and it begins anew, with
+/// [`Control::back`] and a `migrate` home for each shard that left. Whoever gives it up before calls `back` too.
+///
 /// # Errors
 ///
 /// A change is refused by `UnknownShard` or `UnknownServer` where there is none, `WrongPhase` or `SameServer` where it
@@ -107,7 +113,8 @@ impl<T> Control<T> {
 
     /// Moves the shard to this server by a whole migration, whose steps are tried again while the shard is admitted:
     /// for ever where that admission doesn't end, as where the calling thread holds the permit, or has forgotten it and
-    /// its pass lives.
+    /// its pass lives. It publishes no route: whoever keeps [`Routes`](crate::Routes) takes the steps one by one, and
+    /// publishes before `drop_shard`.
     ///
     /// # Errors
     ///
@@ -141,7 +148,7 @@ impl<T> Control<T> {
         Ok(())
     }
 
-    /// Asks for a restart of the server.
+    /// Asks for a restart of the server: the first step of [these](Control#restarts).
     ///
     /// # Errors
     ///
@@ -159,7 +166,7 @@ impl<T> Control<T> {
         self.restart(2, server)
     }
 
-    /// Notes that the server was stopped for its restart.
+    /// Notes that the server was stopped for its restart, once it serves no shard.
     ///
     /// # Errors
     ///
@@ -168,7 +175,7 @@ impl<T> Control<T> {
         self.restart(3, server)
     }
 
-    /// Notes that the server is up again.
+    /// Notes that the server is up again, also where it had failed, or where its restart is given up.
     ///
     /// # Errors
     ///
@@ -177,7 +184,8 @@ impl<T> Control<T> {
         self.restart(4, server)
     }
 
-    /// Notes that the server failed.
+    /// Notes that the server failed. That changes no shard: its own passes are admitted to what it owns until
+    /// [`Control::pause`], behind which [`Control::reassign`] gives the shard another owner.
     ///
     /// # Errors
     ///

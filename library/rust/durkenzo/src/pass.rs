@@ -27,7 +27,8 @@ pub struct Front {
     pub generation: u64,
 }
 
-/// What a thread acts on a board with, as one server for good.
+/// What a thread acts on a board with, as one server for good. It has one permit at a time: a thread that needs two
+/// shards at once has two passes, and takes the lower shard first, as `examples/transfer.rs` does.
 pub struct Pass<T> {
     // Before what it is a pass on: a body may be dropped only after the admission.
     handle: Handle,

@@ -13,6 +13,9 @@ pub struct Route {
 
 /// The published map: where clients send requests. A shard's route may be old, and never becomes older.
 ///
+/// Nothing publishes by itself, [`Control::migrate`](crate::Control::migrate) neither. In a migration the new owner is
+/// published between `add_shard` and `drop_shard`, as until the latter the previous owner forwards to it.
+///
 /// ```
 /// use durkenzo::{Board, Routes};
 ///
@@ -51,8 +54,9 @@ impl Routes {
         *map.get(usize::from(shard))?
     }
 
-    /// Publishes the shard's owner at its generation, as the pass sees it. Give it passes of one board alone: whether a
-    /// route is older is told by generations, which are those of a board, and nothing here tells boards apart.
+    /// Publishes the shard's owner at its generation, as the pass sees it, whose server may be any. Give it passes of
+    /// one board alone: whether a route is older is told by generations, which are those of a board, and nothing here
+    /// tells boards apart.
     ///
     /// # Errors
     ///

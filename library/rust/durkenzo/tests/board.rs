@@ -308,6 +308,23 @@ fn restarts_keep_the_cap() {
 }
 
 #[test]
+fn a_server_that_has_failed_is_admitted_until_its_shard_pauses() {
+    let board = board(1);
+    let control = board.control();
+    control.assign(0, 1).unwrap();
+    let mut pass = board.pass(1).unwrap();
+    control.fail(1).unwrap();
+    pass.admit(0, Mode::Direct).unwrap().finish();
+    control.pause(0).unwrap();
+    let refused = pass.admit(0, Mode::Direct).err();
+    assert!(
+        matches!(refused, Some(AdmitFault::Paused(_))),
+        "{refused:?}"
+    );
+    control.reassign(0, 2).unwrap();
+}
+
+#[test]
 fn the_generation_is_a_fencing_token() {
     let board = board(1);
     board.control().assign(0, 1).unwrap();

@@ -1,0 +1,107 @@
+//! Sums go from account to account, each in a shard of its own, while shards migrate: who moves one holds both shards.
+use durkenzo::{AdmitFault, Board, Control, Mode, Pass};
+use std::error::Error;
+use std::thread;
+
+type Fault = Box<dyn Error + Send + Sync>;
+
+const SERVERS: u16 = 3;
+const ACCOUNTS: u16 = 8;
+const FIRST_BALANCE: u64 = 100;
+const TRANSFERS: u16 = 20_000;
+
+struct Account {
+    balance: u64,
+}
+
+/// A pass of each server.
+fn passes(board: &Board<Account>) -> Result<Vec<Pass<Account>>, Fault> {
+    let passes = (1..=SERVERS).map(|it| board.pass(it));
+    Ok(passes.collect::<Result<_, _>>()?)
+}
+
+/// Has the work be done on the account as the server that executes its shard now, once there is one.
+fn with<R>(
+    passes: &mut [Pass<Account>],
+    shard: u16,
+    mut work: impl FnMut(&mut Account) -> R,
+) -> Result<R, AdmitFault> {
+    for server in (0..passes.len()).cycle() {
+        match passes[server].with(shard, Mode::Direct, |account| work(account)) {
+            Err(AdmitFault::NotExecutor(_) | AdmitFault::NotYet(_)) => {}
+            done => return done,
+        }
+    }
+    unreachable!("there are servers")
+}
+
+/// Moves the sum where the payer has it, and says whether he had. A pass holds one shard at a time, so there are two.
+fn transfer(
+    [ones, others]: &mut [Vec<Pass<Account>>; 2],
+    (from, to): (u16, u16),
+    sum: u64,
+) -> Result<bool, AdmitFault> {
+    // All take the lower shard first: so no two wait for each other.
+    with(ones, from.min(to), |low| {
+        with(others, from.max(to), |high| {
+            let (payer, payee) = match from < to {
+                true => (&mut *low, high),
+                false => (high, &mut *low),
+            };
+            let has_it = payer.balance >= sum;
+            if has_it {
+                payer.balance -= sum;
+                payee.balance += sum;
+            }
+            has_it
+        })
+    })?
+}
+
+/// Makes many transfers, and returns how many were made.
+fn serve(board: &Board<Account>, thread: u16) -> Result<u64, Fault> {
+    let mut passes = [passes(board)?, passes(board)?];
+    let mut done = 0;
+    for turn in 0..TRANSFERS {
+        let from = (turn + thread) % ACCOUNTS;
+        let to = (from + 1 + turn % (ACCOUNTS - 1)) % ACCOUNTS;
+        done += u64::from(transfer(&mut passes, (from, to), u64::from(turn % 9))?);
+    }
+    Ok(done)
+}
+
+fn migrate(control: &Control<Account>) -> Result<(), Fault> {
+    for round in 0..1_000 {
+        let (shard, turn) = (round % ACCOUNTS, round / ACCOUNTS + 1);
+        control.migrate(shard, (shard + turn) % SERVERS + 1)?;
+    }
+    Ok(())
+}
+
+fn main() -> Result<(), Fault> {
+    let account = || Account {
+        balance: FIRST_BALANCE,
+    };
+    let board = Board::builder()
+        .servers(SERVERS)
+        .build((0..ACCOUNTS).map(|_| account()))?;
+    let control = board.control();
+    for shard in 0..ACCOUNTS {
+        control.assign(shard, shard % SERVERS + 1)?;
+    }
+    let done = thread::scope(|scope| {
+        let board = &board;
+        let threads: Vec<_> = (0..4)
+            .map(|it| scope.spawn(move || serve(board, it)))
+            .collect();
+        let moved = migrate(&control);
+        let done: Result<u64, _> = threads.into_iter().map(|it| it.join().unwrap()).sum();
+        moved.and(done)
+    })?;
+    drop(control);
+    let accounts = board.into_bodies().map_err(|_| "the board is in use")?;
+    let all: u64 = accounts.iter().map(|it| it.balance).sum();
+    assert_eq!(all, u64::from(ACCOUNTS) * FIRST_BALANCE);
+    println!("{done} transfers, and nothing was lost");
+    Ok(())
+}
