@@ -7,6 +7,7 @@ refused from the program's sources, so both stand there alone. What to do about 
     meaning_of(NAME)        why a line or settings are answered by this name, or None
     to_do(NAME, VALUES)     what to do about it, or None; VALUES has K, A and N, and KEY, where they are known; of
                             WrongPhase also by the shard's stand and the word of the line
+    server_told(NAME)       what the server answers by this name, or does for this word of SM
     fault_in(LINE)          what is wrong with a line: its name and a sentence with the word or the number; or None
 """
 import collections
@@ -25,6 +26,9 @@ WORDS = sorted(it.decode() for it in ALL)
 # The words of tools/shell, which are none of scripts.
 SHELL_WORDS = ["help", "shards", "migrate", "place!", "drain!", "restart", "sent", "save", "quit"]
 ENTRY = re.compile(r'\(\s*"(\w+)",\s*"((?:[^"\\]|\\.)*)",?\s*\)')
+# An entry of the server's tables of words and of names, and a row of the errors that it has beside Redis'.
+SERVER_ENTRY = re.compile(r'\(\s*"([^"]+)",\s*"([^"]*)"(?:,\s*"([^"]*)")?,?\s*\)')
+ERROR_ROW = re.compile(r"(?m)^\| ((?:`[A-Z]+`(?:, )?)+) \| (.*) \|$")
 WIDTH = 17
 
 # What to do about a name: K is the shard in question, A the server, N the number in the answer.
@@ -125,6 +129,30 @@ def meaning_of(name):
     if name == "BadLine":  # the program tells how the line is written
         return "too few or too many words"
     return table("REFUSALS").get(name) or table("SETTINGS").get(name)
+
+
+def server_table(name):
+    """Returns a table of the server's: what stands behind each word, or each name."""
+    text = (runs.TOP / "server/src/control/help.rs").read_text(encoding="utf-8")
+    rows = re.sub(r"\\\n\s*", "", text.partition(f"const {name}:")[2].partition("\n];")[0])
+    return {it[0]: [some for some in it[1:] if some] for it in SERVER_ENTRY.findall(rows)}
+
+
+def server_errors():
+    """When the server answers by each error that Redis hasn't, as docs/SERVER.md tells."""
+    rows = ERROR_ROW.findall((runs.TOP / "docs/SERVER.md").read_text(encoding="utf-8"))
+    return {name: when.replace("`", "") for names, when in rows for name in re.findall(r"\w+", names)}
+
+
+def server_told(name):
+    """Yields what the server has of this name: a word of SM, a refusal of its control, or an error."""
+    for form, (does,) in server_table("WORDS").items():
+        if form.split(" ")[0] == name.upper():
+            yield f"A word of ./sm serve:\n  SM {form}: {does}"
+    for when, advice in filter(None, [server_table("NAMES").get(name)]):
+        yield f"{name}, of ./sm serve: {when}\n  try: {advice}"
+    if when := server_errors().get(name):
+        yield f"{name}, of ./sm serve: {when}"
 
 
 class Named(collections.defaultdict):

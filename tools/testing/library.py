@@ -57,9 +57,10 @@ def ran(name, command, folder, wanted=None, **env):
 
 def in_rust(room):
     env = {"CARGO_TARGET_DIR": room / "target"}
-    run = ["cargo", "run", "--quiet", "--offline", "--example", "counters"]
+    run = ["cargo", "run", "--quiet", "--offline", "--example"]
     yield ran("the crate's tests", ["cargo", "test", "--offline"], CRATE, **env)
-    yield ran("the crate's example", run, CRATE, COUNTED, **env)
+    yield ran("the crate's example", [*run, "counters"], CRATE, COUNTED, **env)
+    yield ran("its example that holds two shards", [*run, "transfer"], CRATE, **env)
     yield ran("the driver of scripts compiles", ["cargo", "build", "--offline", "--example", "script"], CRATE, **env)
     if not PROGRAM.is_file():
         return

@@ -263,6 +263,7 @@ class Program:
         """After a line that is refused the shell tells why, how the shard stands and what to do."""
         told = {
             "asign 0 1": 'why: unknown word "asign"; did you mean assign?',
+            "servers": "try: help lists the words",
             "look 4096": "why: K is 4096, and may be 0 to 4095",
             "look 8": "there are shards 0 to 7",
             "add 0": "now: shard 0 is Serving, its owner is server 1, and add begins from Forwarding",

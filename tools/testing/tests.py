@@ -8,7 +8,7 @@ from testing.part import Verdict, passed
 
 PASSED = re.compile(r"^test_(\w+): (\d+) passed")
 # What ran again: tests of which each allocation was refused, and tests that may leave no memory.
-AGAIN = re.compile(r"^(\S+: each of its \d+ allocations refused|\d+ tests of raw memory ran again)")
+AGAIN = re.compile(r"^(\S+: each of its \d+ allocations refused|\d+ tests of arenas ran again)")
 FAILED = "FAILED: "
 # Lines below one that says what failed tell why.
 REASON = "    "
