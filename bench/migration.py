@@ -168,7 +168,7 @@ def of_ours(port):
     """A round of ./sm serve, likewise."""
     fill(port)
     with Client(port) as client:
-        rows = [it.decode().split(" ") for it in client.ask("SM", "SHARDS")]
+        rows = client.rows("SHARDS")
         shard = next(it[0] for it in rows if int(it[-1]) >= KEYS)
         took = []
         works = [lambda: time.sleep(2), lambda: took.append(shard_moved(client, shard))]
