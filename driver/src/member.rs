@@ -6,7 +6,7 @@ use std::fmt;
 use std::sync::atomic::{AtomicBool, Ordering};
 use std::sync::mpsc::{sync_channel, RecvTimeoutError};
 use std::sync::{Arc, Condvar, Mutex, MutexGuard, PoisonError, Weak};
-use std::thread::{self, JoinHandle};
+use std::thread;
 use std::time::{Duration, Instant};
 
 /// In how many parts of its length a lease is kept.
@@ -25,7 +25,6 @@ const LAG: Duration = Duration::from_millis(500);
 /// Where the lease has ended, as the process was stopped or didn't reach the store for so long, it takes another one.
 pub struct Member {
     inner: Arc<Inner>,
-    thread: Option<JoinHandle<()>>,
     watches: Mutex<Vec<Watch>>,
     /// Whether no request reached the server when the process began.
     was_away: bool,
@@ -111,13 +110,12 @@ impl Member {
         let was_away = inner.is_away()?;
         let watches = vec![inner.watch(keys::SERVERS)?, inner.watch(keys::LEADER)?];
         let keeping = inner.clone();
-        let thread = thread::Builder::new()
+        thread::Builder::new()
             .name("member".to_owned())
-            .spawn(move || keeping.keep());
-        let thread = Some(thread.map_err(OpenFault::Thread)?);
+            .spawn(move || keeping.keep())
+            .map_err(OpenFault::Thread)?;
         Ok(Member {
             inner,
-            thread,
             watches: Mutex::new(watches),
             was_away,
         })
@@ -162,13 +160,8 @@ impl Member {
     /// Leaves: others see at once that this server isn't there any more. Where the lease can't be ended now it ends by
     /// itself.
     pub fn leave(&self) {
-        let lease = {
-            let mut state = self.inner.state();
-            state.is_over = true;
-            state.lease.take()
-        };
-        self.inner.wakes.notify_all();
-        let _ = lease.map(|it| self.inner.store.revoke(it));
+        self.inner.end();
+        self.inner.end_lease();
     }
 
     /// The lease, where the server's key lies under it: what is written under it is gone when this process is.
@@ -308,13 +301,25 @@ impl Inner {
         }
     }
 
-    /// Keeps the lease, and writes the key as often as it has more to tell, until the end.
+    /// Has its thread come to its end.
+    fn end(&self) {
+        self.state().is_over = true;
+        self.wakes.notify_all();
+    }
+
+    /// Ends the lease, if there is one. Where it can't be ended now it ends by itself.
+    fn end_lease(&self) {
+        let lease = self.state().lease.take();
+        let _ = lease.map(|it| self.store.revoke(it));
+    }
+
+    /// Keeps the lease, and writes the key as often as it has more to tell, until the end, which is that of the lease.
     fn keep(&self) {
         let mut kept = Instant::now();
         loop {
             let due = kept + self.length / PARTS;
             let Some(mut lease) = self.wait_until(due) else {
-                return;
+                return self.end_lease();
             };
             if Instant::now() >= due || lease.is_none() {
                 kept = Instant::now();
@@ -464,18 +469,8 @@ impl Drop for Member {
             .get_mut()
             .unwrap_or_else(PoisonError::into_inner)
             .clear();
-        let lease = {
-            let mut state = self.inner.state();
-            state.is_over = true;
-            state.lease.take()
-        };
-        self.inner.wakes.notify_all();
-        if let Some(thread) = self.thread.take() {
-            // A thread that panicked has said so.
-            let _ = thread.join();
-        }
-        // Where it can't be ended now it ends by itself.
-        let _ = lease.map(|it| self.inner.store.revoke(it));
+        // The thread isn't waited for: what the store's own one tells may have this last, and the lease ends by it.
+        self.inner.end();
     }
 }
 

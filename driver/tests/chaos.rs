@@ -60,15 +60,16 @@ fn additions_are_counted_once_where_outcomes_are_unknown() {
                 })
             })
             .collect();
-        for counts in adding {
-            let counts = counts.join().unwrap();
+        let ended: Vec<_> = adding.into_iter().map(|it| it.join()).collect();
+        stops.store(true, Ordering::Release);
+        assert!(moving.join().unwrap() > 10);
+        for counts in ended {
+            let counts = counts.unwrap();
             answered
                 .iter_mut()
                 .zip(counts)
                 .for_each(|(all, it): (&mut i64, i64)| *all += it);
         }
-        stops.store(true, Ordering::Release);
-        assert!(moving.join().unwrap() > 10);
     });
     for shard in 0..SHARDS {
         let count = answered[usize::from(shard)];

@@ -3,8 +3,10 @@ mod common;
 
 use common::cluster::{assign, campaign, kill, settle, Net, Node, LEASE};
 use common::{add, ask, held, step, Told};
-use durkenzo_driver::{Begin, Command, Control, Key, NotDone, Reads, Reply, Request};
-use durkenzo_store::{Embedded, Store};
+use durkenzo_driver::{
+    Addresses, Begin, Command, Control, Key, Member, NotDone, Reads, Reply, Request,
+};
+use durkenzo_store::{Embedded, Store, Transaction};
 use std::sync::atomic::Ordering;
 use std::sync::{mpsc, Arc};
 use std::thread;
@@ -154,5 +156,31 @@ fn a_read_sees_the_change_before_it_of_its_client() {
         nodes[0].durable.submit(0, vec![change, read]);
         assert!(is_count(changed.recv().unwrap(), count));
         assert!(is_count(told.recv().unwrap(), count), "{count}");
+    }
+}
+
+#[test]
+fn a_member_may_be_dropped_by_what_its_store_tells() {
+    let store: Arc<dyn Store> = Arc::new(Embedded::in_memory());
+    let member = Member::join(
+        store.clone(),
+        1,
+        Addresses::default(),
+        LEASE,
+        Box::new(|| {}),
+    )
+    .unwrap();
+    let (tell, told) = mpsc::channel();
+    let done = move |_| {
+        drop(member);
+        let _ = tell.send(());
+    };
+    store.submit(Transaction::new().put("a", "1"), Box::new(done));
+    assert!(told.recv_timeout(Duration::from_secs(20)).is_ok());
+    // It leaves all the same.
+    let end = Instant::now() + Duration::from_secs(20);
+    while !store.read_all(b"server/").unwrap().pairs.is_empty() {
+        assert!(Instant::now() < end);
+        thread::sleep(Duration::from_millis(5));
     }
 }

@@ -140,7 +140,9 @@ impl Store for Embedded {
 impl Drop for Embedded {
     fn drop(&mut self) {
         let _ = self.jobs.send(Job::End);
-        if let Some(thread) = self.thread.take() {
+        // What the thread tells may have the store last, and a thread can't wait for itself.
+        let is_own = |it: &JoinHandle<()>| it.thread().id() == thread::current().id();
+        if let Some(thread) = self.thread.take().filter(|it| !is_own(it)) {
             // A thread that panicked has said so.
             let _ = thread.join();
         }

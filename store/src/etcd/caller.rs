@@ -3,13 +3,15 @@ use super::{Access, StartError};
 use std::future::Future;
 use std::sync::mpsc;
 use std::sync::Arc;
-use tokio::runtime::{Builder, Runtime};
+use tokio::runtime::{Builder, Handle, Runtime};
 use tokio::task::JoinHandle;
 
 /// Who calls members: a thread, and connections that it has alone.
 pub(super) struct Caller {
     gateway: Arc<Gateway>,
-    runtime: Runtime,
+    handle: Handle,
+    /// There until the end.
+    runtime: Option<Runtime>,
 }
 
 impl Caller {
@@ -21,7 +23,11 @@ impl Caller {
             .thread_name(thread)
             .enable_all()
             .build()?;
-        Ok(Caller { gateway, runtime })
+        Ok(Caller {
+            gateway,
+            handle: runtime.handle().clone(),
+            runtime: Some(runtime),
+        })
     }
 
     pub(super) fn gateway(&self) -> Arc<Gateway> {
@@ -30,7 +36,7 @@ impl Caller {
 
     /// Runs this on the thread.
     pub(super) fn spawn(&self, work: impl Future<Output = ()> + Send + 'static) -> JoinHandle<()> {
-        self.runtime.spawn(work)
+        self.handle.spawn(work)
     }
 
     /// Runs this on the thread, and waits for what it gives; none where that has ended.
@@ -44,5 +50,14 @@ impl Caller {
             let _ = tell.send(work.await);
         });
         told.recv().ok()
+    }
+}
+
+impl Drop for Caller {
+    fn drop(&mut self) {
+        // What the thread tells may have the store last, and a thread can't wait for itself.
+        if let Some(runtime) = self.runtime.take() {
+            runtime.shutdown_background();
+        }
     }
 }

@@ -1,0 +1,39 @@
+//! What a store tells may let go of the store last.
+use durkenzo_store::{Access, Embedded, Etcd, Store, Transaction};
+use std::sync::mpsc;
+use std::sync::Arc;
+use std::time::Duration;
+
+const PATIENCE: Duration = Duration::from_secs(60);
+
+/// Whether the store's thread goes on once what it tells has let go of the store, which nobody else has then.
+fn is_let_go(store: impl Store + 'static) -> bool {
+    let store: Arc<dyn Store> = Arc::new(store);
+    let (release, released) = mpsc::channel::<()>();
+    let (tell, told) = mpsc::channel();
+    let last = store.clone();
+    let done = move |_| {
+        // It comes to its end where the other one is dropped.
+        let _ = released.recv();
+        drop(last);
+        let _ = tell.send(());
+    };
+    store.submit(Transaction::new().put("a", "1"), Box::new(done));
+    drop(store);
+    drop(release);
+    told.recv_timeout(PATIENCE).is_ok()
+}
+
+#[test]
+fn a_store_in_this_process_may_be_dropped_by_what_it_tells() {
+    assert!(is_let_go(Embedded::in_memory()));
+}
+
+#[test]
+fn a_store_on_etcd_may_be_dropped_by_what_it_tells() {
+    let access = Access {
+        patience: Duration::from_secs(1),
+        ..Access::new(["http://127.0.0.1:1"])
+    };
+    assert!(is_let_go(Etcd::new(access).expect("an address")));
+}
