@@ -6,9 +6,13 @@ import re
 import subprocess
 import tempfile
 
+import limited
+
 TOP = pathlib.Path(__file__).resolve().parent.parent
 # Where Debian's packages put them.
 DEBIAN = pathlib.Path("/usr/share/cargo/registry")
+# How long cargo may build and test, in seconds, and the exit status of one that took longer, as of timeout(1).
+SECONDS, ENDED = 2400, 124
 REPLACED = f'[source.crates-io]\nreplace-with = "debian"\n[source.debian]\ndirectory = "{DEBIAN}"\n'
 
 
@@ -35,8 +39,17 @@ def cargo(folder, *words):
         replaced.flush()
         crates = ["--config", replaced.name, "--offline"] if is_debian(folder) else []
         env = {**os.environ, "CARGO_TARGET_DIR": str(target(folder))}
-        command = ["cargo", words[0], *crates, *words[1:]]
-        return subprocess.run(command, cwd=folder, env=env, stdin=subprocess.DEVNULL, capture_output=True, text=True)
+        return cargo_ended(["cargo", words[0], *crates, *words[1:]], folder, env)
+
+
+def cargo_ended(command, folder, env):
+    """Runs this command of cargo in the folder; one that takes too long has failed, and what it wrote tells by which
+    tests."""
+    try:
+        return limited.run(command, SECONDS, cwd=folder, env=env, stdin=subprocess.DEVNULL, text=True)
+    except subprocess.TimeoutExpired as late:
+        complaint = f"{late.stderr or ''}\n{' '.join(command)} had not ended after {SECONDS} seconds\n"
+        return subprocess.CompletedProcess(command, ENDED, late.output or "", complaint)
 
 
 def has_crates(folder):

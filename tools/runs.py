@@ -7,6 +7,8 @@ import subprocess
 import tempfile
 from collections import namedtuple
 
+import limited
+
 TOP = pathlib.Path(__file__).resolve().parent.parent
 PROGRAM = str(TOP / "crates" / "sm_cli" / "out" / "sm_cli")
 EXAMPLES = sorted((TOP / "examples").glob("*.in"))
@@ -24,9 +26,9 @@ def examples_of(engine):
 
 
 def finished(command, **how):
-    """Runs a command to its end; one that takes too long has no status."""
+    """Runs a command to its end; one that takes too long has no status, and is ended with all that it began."""
     try:
-        run = subprocess.run(command, capture_output=True, timeout=SECONDS, **how)
+        run = limited.run(command, SECONDS, **how)
     except subprocess.TimeoutExpired as late:
         return Run(f"none in {SECONDS} seconds", late.stdout or b"", late.stderr or b"", False)
     return Run(run.returncode, run.stdout, run.stderr, False)

@@ -4,10 +4,11 @@ A check is one run of the prover: the proof of a crate, of its tests, or of one 
 shares a check with copies of itself waits for them, and their time is in its own. What a check does after the last
 look at it is lost.
 """
-import collections
 import os
 import re
 import time
+
+from limited import below, fields_of
 
 TICKS = os.sysconf("SC_CLK_TCK")
 PARTS = ("proof", "tests", "edits")
@@ -25,25 +26,6 @@ class Check:
 def read(pid, name):
     with open(f"/proc/{pid}/{name}", "rb") as file:
         return file.read().decode(errors="replace")
-
-
-def fields_of(pid):
-    """Returns the fields of /proc/PID/stat from the third on: the second, in brackets, may hold spaces."""
-    return read(pid, "stat").rpartition(")")[2].split()
-
-
-def below(root):
-    """Returns the processes that this one started, and those that they started, and so on."""
-    children = collections.defaultdict(list)
-    for pid in filter(str.isdigit, os.listdir("/proc")):
-        try:
-            children[int(fields_of(pid)[1])].append(int(pid))
-        except (OSError, IndexError, ValueError):  # it has just ended
-            pass
-    found = [root]
-    for pid in found:
-        found += children[pid]
-    return found
 
 
 def crate_of(words):

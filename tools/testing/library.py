@@ -9,6 +9,7 @@ import shutil
 import subprocess
 
 import exported
+import limited
 import runs
 import sources
 from testing.part import Verdict, verdict
@@ -41,14 +42,8 @@ def without_proof():
 def ran(name, command, folder, wanted=None, **env):
     """Whether the command ends well, and writes what is wanted."""
     try:
-        done = subprocess.run(
-            list(map(str, command)),
-            cwd=folder,
-            env={**os.environ, **{key: str(it) for key, it in env.items()}},
-            capture_output=True,
-            text=True,
-            timeout=SECONDS,
-        )
+        env = {**os.environ, **{key: str(it) for key, it in env.items()}}
+        done = limited.run(list(map(str, command)), SECONDS, cwd=folder, env=env, text=True)
     except subprocess.TimeoutExpired:
         return Verdict(name, f"it hadn't ended after {SECONDS} s")
     is_well = done.returncode == 0 and wanted in (None, done.stdout)

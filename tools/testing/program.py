@@ -4,6 +4,7 @@ import pathlib
 import re
 import subprocess
 
+import limited
 import runs
 import sources
 from testing.part import Verdict, passed, verdict
@@ -33,12 +34,12 @@ def fault_of(command, status, output, complaint="", given=os.devnull, env=None):
 def tool(name, *arguments):
     """A tool of tools/ that has to end with 0."""
     command = [str(sources.TOP / "tools" / name), *map(str, arguments)]
-    how = {"stdin": subprocess.DEVNULL, "stdout": subprocess.PIPE, "stderr": subprocess.STDOUT, "cwd": sources.TOP}
+    how = {"stdin": subprocess.DEVNULL, "stderr": subprocess.STDOUT, "cwd": sources.TOP}
     try:
-        ran = subprocess.run(command, timeout=TOOL_SECONDS, text=True, errors="replace", **how)
+        ran = limited.run(command, TOOL_SECONDS, text=True, errors="replace", **how)
         reason = None if ran.returncode == 0 else f"exit status {ran.returncode}\n{ran.stdout[-3000:]}"
-    except subprocess.TimeoutExpired:
-        reason = f"it had not ended after {TOOL_SECONDS} seconds"
+    except subprocess.TimeoutExpired as late:
+        reason = f"it had not ended after {TOOL_SECONDS} seconds\n{(late.output or '')[-3000:]}"
     return Verdict(" ".join([f"tools/{name}", *map(str, arguments)]), reason)
 
 

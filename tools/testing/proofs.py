@@ -1,7 +1,6 @@
 """The part of ./test that proves: `rt ci`, with what it says read as it comes, and what each crate costs."""
 import collections
 import contextlib
-import os
 import pathlib
 import re
 import signal
@@ -9,6 +8,7 @@ import subprocess
 import threading
 import time
 
+import limited
 import sources
 from testing import checks, costs
 from testing.cores import Cores
@@ -124,9 +124,8 @@ class Proofs:
 
     def stop(self):
         """Ends the run, with all that it started."""
-        for pid in checks.below(self.process.pid) if self.process and self.process.poll() is None else []:
-            with contextlib.suppress(ProcessLookupError):
-                os.kill(pid, signal.SIGTERM)
+        if self.process and self.process.poll() is None:
+            limited.end(self.process.pid, signal.SIGTERM)
 
 
 def stands_in(edit, folder):
