@@ -8,8 +8,9 @@ What is cheap comes first, so that most failures show within minutes:
   what is proved  the examples, and tools that look for faults, on the program that was just proved, as each of two
                   compilers built it
 
-A line tells how far it is; what fails is said at once, with its reason. The last line is 'N passed, M failed', and
-the exit status is 1 where anything failed. It runs from any folder.
+A line tells how far it is; what fails is said at once, with its reason, and what stands still for too long is ended
+and has failed. The last line is 'N passed, M failed', and the exit status is 1 where anything failed. It runs from any
+folder.
 """
 import argparse
 import os
