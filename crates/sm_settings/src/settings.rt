@@ -13,6 +13,7 @@ use crate::bounds::{has_texts, layout_from};
 use crate::members::{has_number, has_size, items, number, number_within};
 use crate::rows::{Row, has_rows, rows_from};
 use crate::settings_fault::SettingsFault;
+use crate::settings_fault::SettingsFault::BadCeiling;
 use serde_json::Value;
 use sm_ranges::layout::Layout;
 use sm_rows::limits::MAX_DOMAIN_DOWN;
@@ -133,25 +134,13 @@ fn judge_base(alloc: Global, value: &Value) -> Result<Settings, SettingsFault>
         return Err(SettingsFault::BadGroups);
     };
     let (bounds, group_count) = (layout.count(), groups.len() as u16);
-    let Some(shards) = rows_from::<ShardRow>(
-        alloc,
-        items(value, "shards"),
-        bounds,
-        group_count,
-        &[],
-    )?
-    else {
+    let rows = items(value, "shards");
+    let Some(shards) = rows_from::<ShardRow>(alloc, rows, bounds, group_count, &[])? else {
         return Err(SettingsFault::BadShards);
     };
     let ops = limit(value, "ops", 0, MAX_OPS, SettingsFault::BadOps)?;
     let kept = limit(value, "kept", 1, MAX_KEPT, SettingsFault::BadKept)?;
-    let ceiling = limit(
-        value,
-        "ceiling",
-        MIN_CEILING,
-        MAX_CEILING,
-        SettingsFault::BadCeiling,
-    )?;
+    let ceiling = limit(value, "ceiling", MIN_CEILING, MAX_CEILING, BadCeiling)?;
     let workers = limit(value, "workers", 1, MAX_WORKERS, SettingsFault::BadWorkers)?;
     Ok(Settings {
         layout,

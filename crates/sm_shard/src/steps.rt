@@ -5,6 +5,7 @@ use crate::base_part::BasePart;
 use crate::replica::ReplayFault;
 use crate::shard_server::{ShardServer, StoreAnswers, Undecided};
 use crate::shard_state::Decision;
+use crate::steps::ShardOutput::{Answers, Bases, Clears, Decided, Decides, Nothing, Sends};
 use crate::store_machine::StoreMachine;
 use sm_ownership::record::Record;
 use sm_store::head::Head;
@@ -89,52 +90,31 @@ pub fn step<Q: Drop, R: Copy + Drop, M: StoreMachine<Q, R>>(
             batches,
         } => {
             server.on_read(alloc, state, stood, head, logged, parts, batches)?;
-            Ok(ShardOutput::Nothing)
+            Ok(Nothing)
         }
-        ShardInput::Record { state, stood } => {
-            let again = server.on_record(alloc, state, stood);
-            Ok(ShardOutput::Decides(again))
-        }
-        ShardInput::Request(item) => {
-            let decision = server.on_request(item)?;
-            Ok(ShardOutput::Decided(decision))
-        }
-        ShardInput::Question(item) => {
-            let decision = server.on_question(item)?;
-            Ok(ShardOutput::Decided(decision))
-        }
+        ShardInput::Record { state, stood } => Ok(Decides(server.on_record(alloc, state, stood))),
+        ShardInput::Request(item) => Ok(Decided(server.on_request(item)?)),
+        ShardInput::Question(item) => Ok(Decided(server.on_question(item)?)),
         ShardInput::Flush => if server.flush(alloc)? {
-            Ok(ShardOutput::Sends)
+            Ok(Sends)
         } else {
-            Ok(ShardOutput::Nothing)
+            Ok(Nothing)
         },
-        ShardInput::Made(revision) => {
-            let answers = server.on_made(alloc, revision)?;
-            Ok(ShardOutput::Answers(answers))
-        }
-        ShardInput::Lost => {
-            let again = server.on_lost(alloc);
-            Ok(ShardOutput::Decides(again))
-        }
-        ShardInput::Base => {
-            let begun = server.begin_base(alloc)?;
-            if begun {
-                Ok(ShardOutput::Bases)
-            } else {
-                Ok(ShardOutput::Nothing)
-            }
-        }
+        ShardInput::Made(revision) => Ok(Answers(server.on_made(alloc, revision)?)),
+        ShardInput::Lost => Ok(Decides(server.on_lost(alloc))),
+        ShardInput::Base => if server.begin_base(alloc)? {
+            Ok(Bases)
+        } else {
+            Ok(Nothing)
+        },
         ShardInput::PartsMade => {
             server.on_parts_made();
-            Ok(ShardOutput::Nothing)
+            Ok(Nothing)
         }
-        ShardInput::Clear(key) => {
-            let behind = server.is_behind(&key);
-            if behind {
-                Ok(ShardOutput::Clears(key))
-            } else {
-                Ok(ShardOutput::Nothing)
-            }
-        }
+        ShardInput::Clear(key) => if server.is_behind(&key) {
+            Ok(Clears(key))
+        } else {
+            Ok(Nothing)
+        },
     }
 }

@@ -52,7 +52,7 @@ returns-in_default-4-clause-err c =
     let held : c.len.result ≡ length c.in-Some-3.groups.items = omega (arith, c.len.ensures, c.in-Some-3.groups.ok.0) in
     let group_count = held ∙ ap length groups.1 in
     let broken = broken_by (map shard_row_of) (rule_of_shards c.count-bounds.result c.len.result) _ _
-    (rw c.in_default-4.is at c.in_ok-shards.ensures.rows) c.items-4.ensures in
+    (rw c.in_default-4.is at c.in_ok-shards.ensures.rows) c.items-rows.ensures in
     λ _. rw (
       sym c.if-not-has_version.ensures,
       sym c.if-not-has_shape.ensures,
@@ -76,7 +76,7 @@ returns-in_err-ops-clause-err c =
     let held : c.len.result ≡ length c.in-Some-3.groups.items = omega (arith, c.len.ensures, c.in-Some-3.groups.ok.0) in
     let group_count = held ∙ ap length groups.1 in
     let shards = given_by (map shard_row_of) (rule_of_shards c.count-bounds.result c.len.result)
-    c.in-Some-4.shards.items _ _ (rw c.in-Some-4.is at c.in_ok-shards.ensures.rows) c.items-4.ensures in
+    c.in-Some-4.shards.items _ _ (rw c.in-Some-4.is at c.in_ok-shards.ensures.rows) c.items-rows.ensures in
     let broken = beyond_limits _ _ _ _ c.in_err-ops.ensures.exact in
     let p = err_from_is_err_and c.from_residual-in_err-ops.result c.from_residual-in_err-ops.ensures.1 in
     rw (p.1, p.2) (λ _. rw (
@@ -104,7 +104,7 @@ returns-in_err-kept-clause-err c =
     let held : c.len.result ≡ length c.in-Some-3.groups.items = omega (arith, c.len.ensures, c.in-Some-3.groups.ok.0) in
     let group_count = held ∙ ap length groups.1 in
     let shards = given_by (map shard_row_of) (rule_of_shards c.count-bounds.result c.len.result)
-    c.in-Some-4.shards.items _ _ (rw c.in-Some-4.is at c.in_ok-shards.ensures.rows) c.items-4.ensures in
+    c.in-Some-4.shards.items _ _ (rw c.in-Some-4.is at c.in_ok-shards.ensures.rows) c.items-rows.ensures in
     let ops = within_limits _ _ _ _ c.in_ok-ops.ensures.exact in
     let broken = beyond_limits _ _ _ _ c.in_err-kept.ensures.exact in
     let p = err_from_is_err_and c.from_residual-in_err-kept.result c.from_residual-in_err-kept.ensures.1 in
@@ -134,7 +134,7 @@ returns-in_err-ceiling-clause-err c =
     let held : c.len.result ≡ length c.in-Some-3.groups.items = omega (arith, c.len.ensures, c.in-Some-3.groups.ok.0) in
     let group_count = held ∙ ap length groups.1 in
     let shards = given_by (map shard_row_of) (rule_of_shards c.count-bounds.result c.len.result)
-    c.in-Some-4.shards.items _ _ (rw c.in-Some-4.is at c.in_ok-shards.ensures.rows) c.items-4.ensures in
+    c.in-Some-4.shards.items _ _ (rw c.in-Some-4.is at c.in_ok-shards.ensures.rows) c.items-rows.ensures in
     let ops = within_limits _ _ _ _ c.in_ok-ops.ensures.exact in
     let kept = within_limits _ _ _ _ c.in_ok-kept.ensures.exact in
     let broken = beyond_limits _ _ _ _ c.in_err-ceiling.ensures.exact in
@@ -166,7 +166,7 @@ returns-in_err-workers-clause-err c =
     let held : c.len.result ≡ length c.in-Some-3.groups.items = omega (arith, c.len.ensures, c.in-Some-3.groups.ok.0) in
     let group_count = held ∙ ap length groups.1 in
     let shards = given_by (map shard_row_of) (rule_of_shards c.count-bounds.result c.len.result)
-    c.in-Some-4.shards.items _ _ (rw c.in-Some-4.is at c.in_ok-shards.ensures.rows) c.items-4.ensures in
+    c.in-Some-4.shards.items _ _ (rw c.in-Some-4.is at c.in_ok-shards.ensures.rows) c.items-rows.ensures in
     let ops = within_limits _ _ _ _ c.in_ok-ops.ensures.exact in
     let kept = within_limits _ _ _ _ c.in_ok-kept.ensures.exact in
     let ceiling = within_limits _ _ _ _ c.in_ok-ceiling.ensures.exact in
@@ -200,7 +200,7 @@ returns-clause-ok c =
     let held : c.len.result ≡ length c.in-Some-3.groups.items = omega (arith, c.len.ensures, c.in-Some-3.groups.ok.0) in
     let group_count = held ∙ ap length groups.1 in
     let shards = given_by (map shard_row_of) (rule_of_shards c.count-bounds.result c.len.result)
-    c.in-Some-4.shards.items _ _ (rw c.in-Some-4.is at c.in_ok-shards.ensures.rows) c.items-4.ensures in
+    c.in-Some-4.shards.items _ _ (rw c.in-Some-4.is at c.in_ok-shards.ensures.rows) c.items-rows.ensures in
     let ops = within_limits _ _ _ _ c.in_ok-ops.ensures.exact in
     let kept = within_limits _ _ _ _ c.in_ok-kept.ensures.exact in
     let ceiling = within_limits _ _ _ _ c.in_ok-ceiling.ensures.exact in

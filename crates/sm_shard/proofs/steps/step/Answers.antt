@@ -29,13 +29,13 @@ returns-then-branch-clause-call g c = λ charter system since count parts right 
           (step_claims c.args.server.now.shard i (Ok out))) (sym c.in-Flush.is) tt;
     }
 
-pub returns-in_ok-answers-in-Made-clause-call : goal.returns-in_ok-answers-in-Made-clause-call
-returns-in_ok-answers-in-Made-clause-call g c = λ charter system since count parts right past known asked input.
+pub returns-in_ok-on_made-in-Made-clause-call : goal.returns-in_ok-on_made-in-Made-clause-call
+returns-in_ok-on_made-in-Made-clause-call g c = λ charter system since count parts right past known asked input.
     let made = subst (λ (i : ShardInput g.row.Q.Denot g.row.R.Denot). IsInput g.M.StoreMachine.service system since
     c.args.server.now i) c.in-Made.is input in
-    let done = c.in_ok-answers-in-Made.ensures in
+    let done = c.in_ok-on_made-in-Made.ensures in
     let shard = c.args.server.now.shard in
-    let answers = c.in_ok-answers-in-Made.answers in
+    let answers = c.in_ok-on_made-in-Made.field-0 in
     let both = both_of c.args.server.now.ready
     (λ (ready : ShardState g.row.M.Denot g.row.Q.Denot g.row.R.Denot). DidHold system.held since
     (sent_transaction c.args.server.now.me shard ready))
@@ -78,9 +78,9 @@ returns-in_err-on_read-in-Read-clause-call g c = λ charter system since count p
       claims = search rules;
     }
 
-pub returns-then-begun-clause-call : goal.returns-then-begun-clause-call
-returns-then-begun-clause-call g c = λ charter system since count parts right past known asked input.
-    let done = c.in_ok-begun-in-Base.ensures in
+pub returns-then-branch-2-clause-call : goal.returns-then-branch-2-clause-call
+returns-then-branch-2-clause-call g c = λ charter system since count parts right past known asked input.
+    let done = c.in_ok-begin_base-in-Base.ensures in
     let now = done.known system.log known in
     record {
       known = now;
@@ -93,12 +93,12 @@ returns-then-begun-clause-call g c = λ charter system since count parts right p
           (step_claims c.args.server.now.shard i (Ok out))) (sym c.in-Base.is) tt;
     }
 
-pub returns-then-behind-clause-call : goal.returns-then-behind-clause-call
-returns-then-behind-clause-call g c = λ charter system since count parts right past known asked input.
+pub returns-then-is_behind-clause-call : goal.returns-then-is_behind-clause-call
+returns-then-is_behind-clause-call g c = λ charter system since count parts right past known asked input.
     record {
       known = known;
       asked = asked;
-      may = (c.is_behind-behind.ensures.may c.if-behind.true charter system.log known, tt);
+      may = (c.is_behind.ensures.may c.if-is_behind.true charter system.log known, tt);
       claims = let out : ShardOutput g.row.Q.Denot g.row.R.Denot = Clears c.in-Clear.key in
           subst (λ (i : ShardInput g.row.Q.Denot g.row.R.Denot). AllByRecursion
           (MayClaim g.M.StoreMachine.service system)
@@ -122,7 +122,7 @@ returns-in-PartsMade-clause-call g c = λ charter system since count parts right
 
 pub returns-in-Record-clause-exact : goal.returns-in-Record-clause-exact
 returns-in-Record-clause-exact g c =
-    let again = c.on_record-again.result in
+    let again = c.on_record.result in
     subst (λ (i : ShardInput g.row.Q.Denot g.row.R.Denot). IsOutputOf g.M.StoreMachine.service g.M.StoreMachine.reads
     g.M.StoreMachine.size c.args.server.now i (Decides again)) (sym c.in-Record.is) (
       again,
@@ -132,12 +132,12 @@ returns-in-Record-clause-exact g c =
           again.sent.items ++ again.waiting.items ≡ ready.sent.items ++ ready.waiting.items)
           (λ (ready : ShardState g.row.M.Denot g.row.Q.Denot g.row.R.Denot).
           again.carried.items ++ again.asking.items ≡ ready.carried.items ++ ready.asking.items)
-          c.on_record-again.ensures.again c.on_record-again.ensures.questions,
+          c.on_record.ensures.again c.on_record.ensures.questions,
     )
 
 pub returns-in-Lost-clause-exact : goal.returns-in-Lost-clause-exact
 returns-in-Lost-clause-exact g c =
-    let again = c.on_lost-again.result in
+    let again = c.on_lost.result in
     subst (λ (i : ShardInput g.row.Q.Denot g.row.R.Denot). IsOutputOf g.M.StoreMachine.service g.M.StoreMachine.reads
     g.M.StoreMachine.size c.args.server.now i (Decides again)) (sym c.in-Lost.is) (
       again,
@@ -147,13 +147,13 @@ returns-in-Lost-clause-exact g c =
           again.sent.items ++ again.waiting.items ≡ ready.sent.items ++ ready.waiting.items)
           (λ (ready : ShardState g.row.M.Denot g.row.Q.Denot g.row.R.Denot).
           again.carried.items ++ again.asking.items ≡ ready.carried.items ++ ready.asking.items)
-          c.on_lost-again.ensures.again c.on_lost-again.ensures.questions,
+          c.on_lost.ensures.again c.on_lost.ensures.questions,
     )
 
-pub returns-in_ok-answers-in-Made-clause-exact : goal.returns-in_ok-answers-in-Made-clause-exact
-returns-in_ok-answers-in-Made-clause-exact g c =
-    let answers = c.in_ok-answers-in-Made.answers in
-    let done = c.in_ok-answers-in-Made.ensures in
+pub returns-in_ok-on_made-in-Made-clause-exact : goal.returns-in_ok-on_made-in-Made-clause-exact
+returns-in_ok-on_made-in-Made-clause-exact g c =
+    let answers = c.in_ok-on_made-in-Made.field-0 in
+    let done = c.in_ok-on_made-in-Made.ensures in
     subst (λ (i : ShardInput g.row.Q.Denot g.row.R.Denot). IsOutputOf g.M.StoreMachine.service g.M.StoreMachine.reads
     g.M.StoreMachine.size c.args.server.now i (Answers answers)) (sym c.in-Made.is) (
       answers,
