@@ -91,7 +91,8 @@ class ClusterTrial:
 
     def how_far(self):
         """What the nemeses have done so far."""
-        moved = f", {self.moves.moved} moves, {self.moves.restarted} restarts" if self.moves else ""
+        moves = self.moves
+        moved = f", {moves.moved} moves, {moves.restarted} restarts, {moves.spread} spreads" if moves else ""
         return f"{sum(it.faults for it in self.others)} faults{moved}"
 
     def fleet(self, room, relays):

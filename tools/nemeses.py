@@ -207,11 +207,12 @@ class Reassign(Nemesis):
 
 
 class Moves(Nemesis):
-    """Migrates shards, each at a server of chance, until it is told to stop; each turn is a graceful restart."""
+    """Migrates shards, each at a server of chance, until it is told to stop; each turn is a graceful restart, after which
+    shards are spread over servers."""
 
     def __init__(self, running, chance, lease):
         super().__init__(running, chance, lease)
-        self.moved, self.restarted, self.has_faults = 0, 0, False
+        self.moved, self.restarted, self.spread, self.has_faults = 0, 0, 0, False
         self.is_over, self.thread = threading.Event(), threading.Thread(target=self.work)
 
     def work(self):
@@ -230,6 +231,7 @@ class Moves(Nemesis):
             with contextlib.suppress(fleet.NotBegun):
                 server.wait(server.is_up)
                 self.restarted += 1
+        self.spread += self.is_done("SPREAD")
         self.pause(2, 4)
 
 

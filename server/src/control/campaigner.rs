@@ -20,10 +20,9 @@ const PAUSE: Duration = Duration::from_millis(200);
 pub(super) const PATIENCE: Duration = Duration::from_secs(5);
 
 /// How answers begin by which nobody has decided on a command, or may not have.
-const UNDECIDED: [&[u8]; 5] = [
+const UNDECIDED: [&[u8]; 4] = [
     b"-UNKNOWN",
     b"-PEERDOWN",
-    b"-REFUSED NotDone",
     b"-REFUSED NotLeader",
     b"-REFUSED St",
 ];

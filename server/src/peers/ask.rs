@@ -1,5 +1,6 @@
 use super::frame::{Frame, Told};
 use super::handed::{written, Handed};
+use crate::control::Refusal;
 use crate::io::ReplyTo;
 use crate::resp::{OwnedCommand, Replies};
 use std::fmt;
@@ -89,7 +90,7 @@ impl Ask {
             Who::Control(_, reply_to) => {
                 match told {
                     Told::Answer(bytes) => pass_on(reply_to, bytes),
-                    Told::NotDone(why) => refuse(reply_to, format_args!("REFUSED NotDone: {why}")),
+                    Told::NotDone(_) => refuse(reply_to, Refusal::leader_ends()),
                 }
                 Err(None)
             }
