@@ -1,5 +1,5 @@
 -- What a reply to a call is to its caller.
-use Rattle.std.proofs.Common.{◌≡◌, ℕ, List, ◌∙◌, ap, refl, subst}
+use Rattle.std.proofs.Common.{◌≡◌, ℕ, List, ◌∙◌, ap, refl, subst, sym}
 use Rattle.std.specs.Prelude.{Some, Result, Ok, Err, IfOk}
 use Rattle.sm_body.specs.Service.{Meaning}
 use Rattle.sm_ownership.specs.declared.entry.Entry.{Entry}
@@ -17,10 +17,12 @@ use Rattle.sm_cluster.specs.declared.call_refused.CallFault.TheVariants.{NoRoute
 use Rattle.sm_cluster.specs.declared.call_refused.CallFault.TheVariants.{Closed}
 use Rattle.sm_cluster.specs.declared.reply.CallReply.{CallReply}
 use Rattle.sm_cluster.specs.declared.reply.CallReply.TheVariants as reply
-use Rattle.sm_cluster.specs.Calls.{CalledAt, ClientValue, FaultAt, IsAnswerFor, IsEnvelopeOf, WasRefused, handed_back}
-use Rattle.sm_cluster.specs.Calls.{shard_asked}
+use Rattle.sm_cluster.specs.Calls.{CallResult, CalledAt, ClientValue, FaultAt, IsAnswerFor, IsEnvelopeOf, WasRefused}
+use Rattle.sm_cluster.specs.Calls.{handed_back, shard_asked}
 use Rattle.sm_cluster.specs.Exchanging.{IsCallOf, IsLeftAfter, IsLeftBy, SendsBackOn, call_outcome}
 use Rattle.sm_cluster.specs.Replies.{CallValue, ComesBackFor, Fits, IsAnswerTo, IsRefusalTo}
+use Rattle.sm_cluster.specs.Since.{IsClientSince}
+use Rattle.sm_cluster.specs.lemmas.Since.{since_looks, since_same}
 use Rattle.sm_cluster.proofs.Travelling.{new_told}
 
 answers_for : {Q R : Type 0} (service : Meaning Q R) (caller : PassValue Q) (shard number : ℕ) (request : Q)
@@ -108,3 +110,22 @@ module _ {Q R : Type 0} (service : Meaning Q R) (before : ClientValue Q) (number
     fault_for after fault back fits.1 left,
   )
   called_at (Err none) after fits left = (refl, left)
+
+-- a client whose call at a server ended so has seen no less
+module _ {Q R : Type 0} (service : Meaning Q R) (number : ℕ) (request : Q) where
+  since_fault : (before after : ClientValue Q) (fault : CallFault)
+      → FaultAt service before after number request fault → IsClientSince before after
+  since_fault before after NoRoute never = absurd never
+  since_fault before after Unreachable same =
+      subst (λ (client : ClientValue Q). IsClientSince before client) (sym same) (since_same before)
+  since_fault before after (Refused refusal) why = since_looks before after why.0 why.1
+  since_fault before after NoMemory same =
+      subst (λ (client : ClientValue Q). IsClientSince before client) (sym same) (since_same before)
+  since_fault before after Closed same =
+      subst (λ (client : ClientValue Q). IsClientSince before client) (sym same) (since_same before)
+
+  pub since_called : (before after : ClientValue Q) (result : CallResult Q R)
+      → CalledAt service before number request result after → IsClientSince before after
+  since_called before after (Ok answer) called =
+      subst (λ (client : ClientValue Q). IsClientSince before client) (sym called.1) (since_same before)
+  since_called before after (Err refused) called = since_fault before after refused.fault called.1

@@ -1,5 +1,3 @@
-pub mod Acking
-pub mod Adding
 pub mod Calling
 pub mod Holding
 pub mod Placing

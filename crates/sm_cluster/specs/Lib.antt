@@ -4,11 +4,10 @@ pub mod Clusters
 pub mod Commands
 pub mod Exchanging
 pub mod Holding
-pub mod IncCounts
-pub mod Loads
 pub mod Passes
 pub mod Publications
 pub mod Replies
+pub mod Since
 pub mod Telling
 pub mod lemmas
 pub use Rattle.sm_publish.specs.Seen

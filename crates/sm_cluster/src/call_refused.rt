@@ -1,3 +1,4 @@
+use sm_inbox::SendFault;
 use sm_server::Refusal;
 use thiserror::Error;
 
@@ -19,6 +20,19 @@ pub enum CallFault {
     /// The message was let go with no reply, as where its server was stopped.
     #[error("no reply will come")]
     Closed,
+}
+
+impl From<SendFault> for CallFault {
+    ghost use Rattle.sm_cluster.specs.Replies.{IsOfTheWay};
+
+    ghost from_gives = { λ _ fault. IsOfTheWay fault };
+
+    fn from(fault: SendFault) -> CallFault {
+        match fault {
+            SendFault::Unreachable => CallFault::Unreachable,
+            SendFault::NoMemory => CallFault::NoMemory,
+        }
+    }
 }
 
 /// A call that was not answered, and its request, but where the message was let go.

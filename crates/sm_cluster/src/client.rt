@@ -4,8 +4,8 @@ ghost use Rattle.sm_body.specs.Service.{meaning_of};
 ghost use Rattle.sm_ranges.specs.Ranges.{shard_of};
 ghost use Rattle.sm_cluster.specs.Calls.{Called, CalledAt, HasHeard, HasLooked, HasReadRoute};
 ghost use Rattle.sm_cluster.specs.Exchanging.{IsCallOf, IsLeftAfter, IsLeftBy, SendsBackOn, call_outcome};
-ghost use Rattle.sm_cluster.specs.Loads.{IsClientSince};
 ghost use Rattle.sm_cluster.specs.Replies.{Fits};
+ghost use Rattle.sm_cluster.specs.Since.{IsClientSince};
 
 use crate::call_refused::{CallFault, CallRefused};
 use crate::ground::Ground;
@@ -287,8 +287,8 @@ impl<S: Service> Client<S> {
         self.ground.board.meet(&mut self.pass, note);
     }
 
-    /// Counts a request that is made anew.
-    pub(crate) fn count_retry(&self) {
+    /// Counts a request that is made anew, for `Cluster::counts`.
+    pub fn count_retry(&self) {
         self.network.counters.count_retry();
     }
 
@@ -314,7 +314,10 @@ fn exchange<S: Service, R: Wait>(
 {
     match network.send(rt, server, message) {
         Ok(()) => receiver.receive(rt),
-        Err(unsent) => Ok(CallReply::Refused(unsent.fault, unsent.message.into_envelope())),
+        Err(unsent) => Ok(CallReply::Refused(
+            CallFault::from(unsent.fault),
+            unsent.message.into_envelope(),
+        )),
     }
 }
 

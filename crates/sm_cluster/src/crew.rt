@@ -2,12 +2,12 @@
 ghost use Rattle.std.specs.Prelude.{◌≢◌, IfErr};
 
 use crate::gate::Gate;
-use crate::inbox::Inbox;
 use crate::message::Message;
 use crate::network::Network;
 use crate::start_fault::StartFault;
 use crate::worker::work;
 use sm_body::service::Service;
+use sm_inbox::Inbox;
 use sm_ranges::server_id::ServerId;
 use std::alloc::Global;
 use std::sync::{Arc, Wait};

@@ -3,7 +3,7 @@ ghost use Rattle.std.specs.Prelude.{◌≡◌, None, Some};
 ghost use Rattle.std.specs.Arc.{arc_value};
 ghost use Rattle.sm_body.specs.Service.{meaning_of};
 ghost use Rattle.sm_rule.specs.Views.{Begins};
-ghost use Rattle.sm_cluster.specs.Replies.{CallValue, IsOfTheWay, IsOnTheWay};
+ghost use Rattle.sm_cluster.specs.Replies.{CallValue, IsOnTheWay};
 ghost use Rattle.sm_cluster.specs.Passes.{IsNewPass};
 ghost use Rattle.sm_cluster.specs.Telling.{IsNotedAgain, Tells};
 
@@ -14,6 +14,7 @@ use crate::reply::{CallReply, ReplySender};
 use sm_body::service::Service;
 use sm_counts::tally::Tally;
 use sm_envelope::envelope::Envelope;
+use sm_inbox::SendFault;
 use sm_ranges::server_id::ServerId;
 use sm_rule::admit_refusal::AdmitRefusal;
 use sm_rule::board::Board;
@@ -77,15 +78,13 @@ impl<S: Service> Message<S> {
     }
 
     /// Sends the fault of the way back with the envelope.
-    pub(crate) fn refuse<R: Wait>(self, rt: &R, fault: CallFault)
-        requires { IsOfTheWay fault }
-    {
+    pub(crate) fn refuse<R: Wait>(self, rt: &R, fault: SendFault) {
         let Message {
             ground: _,
             envelope,
             sender,
         } = self;
-        sender.send(rt, CallReply::Refused(fault, envelope));
+        sender.send(rt, CallReply::Refused(CallFault::from(fault), envelope));
     }
 
     /// Has the server serve it by a new pass, which its tally counts, and sends the reply, or the message on to the

@@ -1,12 +1,10 @@
 //! The ways to the servers' inboxes.
 ghost use Rattle.std.specs.Prelude.{◌≡◌, IfErr};
-ghost use Rattle.sm_cluster.specs.Replies.{IsOfTheWay};
 
-use crate::call_refused::CallFault;
-use crate::inbox::{Door, Inbox, Unsent, inbox_of};
 use sm_counts::counters::Counters;
 use sm_counts::counts::ServerCounts;
 use sm_counts::tally::Tally;
+use sm_inbox::{Door, Inbox, SendFault, Unsent, inbox_of};
 use sm_ranges::server_id::ServerId;
 use sm_rows::ServerRow;
 use std::alloc::{AllocError, Global};
@@ -62,13 +60,12 @@ impl<M: Drop> Network<M> {
     /// Puts the message into the server's inbox, or gives it back: `Unreachable` where the door is shut, `NoMemory`
     /// where memory was refused.
     pub(crate) fn send<R: Wait>(&self, rt: &R, to: ServerId, message: M) -> Result<(), Unsent<M>>
-        ensures message { IfErr result (λ unsent. unsent.message ≡ message) }
-        ensures fault { IfErr result (λ unsent. IsOfTheWay unsent.fault) }
+        ensures { IfErr result (λ unsent. unsent.message ≡ message) }
     {
         match self.open_door(to) {
             Some(door) => door.send(rt, message),
             None => Err(Unsent {
-                fault: CallFault::Unreachable,
+                fault: SendFault::Unreachable,
                 message,
             }),
         }

@@ -7,11 +7,11 @@ ghost use Rattle.sm_body.specs.Service.{meaning_of};
 ghost use Rattle.sm_cluster.specs.Replies.{CallValue, Fits, HoldsReplies};
 
 use crate::call_refused::CallFault;
-use crate::waiting::{LOOKS, pause};
 use crossbeam_channel::protocol::{Lesson, Outcome, Protocol, Split};
 use crossbeam_channel::{Pass, RecvError, RuledReceiver, RuledSender, TryRecvError, bounded_with};
 use sm_body::service::Service;
 use sm_envelope::envelope::Envelope;
+use sm_inbox::{LOOKS, pause};
 use sm_ranges::layout::Layout;
 use sm_rule::note::Note;
 use sm_server::Answer;

@@ -1,9 +1,9 @@
 //! A worker serves what comes into its inbox.
 use crate::gate::Gate;
-use crate::inbox::{Inbox, Parcel};
 use crate::message::Message;
 use crate::network::Network;
 use sm_body::service::Service;
+use sm_inbox::{Inbox, Parcel};
 use std::sync::Wait;
 
 /// Serves what comes, until it is told to stop.

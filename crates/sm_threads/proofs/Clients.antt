@@ -9,8 +9,9 @@ use Rattle.std.proofs.Math.ListN.{get_or-map}
 use Rattle.std.proofs.lemmas.List.Elements.{All-pop, All-replicate, All-weaker}
 use Rattle.sm_cluster.specs.Calls.{ClientValue}
 use Rattle.sm_cluster.specs.Clusters.{ClusterValue, IsClientOf}
-use Rattle.sm_cluster.specs.Loads.{AreClientsSince, HaveLoaded, IsClientSince}
-use Rattle.sm_cluster.specs.declared.loading.LoadReport.{LoadReport}
+use Rattle.sm_cluster.specs.Since.{IsClientSince}
+use Rattle.sm_load.specs.Loads.{AreClientsSince, HaveLoaded}
+use Rattle.sm_load.specs.declared.loading.LoadReport.{LoadReport}
 use Rattle.std.proofs.Math.Seq.{take-append_seam, drop-append_seam}
 use Rattle.sm_session.specs.Service.{counter_text}
 use Rattle.sm_cluster.specs.Seen.{RouterView}

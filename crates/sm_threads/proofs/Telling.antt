@@ -3,7 +3,7 @@ use Rattle.std.proofs.Common.{◌≡◌, ℕ, List, All, Result, Ok, Err, IfErr,
 use Rattle.std.specs.Prelude.{OnErr, OnOk}
 use Rattle.sm_cluster.specs.Calls.{ClientValue}
 use Rattle.sm_cluster.specs.Clusters.{ClusterValue, HasFreed, HasHeld, HasTold, HoldRefused, IsClientOf, TellsMore}
-use Rattle.sm_cluster.specs.Loads.{IsClientSince}
+use Rattle.sm_cluster.specs.Since.{IsClientSince}
 use Rattle.sm_cluster.specs.lemmas.Since.{client_since, knows_since, since_looks}
 use Rattle.sm_cluster.specs.declared.hold_fault.HoldFault.{HoldFault}
 use Rattle.sm_cluster.specs.declared.hold_fault.HoldFault.TheVariants.{UnknownShard, UnknownServer, Admit, NotHeld}

@@ -10,7 +10,7 @@ use Rattle.sm_cluster.specs.Commands.{HasCommanded}
 use Rattle.sm_cluster.specs.Front.{Front}
 use Rattle.sm_cluster.specs.Publications.{HasPublished}
 use Rattle.sm_cluster.specs.declared.hold_fault.HoldFault.{HoldFault}
-use Rattle.sm_cluster.specs.declared.loading.LoadReport.{LoadReport}
+use Rattle.sm_load.specs.declared.loading.LoadReport.{LoadReport}
 use Rattle.sm_desk.specs.Desk.{is_known}
 use Rattle.sm_desk.specs.declared.command.Command.{Command}
 use Rattle.sm_desk.specs.declared.command.CommandFault.{CommandFault}

@@ -1,8 +1,8 @@
 -- What a load says of the counts that it found.
 use Rattle.std.specs.Prelude.{◌≡◌, ◌≢◌, ◌+◌, ℕ, ℤ, pos, ◌+ℤ◌, ◌⊎◌, List, Option, Some, None, take, drop}
 use Rattle.sm_cluster.specs.Calls.{ClientValue}
-use Rattle.sm_cluster.specs.Loads.{AreClientsSince, HaveLoaded}
-use Rattle.sm_cluster.specs.declared.loading.LoadReport.{LoadReport}
+use Rattle.sm_load.specs.Loads.{AreClientsSince, HaveLoaded}
+use Rattle.sm_load.specs.declared.loading.LoadReport.{LoadReport}
 use Rattle.sm_session.specs.Service.{counter_text}
 use Rattle.sm_script.specs.declared.load_verdict.LoadVerdict.{LoadVerdict}
 use Rattle.sm_script.specs.declared.load_verdict.LoadVerdict.TheVariants.{Agrees, Unknown, Differs}

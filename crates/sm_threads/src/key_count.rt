@@ -1,4 +1,4 @@
-use sm_cluster::Counting;
+use sm_load::Counting;
 use sm_ranges::key::Key;
 use sm_service::reply::Reply;
 use sm_service::request::Request;

@@ -14,6 +14,8 @@ mod holding;
 #[cfg(test)]
 mod holds;
 #[cfg(test)]
+mod inbox;
+#[cfg(test)]
 mod latch;
 #[cfg(test)]
 mod leaving;

@@ -1,7 +1,8 @@
 //! What a load adds up to.
 use crate::running::{bodies_of, inc_of, kept_of, setup_of, shard};
-use sm_cluster::{Cluster, Counting, Open, load};
+use sm_cluster::{Cluster, Open};
 use sm_desk::Command;
+use sm_load::{Counting, load};
 use sm_ownership::Change;
 use sm_ranges::{Key, ServerId};
 use sm_service::{Reply, Request};

@@ -1,8 +1,9 @@
 //! Scripts on a cluster where memory is refused: the answers to whole lines are written, and the same run once more writes all.
 
-use sm_cluster::{Counting, Counts, Open};
+use sm_cluster::{Counts, Open};
 use sm_explain::{Listener, Sentence};
 use sm_lines::Dialogue;
+use sm_load::Counting;
 use sm_ranges::Key;
 use sm_run::{RunFault, Status};
 use sm_threads::{CountsListener, KeyCount, run_threads_explained};

@@ -1,7 +1,8 @@
 //! Clients, each in a thread of its own, whose requests add 1 to a count.
 use crate::progress::Progress;
 use crate::tally::Tally;
-use sm_cluster::{Client, load};
+use sm_cluster::Client;
+use sm_load::load;
 use sm_ranges::key::Key;
 use sm_service::{CounterText, Request};
 use sm_threads::KeyCount;

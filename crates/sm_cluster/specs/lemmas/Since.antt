@@ -8,7 +8,7 @@ use Rattle.sm_rule.specs.Views.{Begins}
 use Rattle.sm_rule.specs.lemmas.Passing.{begins_begins, looks_begins}
 use Rattle.sm_cluster.specs.Calls.{ClientValue, client_reading, client_seeing}
 use Rattle.sm_cluster.specs.Clusters.{ClusterValue, IsClientOf, KnowsAll}
-use Rattle.sm_cluster.specs.Loads.{IsClientSince}
+use Rattle.sm_cluster.specs.Since.{IsClientSince}
 
 begins_same : {Q : Type 0} (seen : List (Entry Q)) → Begins seen seen
 begins_same seen = ([], sym (append-nil seen))

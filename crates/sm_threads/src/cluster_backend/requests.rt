@@ -1,7 +1,7 @@
 //! How a cluster's client makes requests and loads.
 ghost use Rattle.std.specs.Prelude.{◌≡◌, ◌+◌, ◌*◌, ◌<◌, ◌≤◌, ◌^◌, IfOk, length};
 ghost use Rattle.sm_cluster.specs.Calls.{HasLooked};
-ghost use Rattle.sm_cluster.specs.Loads.{IsClientSince};
+ghost use Rattle.sm_cluster.specs.Since.{IsClientSince};
 ghost use Rattle.sm_ranges.specs.Ranges.{shard_of};
 ghost use Rattle.sm_service.specs.Service.{key_of_request};
 ghost use Rattle.sm_threads.specs.Calls.{AnsweredAt, AnsweredResult, with_client};
@@ -10,7 +10,8 @@ ghost use Rattle.sm_threads.specs.Loads.{IsLoadOf, IsVerdictOn};
 use super::ClusterBackend;
 use crate::key_count::KeyCount;
 use crate::refusals::call_refused;
-use sm_cluster::{Answer, CallRefused, Client, LoadReport, load};
+use sm_cluster::{Answer, CallRefused, Client};
+use sm_load::{LoadReport, load};
 use sm_ownership::record::Record;
 use sm_ranges::key::Key;
 use sm_ranges::server_id::ServerId;

@@ -2,8 +2,7 @@ use Rattle.std.proofs.Common.{subst}
 use Rattle.sm_body.specs.Service.{meaning_of}
 use Rattle.sm_cluster.specs.Calls.{ClientValue}
 use Rattle.sm_cluster.specs.Exchanging.{IsLeftAfter, call_outcome}
-use Rattle.sm_cluster.proofs.Acking.{since_called}
-use Rattle.sm_cluster.proofs.Calling.{called_at}
+use Rattle.sm_cluster.proofs.Calling.{called_at, since_called}
 use Rattle.sm_cluster.proofs.client.Client.call_shard_at.Goals as goal
 
 pub returns-in-Ok-clause-called : goal.returns-in-Ok-clause-called

@@ -1,5 +1,5 @@
 use Rattle.std.proofs.Common.{ℕ, pos, subst}
-use Rattle.sm_cluster.specs.Loads.{HaveLoaded}
+use Rattle.sm_load.specs.Loads.{HaveLoaded}
 use Rattle.sm_session.specs.Service.{counter_text}
 use Rattle.sm_service.specs.declared.request.Request.TheVariants.{Get, Inc}
 use Rattle.sm_threads.specs.Loads.{count_replied}

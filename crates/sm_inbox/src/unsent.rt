@@ -1,0 +1,19 @@
+use thiserror::Error;
+
+/// Why a message was not sent.
+#[derive(Clone, Copy, Debug, PartialEq, Eq, Drop, Error)]
+pub enum SendFault {
+    /// The door is shut, or nobody has the inbox.
+    #[error("the server is out of reach")]
+    Unreachable,
+    /// Memory for the way was refused.
+    #[error("out of memory")]
+    NoMemory,
+}
+
+/// A message that was not sent, and why.
+#[derive(Drop)]
+pub struct Unsent<M: Drop> {
+    pub fault: SendFault,
+    pub message: M,
+}

@@ -1,0 +1,2 @@
+pub mod Acking
+pub mod Adding

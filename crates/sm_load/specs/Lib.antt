@@ -1,0 +1,2 @@
+pub mod IncCounts
+pub mod Loads
