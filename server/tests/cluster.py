@@ -660,6 +660,36 @@ def kills_of_the_leader_let_drains_go_on(program):
         return f"{left} shards were left"
 
 
+def commands_wait_for_who_leads_next(program):
+    """Where the process that leads ends, none of others is refused but what it had begun, which goes on."""
+    with cluster(program) as several:
+        leader = several.leader()
+        one, other = (it for it in several.processes if it != leader)
+        told, stop = [], threading.Event()
+
+        def migrate():
+            with several.client(one) as client:
+                while not stop.is_set():
+                    shard = len(told) % SHARDS
+                    to = one if shards(client)[shard][1] == str(other) else other
+                    told.append(str(served_answer(client, ("SM", "MIGRATE", shard, to))))
+
+        with several.client(other) as client:
+            assert "is stopped" in client.ask("SM", "RESTART", leader)
+            moving = threading.Thread(target=migrate, daemon=True)
+            moving.start()
+            eventually(lambda: len(told) > SHARDS)
+            assert several.processes.pop(leader).kill(signal.SIGTERM) == 0
+            count = len(told)
+            eventually(lambda: len(told) > count + SHARDS)
+            stop.set()
+            moving.join(PATIENCE)
+        refused = [it for it in told if it != "OK"]
+        goes_on = "REFUSED NotLeader: another process leads from now on, and goes on with what is under way"
+        assert len(refused) <= 1 and all(it.startswith(goes_on) for it in refused), refused
+        return f"{len(told)} migrations"
+
+
 def restarts_are_told_when_a_process_may_end(program):
     with cluster(program) as several, Load(several, 6) as load, several.client(1) as client:
         followers = [it for it in several.processes if it != several.leader()]
@@ -715,6 +745,7 @@ TESTS = [
     who_is_not_reached_is_told_in_time,
     kills_of_the_leader_let_migrations_go_on,
     kills_of_the_leader_let_drains_go_on,
+    commands_wait_for_who_leads_next,
     restarts_are_told_when_a_process_may_end,
     restarts_wait_for_no_process_that_has_failed,
 ]

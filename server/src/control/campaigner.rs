@@ -1,5 +1,6 @@
 use super::controller::send;
 use super::stored::{Led, StoredController};
+use super::waiting::{Held, Waiting};
 use super::{Asked, Refusal};
 use crate::cluster::Cluster;
 use crate::io::ReplyTo;
@@ -16,8 +17,6 @@ use std::time::{Duration, Instant};
 const TICK: Duration = Duration::from_millis(20);
 /// How long until it tries to lead again after it couldn't.
 const PAUSE: Duration = Duration::from_millis(200);
-/// How long a command waits for somebody to lead.
-pub(super) const PATIENCE: Duration = Duration::from_secs(5);
 
 /// How answers begin by which nobody has decided on a command, or may not have.
 const UNDECIDED: [&[u8]; 4] = [
@@ -26,9 +25,6 @@ const UNDECIDED: [&[u8]; 4] = [
     b"-REFUSED NotLeader",
     b"-REFUSED St",
 ];
-
-/// A command that waits for somebody to lead, and until when.
-pub(super) type Held = (Instant, Asked);
 
 /// The control in one of several processes: it leads where no other one does, and else has the one that leads answer.
 pub struct Campaigner {
@@ -41,7 +37,7 @@ pub struct Campaigner {
     /// When it tries to lead, or asks who leads, again.
     again: Instant,
     /// Commands that wait for somebody to lead.
-    held: Vec<Held>,
+    waiting: Waiting,
     /// Whether this server was stopped before its process began, and is still to ask to be up.
     is_back: Arc<AtomicBool>,
 }
@@ -64,7 +60,7 @@ impl Campaigner {
             line,
             assigns,
             again: Instant::now(),
-            held: Vec::new(),
+            waiting: Waiting::default(),
         }
     }
 
@@ -76,7 +72,9 @@ impl Campaigner {
                 None => self.follow(&asked),
             };
             if !goes_on {
-                return;
+                // What others asked waits elsewhere.
+                let waiting = self.waiting.take().into_iter();
+                return waiting.for_each(|it| self.pass_on(it, None));
             }
         }
     }
@@ -110,8 +108,8 @@ impl Campaigner {
     /// Leads until another process does. Returns whether somebody can still ask.
     fn lead(&mut self, controller: StoredController, asked: &Receiver<Asked>) -> bool {
         tracing::info!("this process leads");
-        let waiting = (&mut self.held, asked);
-        let led = controller.lead(&self.peers, self.assigns, &self.is_back, waiting);
+        let asking = (&self.waiting, asked);
+        let led = controller.lead(&self.peers, self.assigns, &self.is_back, asking);
         tracing::info!("this process doesn't lead any more");
         matches!(led, Led::Elsewhere)
     }
@@ -119,14 +117,14 @@ impl Campaigner {
     /// Has the process that leads answer. Returns whether somebody can still ask.
     fn follow(&mut self, asked: &Receiver<Asked>) -> bool {
         match asked.recv_timeout(TICK) {
-            Ok(asked) => self.held.push((Instant::now() + PATIENCE, asked)),
+            Ok(asked) => self.waiting.hold(asked),
             Err(RecvTimeoutError::Timeout) => {}
             Err(RecvTimeoutError::Disconnected) => return false,
         }
         let leader = self.peers.leader();
         self.ask_to_be_back(leader);
-        for (end, asked) in std::mem::take(&mut self.held) {
-            self.pass_on(end, asked, leader);
+        for held in self.waiting.take() {
+            self.pass_on(held, leader);
         }
         true
     }
@@ -153,28 +151,31 @@ impl Campaigner {
             tracing::info!(told = told.trim_end(), "asked for this server to be up");
         });
         let command = OwnedCommand::of(&["SM", "BACK", &own.to_string()]);
-        self.peers.ask_control(leader, command, reply_to);
+        let asked = Asked { command, reply_to };
+        self.peers.ask_control(leader, asked, None);
     }
 
-    /// Gives the command to the process that leads; where none does it waits. What came from another process goes no
-    /// further.
-    fn pass_on(&mut self, end: Instant, asked: Asked, leader: Option<u16>) {
+    /// Gives the command to the process that leads; where none does, or where that did nothing of it, it waits. What
+    /// came from another process goes no further: it is given back where this one can't lead.
+    fn pass_on(&self, held: Held, leader: Option<u16>) {
         let own = self.peers.member().server();
-        let asked = match super::routes::told(&self.cluster, &self.peers, asked) {
-            Some(asked) => asked,
-            None => return,
+        let Held { until, asked } = held;
+        let Some(asked) = super::routes::told(&self.cluster, &self.peers, asked) else {
+            return;
         };
-        let to = leader.filter(|it| *it != own && !asked.reply_to.is_of_process());
-        if let Some(leader) = to {
-            let Asked { command, reply_to } = asked;
-            return self.peers.ask_control(leader, command, reply_to);
-        }
-        if self.cluster.is_stopping() {
-            return send(asked.reply_to, Err(Refusal::stopping()));
-        }
-        match Instant::now() < end {
-            true => self.held.push((end, asked)),
-            false => send(asked.reply_to, Err(Refusal::no_leader())),
+        let refusal = match leader.filter(|it| *it != own) {
+            Some(leader) if !asked.reply_to.asks_elsewhere() => {
+                let again = self.waiting.again(until);
+                return self.peers.ask_control(leader, asked, Some(again));
+            }
+            None if !self.cluster.is_stopping() && Instant::now() < until => {
+                return self.waiting.hold_again(Held { until, asked });
+            }
+            None if self.cluster.is_stopping() => Refusal::stopping(),
+            _ => Refusal::no_leader(),
+        };
+        if let Err(reply_to) = asked.reply_to.give_back() {
+            send(reply_to, Err(refusal));
         }
     }
 }

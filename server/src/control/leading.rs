@@ -1,7 +1,7 @@
 //! What the control of several processes does beside answering: it looks after servers that went or came back.
-use super::campaigner::{Held, PATIENCE};
 use super::controller::send;
 use super::stored::{Led, StoredController, Task, TURN};
+use super::waiting::{Held, Waiting};
 use super::{Asked, Refusal};
 use crate::peers::Peers;
 use crate::presence::Standing;
@@ -31,24 +31,32 @@ impl StoredController {
         peers: &Arc<Peers>,
         assigns: bool,
         is_back: &Arc<AtomicBool>,
-        (held, asked): (&mut Vec<Held>, &Receiver<Asked>),
+        (waiting, asked): (&Waiting, &Receiver<Asked>),
     ) -> Led {
         self.peers = Some(peers.clone());
         let mut watch = Watch::new(assigns, is_back.clone());
         loop {
             let left = watch.due.saturating_duration_since(Instant::now());
-            match asked.recv_timeout(self.wait_as_leader().min(left)) {
-                Ok(asked) => held.push((Instant::now() + PATIENCE, asked)),
-                Err(RecvTimeoutError::Timeout) => {}
-                Err(RecvTimeoutError::Disconnected) => return Led::Over,
+            let goes_on = match asked.recv_timeout(self.wait_as_leader().min(left)) {
+                Ok(asked) => {
+                    waiting.hold(asked);
+                    Led::Elsewhere
+                }
+                Err(RecvTimeoutError::Timeout) => Led::Elsewhere,
+                Err(RecvTimeoutError::Disconnected) => Led::Over,
+            };
+            // What waits goes to whoever leads then.
+            if goes_on == Led::Over || self.cluster.is_stopping() {
+                self.leave();
+                return goes_on;
             }
-            self.take_held(held, watch.has_begun);
+            self.take_waiting(waiting, watch.has_begun);
             self.run_tasks();
             if let Err(refusal) = watch.look(&mut self) {
                 tracing::warn!(%refusal, "the control doesn't go on for now");
                 watch.due = Instant::now() + PAUSE;
             }
-            if self.is_lost || watch.is_led_elsewhere(peers) || self.cluster.is_stopping() {
+            if self.is_lost || watch.is_led_elsewhere(peers) {
                 self.leave();
                 return Led::Elsewhere;
             }
@@ -57,13 +65,13 @@ impl StoredController {
 
     /// Takes what waits, once all that was under way before it is known: a wish that is read behind a command would
     /// undo that. Before then what has waited in vain is refused.
-    fn take_held(&mut self, held: &mut Vec<Held>, has_begun: bool) {
+    fn take_waiting(&mut self, waiting: &Waiting, has_begun: bool) {
         let now = Instant::now();
-        for (end, asked) in std::mem::take(held) {
+        for Held { until, asked } in waiting.take() {
             match has_begun {
                 true => self.take(asked),
-                false if end <= now => send(asked.reply_to, Err(Refusal::no_leader())),
-                false => held.push((end, asked)),
+                false if until <= now => send(asked.reply_to, Err(Refusal::no_leader())),
+                false => waiting.hold_again(Held { until, asked }),
             }
         }
     }

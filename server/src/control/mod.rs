@@ -22,8 +22,10 @@ mod spreading;
 mod standings;
 mod stored;
 mod task;
+mod waiting;
 
 pub use campaigner::Campaigner;
 pub use controller::{Asked, Controller};
 pub use refusal::Refusal;
 pub use stored::StoredController;
+pub use waiting::{Again, Waiting};

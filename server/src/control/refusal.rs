@@ -108,11 +108,6 @@ impl Refusal {
         Refusal::new("NotLeader", reason, "try again")
     }
 
-    /// That the process that leads takes no more commands of others.
-    pub fn leader_ends() -> Refusal {
-        Refusal::new("NotLeader", "the process that leads ends", "try again")
-    }
-
     /// That another process leads from now on.
     pub fn led_elsewhere() -> Refusal {
         let reason = "another process leads from now on, and goes on with what is under way";

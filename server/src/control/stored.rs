@@ -309,7 +309,8 @@ impl StoredController {
     /// Answers all tasks that another process goes on with what is under way.
     pub(super) fn leave(&mut self) {
         for task in std::mem::take(&mut self.tasks) {
-            let refusal = match self.cluster.is_stopping() {
+            let is_elsewhere = task.reply_to.as_ref().is_some_and(ReplyTo::asks_elsewhere);
+            let refusal = match self.cluster.is_stopping() && !is_elsewhere {
                 true => Refusal::stopping(),
                 false => Refusal::led_elsewhere(),
             };

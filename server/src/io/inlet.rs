@@ -136,6 +136,8 @@ enum To {
     },
     /// To another process.
     Process(Box<dyn FnOnce(Vec<u8>) + Send>),
+    /// To another process, which asks elsewhere where nothing is done.
+    Asking(Box<dyn FnOnce(Option<Vec<u8>>) + Send>),
 }
 
 impl ReplyTo {
@@ -149,9 +151,29 @@ impl ReplyTo {
         ReplyTo(To::Process(Box::new(tell)))
     }
 
-    /// Whether another process asked.
-    pub fn is_of_process(&self) -> bool {
-        matches!(self.0, To::Process(_))
+    /// To another process, by who is given the answer, or none where nothing was done: then it asks elsewhere.
+    pub fn asking_process(tell: impl FnOnce(Option<Vec<u8>>) + Send + 'static) -> ReplyTo {
+        ReplyTo(To::Asking(Box::new(tell)))
+    }
+
+    /// Whether another process asked, which asks elsewhere where nothing is done.
+    pub fn asks_elsewhere(&self) -> bool {
+        matches!(self.0, To::Asking(_))
+    }
+
+    /// Tells a process that asks elsewhere then that nothing was done.
+    ///
+    /// # Errors
+    ///
+    /// It itself, where no such process asked.
+    pub fn give_back(self) -> Result<(), ReplyTo> {
+        match self.0 {
+            To::Asking(tell) => {
+                tell(None);
+                Ok(())
+            }
+            other => Err(ReplyTo(other)),
+        }
     }
 
     /// Counts the errors of an answer.
@@ -178,6 +200,7 @@ impl ReplyTo {
                 });
             }),
             To::Process(tell) => tell(bytes),
+            To::Asking(tell) => tell(Some(bytes)),
         }
     }
 }
@@ -186,7 +209,7 @@ impl fmt::Debug for ReplyTo {
     fn fmt(&self, f: &mut fmt::Formatter<'_>) -> fmt::Result {
         match &self.0 {
             To::Connection { place, id, .. } => write!(f, "ReplyTo({place}, {id})"),
-            To::Process(_) => f.write_str("ReplyTo(process)"),
+            To::Process(_) | To::Asking(_) => f.write_str("ReplyTo(process)"),
         }
     }
 }

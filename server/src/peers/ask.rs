@@ -1,8 +1,8 @@
 use super::frame::{Frame, Told};
 use super::handed::{written, Handed};
-use crate::control::Refusal;
+use crate::control::{Again, Asked, Refusal};
 use crate::io::ReplyTo;
-use crate::resp::{OwnedCommand, Replies};
+use crate::resp::Replies;
 use std::fmt;
 use std::time::{Duration, Instant};
 
@@ -10,8 +10,8 @@ use std::time::{Duration, Instant};
 const BEYOND: Duration = Duration::from_secs(6);
 /// How long works that have waited already may take to be sent.
 const SOON: Duration = Duration::from_millis(100);
-/// How long a command for the control may take to be sent, however short works wait.
-const LEAST: Duration = Duration::from_secs(1);
+/// How long a command for the control may take to be sent, before it is looked again who leads.
+const SEND: Duration = Duration::from_secs(1);
 
 /// What another process is asked.
 pub(super) struct Ask {
@@ -26,8 +26,8 @@ pub(super) struct Ask {
 pub(super) enum Who {
     /// The works of a client.
     Works(Handed),
-    /// Who gave the control a command.
-    Control(OwnedCommand, ReplyTo),
+    /// Who gave the control a command, which may wait again.
+    Control(Asked, Option<Again>),
 }
 
 impl Ask {
@@ -41,12 +41,12 @@ impl Ask {
         }
     }
 
-    /// That of a command for the control, which waits for so long, and whose answer may take as long as it likes.
-    pub(super) fn control(command: OwnedCommand, reply_to: ReplyTo, wait: Duration) -> Ask {
+    /// That of a command for the control, whose answer may take as long as it likes.
+    pub(super) fn control(asked: Asked, again: Option<Again>) -> Ask {
         Ask {
-            due: Instant::now() + wait.max(LEAST),
+            due: Instant::now() + SEND,
             end: None,
-            who: Who::Control(command, reply_to),
+            who: Who::Control(asked, again),
         }
     }
 
@@ -54,9 +54,9 @@ impl Ask {
     pub(super) fn written(&self, number: u64) -> Option<Vec<u8>> {
         match &self.who {
             Who::Works(handed) => written(handed.frame(), number),
-            Who::Control(command, _) => {
+            Who::Control(asked, _) => {
                 let mut bytes = Vec::new();
-                Frame::Control(command.spell()).write(number, &mut bytes);
+                Frame::Control(asked.command.spell()).write(number, &mut bytes);
                 Some(bytes)
             }
         }
@@ -87,10 +87,10 @@ impl Ask {
                     }),
                 }
             }
-            Who::Control(_, reply_to) => {
+            Who::Control(asked, again) => {
                 match told {
-                    Told::Answer(bytes) => pass_on(reply_to, bytes),
-                    Told::NotDone(_) => refuse(reply_to, Refusal::leader_ends()),
+                    Told::Answer(bytes) => pass_on(asked.reply_to, bytes),
+                    Told::NotDone(_) => give_back(asked, again, Refusal::no_leader()),
                 }
                 Err(None)
             }
@@ -104,9 +104,9 @@ impl Ask {
                 handed.lost(why);
                 Some(handed)
             }
-            Who::Control(_, reply_to) => {
+            Who::Control(asked, _) => {
                 let told = format_args!("UNKNOWN {why}: look before you try again");
-                refuse(reply_to, told);
+                refuse(asked.reply_to, told);
                 None
             }
         }
@@ -116,9 +116,9 @@ impl Ask {
     pub(super) fn unsent(self, why: &str) -> Option<Handed> {
         match self.who {
             Who::Works(handed) => Some(handed),
-            Who::Control(_, reply_to) => {
+            Who::Control(asked, again) => {
                 let told = format_args!("PEERDOWN nothing has changed: {why}: try again");
-                refuse(reply_to, told);
+                give_back(asked, again, told);
                 None
             }
         }
@@ -136,6 +136,17 @@ fn pass_on(reply_to: ReplyTo, answer: Vec<u8>) {
     reply_to.send(answer);
 }
 
+/// Has a command of which nothing was done wait again, where it may; else it is refused.
+fn give_back(asked: Asked, again: Option<Again>, why: impl fmt::Display) {
+    let held = match again {
+        Some(again) => again.hold(asked),
+        None => Err(asked),
+    };
+    if let Err(asked) = held {
+        refuse(asked.reply_to, why);
+    }
+}
+
 fn refuse(reply_to: ReplyTo, why: impl fmt::Display) {
     let mut replies = Replies::default();
     replies.error(why);
@@ -146,5 +157,59 @@ fn refuse(reply_to: ReplyTo, why: impl fmt::Display) {
 fn note_errors(reply_to: &ReplyTo, replies: &mut Replies) {
     if let Some(errors) = replies.take_errors() {
         reply_to.note_errors(errors);
+    }
+}
+
+#[cfg(test)]
+mod tests {
+    use super::*;
+    use crate::control::Waiting;
+    use crate::resp::OwnedCommand;
+    use durkenzo_driver::NotDone;
+    use std::sync::mpsc::{channel, Receiver};
+
+    /// A command for the control, which waits until then where nothing is done of it, and where its answer comes.
+    fn control(waiting: &Waiting, until: Instant) -> (Ask, Receiver<Vec<u8>>) {
+        let (tell, told) = channel();
+        let reply_to = ReplyTo::process(move |bytes| tell.send(bytes).unwrap());
+        let command = OwnedCommand::of(&["SM", "SPREAD"]);
+        let again = waiting.again(until);
+        (Ask::control(Asked { command, reply_to }, Some(again)), told)
+    }
+
+    fn not_done(ask: Ask) {
+        assert!(matches!(
+            ask.told(0, Told::NotDone(NotDone::Stopped)),
+            Err(None)
+        ));
+    }
+
+    #[test]
+    fn a_command_of_which_nothing_was_done_waits_again_while_it_may() {
+        let (waiting, now) = (Waiting::default(), Instant::now());
+        let later = now + Duration::from_secs(60);
+        let (first, _waits) = control(&waiting, later);
+        not_done(first);
+        let (second, _waits_too) = control(&waiting, later);
+        assert!(second.unsent("it is gone").is_none());
+        let untils: Vec<_> = waiting.take().into_iter().map(|it| it.until).collect();
+        assert_eq!(untils, [later, later]);
+        let (late, refused) = control(&waiting, now);
+        not_done(late);
+        let told = refused.try_recv().unwrap();
+        assert!(told.starts_with(b"-REFUSED NotLeader"), "{told:?}");
+        assert!(waiting.take().is_empty());
+    }
+
+    #[test]
+    fn a_command_that_may_have_been_done_waits_for_nobody() {
+        let waiting = Waiting::default();
+        let (ask, unknown) = control(&waiting, Instant::now() + Duration::from_secs(60));
+        assert!(ask.lost("it is gone").is_none());
+        assert!(unknown
+            .try_recv()
+            .unwrap()
+            .starts_with(b"-UNKNOWN it is gone"));
+        assert!(waiting.take().is_empty());
     }
 }

@@ -386,6 +386,7 @@ fn unasked(ask: Ask, why: &str) -> Box<Unasked> {
 #[cfg(test)]
 mod tests {
     use super::*;
+    use crate::control::Asked;
     use crate::io::ReplyTo;
     use crate::resp::OwnedCommand;
     use std::net::{TcpListener, TcpStream};
@@ -406,7 +407,8 @@ mod tests {
     fn asked(link: &Link) -> Receiver<Vec<u8>> {
         let (tell, told) = channel();
         let reply_to = ReplyTo::process(move |bytes| tell.send(bytes).unwrap());
-        let ask = Ask::control(OwnedCommand::of(&["SM", "ROUTES"]), reply_to, WAIT);
+        let command = OwnedCommand::of(&["SM", "ROUTES"]);
+        let ask = Ask::control(Asked { command, reply_to }, None);
         assert!(link.ask(ask).is_ok());
         told
     }

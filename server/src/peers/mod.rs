@@ -31,9 +31,7 @@ pub use frame::{Frame, Told, Works};
 pub use greeting::{checksum, Greeting, Identity, MAX_SECRET};
 
 use crate::cluster::Cluster;
-use crate::control::Asked;
-use crate::io::ReplyTo;
-use crate::resp::OwnedCommand;
+use crate::control::{Again, Asked};
 use ask::Ask;
 use channel::End;
 use durkenzo_driver::{Durable, Elsewhere, HandOver, Member, Step};
@@ -92,10 +90,10 @@ impl Peers {
         })
     }
 
-    /// Gives the command to the control in this server's process.
-    pub fn ask_control(&self, server: u16, command: OwnedCommand, reply_to: ReplyTo) {
-        let ask = Ask::control(command, reply_to, self.inner.wait);
-        self.inner.ask(server, ask);
+    /// Gives the command to the control in this server's process; where nothing is done of it, it waits again, if it
+    /// may, and else is refused.
+    pub fn ask_control(&self, server: u16, asked: Asked, again: Option<Again>) {
+        self.inner.ask(server, Ask::control(asked, again));
     }
 
     /// What went between this process and others.

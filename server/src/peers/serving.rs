@@ -154,7 +154,9 @@ impl Serving {
         let command = OwnedCommand::spelled(words).ok_or(WireFault::Words)?;
         let teller = Teller::new(self.outbox.clone(), number, 0);
         let told = teller.clone();
-        let reply_to = ReplyTo::process(move |bytes| told.tell(Told::Answer(bytes)));
+        let reply_to = ReplyTo::asking_process(move |answer| {
+            told.tell(answer.map_or(Told::NotDone(NotDone::Stopped), Told::Answer));
+        });
         let control = locked(&self.inner.control).clone();
         let is_asked = control.is_some_and(|it| it.send(Asked { command, reply_to }).is_ok());
         if !is_asked {
