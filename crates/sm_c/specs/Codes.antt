@@ -11,6 +11,7 @@ use Rattle.sm_ownership.specs.declared.change_fault.ChangeFault.TheVariants.{Unk
 use Rattle.sm_ownership.specs.declared.change_fault.ChangeFault.TheVariants.{SameServer, Spent, Busy}
 use Rattle.sm_place.specs.declared.place_fault.PlaceFault.{PlaceFault}
 use Rattle.sm_place.specs.declared.place_fault.PlaceFault.TheVariants.{Leaving, NoCapacity, DomainLimit}
+use Rattle.sm_ranges.specs.declared.key.KeyFault.TheVariants.{Empty, TooLong, NoMemory as NoKey}
 use Rattle.sm_rule.specs.declared.admit_refusal.AdmitRefusal.{AdmitRefusal}
 use Rattle.sm_rule.specs.Admissions.{fault_told}
 use Rattle.sm_server.specs.declared.checkpoint_fault.CheckpointFault.{CheckpointFault}
@@ -27,6 +28,8 @@ use Rattle.sm_handle.specs.declared.act_fault.ActFault.{ActFault}
 use Rattle.sm_handle.specs.declared.act_fault.ActFault.TheVariants.{WrongHandle, UnknownShard, UnknownServer, NoMemory}
 use Rattle.sm_handle.specs.declared.act_fault.ActFault.TheVariants.{TooShort, NotSent, NoMore, Admit, Checkpoint}
 use Rattle.sm_handle.specs.declared.act_fault.ActFault.TheVariants.{Command}
+use Rattle.sm_c.specs.declared.requests.RequestFault.{RequestFault}
+use Rattle.sm_c.specs.declared.requests.RequestFault.TheVariants.{Argument, Key as BadKey}
 use Rattle.sm_c.specs.declared.word_fault.WordFault.{WordFault}
 use Rattle.sm_c.specs.declared.word_fault.WordFault.TheVariants.{BadWord, BadCeiling}
 use Rattle.sm_c.specs.declared.word_fault.WordFault.TheVariants.{Change as WordUnchanged, Admit as WordUnadmitted}
@@ -122,3 +125,10 @@ word_fault_code BadWord = 4
 word_fault_code BadCeiling = 5
 word_fault_code (WordUnchanged fault) = change_fault_code fault
 word_fault_code (WordUnadmitted fault) = admit_fault_code fault
+
+-- why parts are no request of the sample service
+abbrev pub request_fault_code : RequestFault → ℕ
+request_fault_code Argument = 2
+request_fault_code (BadKey Empty) = 57
+request_fault_code (BadKey TooLong) = 58
+request_fault_code (BadKey NoKey) = 3

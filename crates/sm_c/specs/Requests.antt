@@ -1,5 +1,5 @@
 -- Requests of the sample service by their parts.
-use Rattle.std.specs.Prelude.{ℕ, ℤ, pos, ◌≡◌, ◌<◌, ◌⊎◌, ◌^◌, ◌-◌, List, Option, length, min}
+use Rattle.std.specs.Prelude.{ℕ, ℤ, pos, int_le, ◌≡◌, ◌<◌, ◌⊎◌, ◌^◌, ◌-◌, Bool, false, ◌&&◌, List, Option, length, min}
 use Rattle.sm_ranges.specs.declared.limits.TheConstants.{MAX_KEY, MAX_SHARD}
 use Rattle.sm_server.specs.declared.refusal.Refusal.{Refusal}
 use Rattle.sm_service.specs.declared.request.Request.{Request}
@@ -7,14 +7,16 @@ use Rattle.sm_service.specs.declared.request.Request.TheVariants.{Get, Put, Appe
 use Rattle.sm_handle.specs.declared.handle_state.HandleState.{HandleState}
 use Rattle.sm_handle.specs.declared.act_fault.ActFault.{ActFault}
 use Rattle.sm_handle.specs.declared.served_as.ServedAs.TheVariants.{Refused}
-use Rattle.sm_handle.specs.Maps.{HoldsKeys, MakesReply}
+use Rattle.sm_handle.specs.Maps.{HoldsKeys, MakesNoReply, MakesReply}
 use Rattle.sm_handle.specs.Serving.{Carries, IsSentAs, RefusesCheckpoint, Serves, ServesNowhere}
 use Rattle.sm_handle.specs.declared.sent_as.SentAs.{SentAs}
-use Rattle.sm_c.specs.Codes.{act_fault_code, refusal_code}
+use Rattle.sm_c.specs.Codes.{act_fault_code, refusal_code, request_fault_code}
 use Rattle.sm_c.specs.Words.{CameFrom}
 use Rattle.sm_c.specs.declared.sent_parts.SentParts.{SentParts}
 use Rattle.sm_c.specs.Reading.{TellsRecord, act_read, refusal_read}
 use Rattle.sm_c.specs.declared.record_parts.RecordParts.{RecordParts}
+use Rattle.sm_c.specs.declared.requests.RequestFault.{RequestFault}
+use Rattle.sm_c.specs.declared.requests.RequestFault.TheVariants.{Argument, Key as BadKey}
 
 -- the request has this kind and these parts
 abbrev pub HasParts : ℕ → List ℕ → List ℕ → ℤ → Request → Type 0
@@ -30,6 +32,23 @@ HasParts kind key other amount (Scan low high most) =
 abbrev pub IsNoKey : List ℕ → Type 0
 IsNoKey bytes = (length bytes ≡ 0) ⊎ (MAX_KEY < length bytes)
 
+-- the amount is a number of pairs
+abbrev pub is_u32 : ℤ → Bool
+is_u32 amount = int_le (pos 0) amount && int_le amount (pos (2 ^ 32 - 1))
+
+-- no request has this kind; or it is a scan, and asks for fewer than 0 pairs or for 2^32 or more
+abbrev pub IsNoRequest : ℕ → ℤ → Type 0
+IsNoRequest kind amount = (kind ≡ 0) ⊎ (6 < kind) ⊎ ((kind ≡ 6) × (is_u32 amount ≡ false))
+
+-- a request of this kind names one by these bytes or, if it is a scan, by those, and they are no key
+abbrev pub HasNoKey : ℕ → List ℕ → List ℕ → Type 0
+HasNoKey kind key other = IsNoKey key ⊎ ((kind ≡ 6) × IsNoKey other)
+
+-- why parts are no request
+abbrev pub AreNoRequest : RequestFault → ℕ → List ℕ → List ℕ → ℤ → Type 0
+AreNoRequest Argument kind key other amount = IsNoRequest kind amount
+AreNoRequest (BadKey fault) kind key other amount = HasNoKey kind key other
+
 -- so many keys of the map hold something, or more than a word counts
 abbrev pub CountsKeys : Option HandleState → ℕ → Type 0
 CountsKeys map count = (all : ℕ) × HoldsKeys map all × (count ≡ min all (2 ^ 64 - 1))
@@ -39,6 +58,12 @@ abbrev pub AsksMap :
     Option HandleState → Option HandleState → ℕ → List ℕ → List ℕ → ℤ → Option HandleState → Type 0
 AsksMap before after kind key other amount reply =
     (request : Request) × HasParts kind key other amount request × MakesReply before after request reply
+
+-- the map wasn't asked: the parts are no request, the handle keeps no map, or memory was refused; and the code says why
+abbrev pub AsksNothing : Option HandleState → ℕ → List ℕ → List ℕ → ℤ → ℕ → Type 0
+AsksNothing before kind key other amount code =
+    ((fault : RequestFault) × AreNoRequest fault kind key other amount × (code ≡ request_fault_code fault))
+    ⊎ ((fault : ActFault) × MakesNoReply before fault × (code ≡ act_fault_code fault))
 
 -- the parts are those of an envelope that was sent so
 abbrev pub AreSentParts : SentParts → SentAs → Type 0

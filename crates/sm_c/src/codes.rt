@@ -1,7 +1,7 @@
 //! The codes by which calls answer C.
 ghost use Rattle.std.specs.Prelude.{◌≡◌, ◌≢◌, ◌<◌};
 ghost use Rattle.sm_c.specs.Codes.{act_fault_code, admit_fault_code, change_fault_code, command_fault_code, pass_code};
-ghost use Rattle.sm_c.specs.Codes.{refusal_code, restart_fault_code, told_code, word_fault_code};
+ghost use Rattle.sm_c.specs.Codes.{refusal_code, request_fault_code, restart_fault_code, told_code, word_fault_code};
 
 use crate::requests::RequestFault;
 use crate::word_fault::WordFault;
@@ -216,7 +216,8 @@ pub(crate) fn code_of_cut(fault: CutFault) -> u32
 
 /// The code of why parts are no request.
 pub(crate) fn code_of_request(fault: RequestFault) -> u32
-    ensures { result ≢ 0 }
+    ensures code { result ≡ request_fault_code fault }
+    ensures refused { result ≢ 0 }
 {
     match fault {
         RequestFault::Argument => BAD_ARGUMENT,

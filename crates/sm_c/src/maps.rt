@@ -1,10 +1,10 @@
 //! Maps of the sample service.
 ghost use Rattle.std.specs.Prelude.{◌≡◌, ◌≢◌, ◌⊎◌};
 ghost use Rattle.sm_handle.specs.Maps.{IsEmptyMap, KeepsNoMap, Replied, WritesHeld};
-ghost use Rattle.sm_c.specs.Requests.{AsksMap, CountsKeys, IsNoKey};
+ghost use Rattle.sm_c.specs.Requests.{AsksMap, AsksNothing, CountsKeys, IsNoKey};
 
 use crate::codes::{NO_MEMORY, code_of_act, code_of_request};
-use crate::requests::{lent_key_of, lent_request_of};
+use crate::requests::{RequestFault, lent_key_of, lent_request_of};
 use sm_handle::{Handle, ReplyParts};
 use std::alloc::Global;
 
@@ -52,7 +52,7 @@ pub extern "C" fn durkenzo_get(
 {
     let key = match lent_key_of(key) {
         Ok(key) => key,
-        Err(fault) => return code_of_request(fault),
+        Err(fault) => return code_of_request(RequestFault::Key(fault)),
     };
     match map.get(key, into) {
         Ok(held) => {
@@ -79,6 +79,7 @@ pub extern "C" fn durkenzo_ask(
     ensures made { result ≡ 0
         → AsksMap map.old.owned.state map.new.owned.state kind key.now other.now amount reply.new.owned.state }
     ensures parts { result ≡ 0 → Replied reply.new.owned.state parts.new }
+    ensures refused { result ≢ 0 → AsksNothing map.old.owned.state kind key.now other.now amount result }
     ensures kept { result ≢ 0 → map.new.owned.state ≡ map.old.owned.state }
     ensures unwritten { result ≢ 0 → (reply.new.owned.state ≡ reply.old.owned.state) × (parts.new ≡ parts.old) }
 {

@@ -1,6 +1,6 @@
 //! Requests of the sample service by their parts.
-ghost use Rattle.std.specs.Prelude.{◌≡◌, IfErr, IfOk};
-ghost use Rattle.sm_c.specs.Requests.{HasParts, IsNoKey};
+ghost use Rattle.std.specs.Prelude.{◌≡◌, ◌⊎◌, IfErr, IfOk};
+ghost use Rattle.sm_c.specs.Requests.{AreNoRequest, HasParts, IsNoKey};
 ghost use Rattle.sm_service.specs.LentRequest.{request_lent};
 
 use sm_ranges::key::{Key, KeyFault};
@@ -16,6 +16,17 @@ pub(crate) enum RequestFault {
     Key(KeyFault),
 }
 
+impl From<KeyFault> for RequestFault {
+    ghost use Rattle.std.specs.Prelude.{◌≡◌};
+    ghost use Rattle.sm_c.specs.declared.requests.RequestFault.TheVariants.{Key as BadKey};
+
+    ghost from_gives = { λ fault made. made ≡ BadKey fault };
+
+    fn from(fault: KeyFault) -> RequestFault {
+        RequestFault::Key(fault)
+    }
+}
+
 /// The request of this kind with these parts, of which it copies those that it has.
 pub(crate) fn request_of(
     alloc: Global,
@@ -24,7 +35,9 @@ pub(crate) fn request_of(
     other: &[u8],
     amount: i64,
 ) -> Result<Request, RequestFault>
-    ensures { IfOk result (HasParts kind key.now other.now amount) }
+    ensures made { IfOk result (HasParts kind key.now other.now amount) }
+    ensures refused { IfErr result (λ fault. AreNoRequest fault kind key.now other.now amount
+        ⊎ (fault ≡ RequestFault.Key KeyFault.NoMemory)) }
 {
     let key = key_of(alloc, key)?;
     match kind {
@@ -50,7 +63,8 @@ pub(crate) fn lent_request_of<'a>(
     other: &'a [u8],
     amount: i64,
 ) -> Result<LentRequest<'a>, RequestFault>
-    ensures { IfOk result (λ made. HasParts kind key.now other.now amount (request_lent made)) }
+    ensures made { IfOk result (λ made. HasParts kind key.now other.now amount (request_lent made)) }
+    ensures refused { IfErr result (λ fault. AreNoRequest fault kind key.now other.now amount) }
 {
     let key = lent_key_of(key)?;
     match kind {
@@ -70,30 +84,29 @@ pub(crate) fn lent_request_of<'a>(
 }
 
 /// The bytes, where they are a key.
-pub(crate) fn lent_key_of(bytes: &[u8]) -> Result<&[u8], RequestFault>
+pub(crate) fn lent_key_of(bytes: &[u8]) -> Result<&[u8], KeyFault>
     ensures key { IfOk result (λ key. key.now ≡ bytes.now) }
     ensures refused { IfErr result (λ fault. IsNoKey bytes.now) }
 {
     match Key::fault_of(bytes) {
         None => Ok(bytes),
-        Some(fault) => Err(RequestFault::Key(fault)),
+        Some(fault) => Err(fault),
     }
 }
 
-fn key_of(alloc: Global, bytes: &[u8]) -> Result<Key, RequestFault>
-    ensures { IfOk result (λ key. key ≡ bytes.now) }
+fn key_of(alloc: Global, bytes: &[u8]) -> Result<Key, KeyFault>
+    ensures key { IfOk result (λ key. key ≡ bytes.now) }
+    ensures refused { IfErr result (λ fault. IsNoKey bytes.now ⊎ (fault ≡ KeyFault.NoMemory)) }
 {
-    match Key::new(alloc, bytes) {
-        Ok(key) => Ok(key),
-        Err(fault) => Err(RequestFault::Key(fault)),
-    }
+    Key::new(alloc, bytes)
 }
 
-fn text_of(alloc: Global, bytes: &[u8]) -> Result<Bytes, RequestFault>
-    ensures { IfOk result (λ text. text ≡ bytes.now) }
+fn text_of(alloc: Global, bytes: &[u8]) -> Result<Bytes, KeyFault>
+    ensures text { IfOk result (λ text. text ≡ bytes.now) }
+    ensures refused { IfErr result (λ fault. fault ≡ KeyFault.NoMemory) }
 {
     match Bytes::new(alloc, bytes) {
         Ok(text) => Ok(text),
-        Err(_) => Err(RequestFault::Key(KeyFault::NoMemory)),
+        Err(_) => Err(KeyFault::NoMemory),
     }
 }

@@ -6,6 +6,8 @@ use Rattle.sm_service.specs.declared.reply.Reply.{Reply as ReplyValue}
 use Rattle.sm_service.specs.declared.reply.Reply.TheVariants.{Nothing, Done, Text, Count, Pairs}
 use Rattle.sm_service.specs.declared.reply.Reply.TheVariants.{WrongKind, Overflow, TooLong}
 use Rattle.sm_service.specs.declared.request.Request.{Request}
+use Rattle.sm_handle.specs.declared.act_fault.ActFault.{ActFault}
+use Rattle.sm_handle.specs.declared.act_fault.ActFault.TheVariants.{NoMemory, WrongHandle}
 use Rattle.sm_handle.specs.declared.handle_state.HandleState.{HandleState}
 use Rattle.sm_handle.specs.declared.handle_state.HandleState.TheVariants.{Answer, Map, Reply}
 use Rattle.sm_handle.specs.declared.reply_parts.ReplyParts.{ReplyParts}
@@ -43,6 +45,10 @@ WritesHeld state key written parts = ⊥
 abbrev pub KeepsNoMap : Option HandleState → Type 0
 KeepsNoMap (Some (Map map)) = ⊥
 KeepsNoMap state = ⊤
+
+-- why the map that the handle keeps makes no reply: it keeps none, or memory was refused
+abbrev pub MakesNoReply : Option HandleState → ActFault → Type 0
+MakesNoReply before fault = ((fault ≡ WrongHandle) × KeepsNoMap before) ⊎ (fault ≡ NoMemory)
 
 -- the handle keeps a map in which so many keys hold something
 abbrev pub HoldsKeys : Option HandleState → ℕ → Type 0

@@ -2,7 +2,8 @@
 ghost use Rattle.std.specs.Prelude.{◌≡◌, IfErr, IfOk, OnOk, Some, option_map};
 ghost use Rattle.sm_map.specs.Val.{held_of};
 ghost use Rattle.sm_handle.specs.declared.handle_state.HandleState.TheVariants.{Reply as Replies};
-ghost use Rattle.sm_handle.specs.Maps.{HoldsKeys, IsEmptyMap, IsHeldIn, KeepsNoMap, MakesReply, Replied, WritesHeld};
+ghost use Rattle.sm_handle.specs.Maps.{HoldsKeys, IsEmptyMap, IsHeldIn, KeepsNoMap, MakesNoReply};
+ghost use Rattle.sm_handle.specs.Maps.{MakesReply, Replied, WritesHeld};
 ghost use Rattle.sm_service.specs.LentRequest.{request_lent};
 
 use crate::act_fault::ActFault;
@@ -62,7 +63,8 @@ impl Handle {
         ensures made { OnOk result
             (MakesReply self.old.owned.state self.new.owned.state (request_lent request.entry) reply.new.owned.state) }
         ensures parts { IfOk result (Replied reply.new.owned.state) }
-        ensures refused { IfErr result (λ fault. self.new.owned.state ≡ self.old.owned.state) }
+        ensures refused { IfErr result (MakesNoReply self.old.owned.state) }
+        ensures kept { IfErr result (λ fault. self.new.owned.state ≡ self.old.owned.state) }
         ensures unwritten { IfErr result (λ fault. reply.new.owned.state ≡ reply.old.owned.state) }
     {
         if !self.full {
@@ -131,7 +133,8 @@ fn reply_of(
 ) -> Result<Reply, ActFault>
     ensures made { IfOk result
         (λ made. MakesReply (Some state.old) (Some state.new) (request_lent request.entry) (Some (Replies made))) }
-    ensures refused { IfErr result (λ fault. state.new ≡ state.old) }
+    ensures refused { IfErr result (MakesNoReply (Some state.old)) }
+    ensures kept { IfErr result (λ fault. state.new ≡ state.old) }
 {
     let HandleState::Map(map) = state else {
         return Err(ActFault::WrongHandle);
