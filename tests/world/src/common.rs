@@ -34,7 +34,7 @@ fn server_rows(alloc: Global, servers: &[ServerId]) -> Result<Vec<ServerRow>, Al
 
 // Books of servers in a domain each, and of so many vacant shards of one group. No more than one of the shards may be down.
 pub fn new_books(alloc: Global, count: usize, servers: &[ServerId]) -> Result<Books, BooksFault>
-    ensures caps { IfOk result (λ books. MeetsCaps 1 books) }
+    ensures caps { IfOk result (λ books. MeetsCaps (record { ops = 1 }) books) }
     ensures vacant { IfOk result (λ books. map (λ shard. shard.stand) books.shards ≡ replicate count Vacant) }
 {
     let rows = server_rows(alloc, servers)?;

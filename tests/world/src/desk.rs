@@ -13,7 +13,7 @@ use std::process::Abort;
 
 // Books of two vacant shards and of servers 1 and 2.
 fn books_of_two(rt: &impl Abort, alloc: Global) -> Books
-    ensures { MeetsCaps 1 result }
+    ensures { MeetsCaps (record { ops = 1 }) result }
 {
     let servers = [ServerId::of(1), ServerId::of(2)];
     new_books(alloc, 2, &servers).ok().expect(rt, "books")

@@ -20,7 +20,7 @@ use test_fixture::new_bodies;
 
 // Books of so many vacant shards, and of servers 1 to 4.
 fn books_of_four(rt: &impl Abort, alloc: Global, count: usize) -> Books
-    ensures caps { MeetsCaps 1 result }
+    ensures caps { MeetsCaps (record { ops = 1 }) result }
     ensures vacant { map (λ shard. shard.stand) result.shards ≡ replicate count Vacant }
 {
     let servers = [

@@ -26,7 +26,7 @@ use test_server::refusing::Refusing;
 
 // Books of so many vacant shards, and of server 1.
 fn books_of_one(rt: &impl Abort, alloc: Global, count: usize) -> Books
-    ensures caps { MeetsCaps 1 result }
+    ensures caps { MeetsCaps (record { ops = 1 }) result }
     ensures vacant { map (λ shard. shard.stand) result.shards ≡ replicate count Vacant }
 {
     let servers = [ServerId::of(1)];
