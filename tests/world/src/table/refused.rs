@@ -69,19 +69,15 @@ fn sends_in_two(rt: &impl Abort, fixture: &mut Fixture, server: ServerId) {
 
 // The request is begun and finished. Where memory is refused, the shard is idle and keeps nothing, and the request is sent anew.
 fn finishes_in_two(rt: &impl Abort, fixture: &mut Fixture, server: ServerId) {
-    let (finish, begin) = (
-        Act::Finish(shard(1)),
-        (Act::Deliver(0), Told::Began(server)),
-    );
-    let replied = Told::Replied(7, server, 0, 1);
-    fixture.follow(rt, &[begin]);
+    let (finish, replied) = (Act::Finish(shard(1)), Told::Replied(7, server, 0, 1));
+    fixture.follow(rt, &[(Act::Deliver(0), Told::Began(server))]);
     let told = fixture.told(&finish);
     if told != replied {
         assert_eq!(*rt; told, Told::Refused(Refusal::NoMemory));
         let cases = [
             (Act::Look(shard(1)), seen(Stand::Serving(server), 3)),
             (Act::Send(server, 7, b'm'), Told::Sent),
-            begin,
+            (Act::Deliver(0), Told::Began(server)),
             (finish, replied),
         ];
         fixture.follow(rt, &cases);
@@ -133,7 +129,8 @@ fn refusing_world(rt: &impl Abort, alloc: Global) -> World<Refusing> {
 
 // The generation of the shard, while no server is admitted to it; none where one is.
 fn idle_generation(world: &mut World<Refusing>, k: ShardId) -> Option<u64> {
-    match world.step(Step::Look(k)) {
+    let seen = world.step(Step::Look(k));
+    match &seen {
         Ok(WorldAnswer::Seen(record)) if !record.admitted => Some(record.generation),
         _ => None,
     }
