@@ -1,7 +1,10 @@
 -- The bodies of a board that another program owns, and the books of new ones.
-use Rattle.std.specs.Prelude.{ℕ, zero, suc, ◌≡◌, ◌++◌, List, [], ◌∷◌, length, map, replicate, Option, Some, None}
+use Rattle.std.specs.Prelude.{ℕ, zero, suc, ◌≡◌, ◌++◌, ⊤, false, List, [], ◌∷◌, length, map, replicate}
+use Rattle.std.specs.Prelude.{Option, Some, None}
 use Rattle.sm_control.specs.Controls.{ControlValue}
-use Rattle.sm_desk.specs.Desk.{DeskView}
+use Rattle.sm_control.specs.declared.drain_fault.DrainFault.{DrainFault}
+use Rattle.sm_control.specs.declared.drain_fault.DrainFault.TheVariants.{NoMemory, UnknownServer}
+use Rattle.sm_desk.specs.Desk.{DeskView, is_known}
 use Rattle.sm_place.specs.Books.{BooksView, new_books}
 use Rattle.sm_place.specs.Plans.{assign_plan, drain_plan}
 use Rattle.sm_place.specs.declared.plan.Plan.{Plan as PlanValue}
@@ -28,12 +31,22 @@ abbrev pub first_servers : ℕ → List ServerRow
 first_servers zero = []
 first_servers (suc n) = first_servers n ++ (record { id = suc n; domain = n; capacity = 4096 } ∷ [])
 
--- the desk of these servers, and of so many shards of load 1 and of one group, whose restarts this cap alone limits
+-- the row of the one group, which limits nothing
+abbrev pub one_group : List GroupRow
+one_group = record { limit = 4096; down = 4096 } ∷ []
+
+-- the rows of so many shards of load 1 and of the one group
+abbrev pub equal_shards : ℕ → List ShardRow
+equal_shards count = replicate count (record { group = 0; load = 1; cap = 1 })
+
+-- the rows of the domains of so many servers, which limit nothing
+abbrev pub own_domains : ℕ → List DomainRow
+own_domains servers = equal_domains MAX_DOMAIN_DOWN (first_servers servers)
+
+-- the desk of these servers, and of so many shards, whose restarts this cap alone limits
 abbrev pub first_desk : ℕ → ℕ → ℕ → DeskView
 first_desk servers count ops =
-    desk_of_rows (first_servers servers) (record { limit = 4096; down = 4096 } ∷ [])
-    (replicate count (record { group = 0; load = 1; cap = 1 }))
-    (equal_domains MAX_DOMAIN_DOWN (first_servers servers)) ops
+    desk_of_rows (first_servers servers) one_group (equal_shards count) (own_domains servers) ops
 
 -- the control of a new board with bodies of these limits, with a row for each shard of the settings and their other
 -- rows and limits
@@ -48,3 +61,13 @@ IsControlBy control limits settings =
 abbrev pub planned_for : BooksView → Option ℕ → PlanValue
 planned_for books (Some server) = drain_plan books server
 planned_for books None = assign_plan books
+
+-- the books have no such server
+abbrev pub HasNoServer : BooksView → Option ℕ → Type 0
+HasNoServer books (Some server) = is_known books.servers server ≡ false
+HasNoServer books None = ⊥
+
+-- why there is no plan
+abbrev pub PlansNothing : BooksView → Option ℕ → DrainFault → Type 0
+PlansNothing books from UnknownServer = HasNoServer books from
+PlansNothing books from NoMemory = ⊤

@@ -1,11 +1,14 @@
-ghost use Rattle.std.specs.Prelude.{◌≡◌, ◌≤◌, [], All, IfOk, None, length, map};
+ghost use Rattle.std.specs.Prelude.{◌≡◌, ◌≤◌, ◌⊎◌, [], All, IfErr, IfOk, None, Some, length, map};
 ghost use Rattle.std.specs.Arc.{arc_value};
 ghost use Rattle.sm_ranges.specs.declared.stand.Stand.TheVariants.{Vacant};
 ghost use Rattle.sm_control.specs.Controls.{Commanded};
 ghost use Rattle.sm_desk.specs.Desk.{desk_fault};
 ghost use Rattle.sm_settings.specs.SettingsLine.{values_of};
 ghost use Rattle.sm_settings.specs.SettingsRules.{KeepsRules};
-ghost use Rattle.sm_foreign.specs.Chiefs.{IsControlBy, desk_of_rows, first_desk, first_servers, planned_for};
+ghost use Rattle.sm_place.specs.Books.{first_books_fault};
+ghost use Rattle.sm_foreign.specs.Chiefs.{IsControlBy, PlansNothing, desk_of_rows, equal_shards, first_desk};
+ghost use Rattle.sm_foreign.specs.Chiefs.{first_servers, one_group, own_domains, planned_for};
+ghost use Rattle.sm_foreign.specs.Refusals.{OpensNothingBy, OpensNothing};
 
 use crate::board_pass::BoardPass;
 use crate::foreign::Foreign;
@@ -63,6 +66,7 @@ impl<S: Service> Chief<S> {
         ensures ceiling { IfOk result (λ chief. chief.value.chair.board.limits.ceiling ≡ ceiling) }
         ensures bodies { IfOk result (λ chief. chief.value.chair.board.limits.bodies ≡ map S.limit bodies.items) }
         ensures desk { IfOk result (λ chief. chief.value.desk ≡ first_desk servers (length bodies.items) ops) }
+        ensures refused { IfErr result (OpensNothing (length bodies.items) servers ops ceiling) }
     {
         if servers > 4095 {
             return Err(OpenFault::Servers);
@@ -93,8 +97,9 @@ impl<S: Service> Chief<S> {
         requires before { All (λ body. S.before body ≡ 0) bodies.items }
         requires empty { All (λ body. S.requests body ≡ []) bodies.items }
         requires rules { KeepsRules (values_of settings.now) }
-        ensures { IfOk result
+        ensures made { IfOk result
             (λ chief. IsControlBy chief.value (map S.limit bodies.items) (values_of settings.now)) }
+        ensures refused { IfErr result (OpensNothingBy (length bodies.items) (values_of settings.now)) }
     {
         if settings.shards.len() != bodies.len() {
             return Err(OpenFault::Bodies);
@@ -130,6 +135,7 @@ impl<S: Service> Chief<S> {
         requires vacant { All (λ shard. shard.stand ≡ Vacant) desk.books.shards }
         ensures chair { IfOk result (λ chief. chief.value.chair ≡ chair) }
         ensures desk { IfOk result (λ chief. chief.value.desk ≡ desk) }
+        ensures refused { IfErr result (λ fault. fault ≡ OpenFault.NoMemory) }
     {
         let Ok(board) = Arc::new(alloc, board) else {
             return Err(OpenFault::NoMemory);
@@ -153,7 +159,8 @@ impl<S: Service> Chief<S> {
     /// Where the control would have the shards of the server go, or without one the vacant shards; or the first fault
     /// that applies.
     pub fn plan(&self, alloc: Global, from: Option<ServerId>) -> Result<Plan, DrainFault>
-        ensures { IfOk result (λ plan. plan ≡ planned_for self.now.desk.books from) }
+        ensures plan { IfOk result (λ plan. plan ≡ planned_for self.now.desk.books from) }
+        ensures refused { IfErr result (PlansNothing self.now.desk.books from) }
     {
         match from {
             Some(server) => self.control.plan_drain(alloc, server),
@@ -208,6 +215,8 @@ fn desk_of(alloc: Global, servers: u16, count: usize, ops: u16) -> Result<Desk, 
     ensures desk { IfOk result (λ desk. desk ≡ first_desk servers count ops) }
     ensures count { IfOk result (λ desk. length desk.books.shards ≡ count) }
     ensures vacant { IfOk result (λ desk. All (λ shard. shard.stand ≡ Vacant) desk.books.shards) }
+    ensures refused { IfErr result (λ fault. (fault ≡ BooksFault.NoMemory) ⊎ (Some fault
+        ≡ first_books_fault (first_servers servers) one_group (equal_shards count) (own_domains servers))) }
 {
     let groups = [GroupRow {
         limit: 4096,
@@ -235,6 +244,8 @@ fn desk_over(
     requires { ops ≤ 4095 }
     ensures desk { IfOk result (λ desk. desk ≡ desk_of_rows servers.now groups.now shards.now domains.now ops) }
     ensures vacant { IfOk result (λ desk. All (λ shard. shard.stand ≡ Vacant) desk.books.shards) }
+    ensures refused { IfErr result (λ fault. (fault ≡ BooksFault.NoMemory)
+        ⊎ (Some fault ≡ first_books_fault servers.now groups.now shards.now domains.now)) }
 {
     let books = Books::new(alloc, servers, groups, shards, domains)?;
     all_up_meets_caps();
