@@ -1,5 +1,5 @@
 -- What calls do to the state of a handle.
-use Rattle.std.specs.Prelude.{ℕ, ◌≡◌, ◌≤◌, ⊤, true, List, length, map}
+use Rattle.std.specs.Prelude.{ℕ, ◌≡◌, ◌≤◌, ◌⊎◌, ⊤, true, List, length, map}
 use Rattle.std.specs.Prelude.{Option, Some, None, is_some, Result, Ok, Err}
 use Rattle.sm_ownership.specs.declared.mode.Mode.{Mode}
 use Rattle.sm_ownership.specs.declared.record.Record.{Record}
@@ -13,7 +13,7 @@ use Rattle.sm_foreign.specs.Chiefs.{first_desk, foreign_of}
 use Rattle.sm_foreign.specs.Controls.{Commanded}
 use Rattle.sm_foreign.specs.Holding.{AdmitsPass, EndsPermit}
 use Rattle.sm_handle.specs.declared.act_fault.ActFault.{ActFault}
-use Rattle.sm_handle.specs.declared.act_fault.ActFault.TheVariants.{WrongHandle, UnknownShard, Admit}
+use Rattle.sm_handle.specs.declared.act_fault.ActFault.TheVariants.{WrongHandle, UnknownShard, NoMemory, Admit}
 use Rattle.sm_handle.specs.declared.act_fault.ActFault.TheVariants.{Command as CommandRefused}
 use Rattle.sm_handle.specs.declared.handle_state.HandleState.{HandleState}
 use Rattle.sm_handle.specs.declared.handle_state.HandleState.TheVariants.{Chief, Pass, TextChief, TextPass}
@@ -57,17 +57,21 @@ LooksState (Pass before) (Pass after) shard state =
 LooksState (TextPass before) (TextPass after) shard state = PassLooks before after × (state ≡ record_of after shard)
 LooksState before after shard state = ⊥
 
--- the handle keeps no pass on a board with this shard
-abbrev pub LooksNowhere : Option HandleState → ℕ → Type 0
-LooksNowhere (Some (Pass pass)) shard = pass.held.0.board.limits.count ≤ shard
-LooksNowhere (Some (TextPass pass)) shard = pass.board.limits.count ≤ shard
-LooksNowhere state shard = ⊤
+-- why no pass looks: the handle keeps none, or its board hasn't this shard
+abbrev pub LooksNowhere : Option HandleState → ℕ → ActFault → Type 0
+LooksNowhere (Some (Pass pass)) shard fault = (fault ≡ UnknownShard) × (pass.held.0.board.limits.count ≤ shard)
+LooksNowhere (Some (TextPass pass)) shard fault = (fault ≡ UnknownShard) × (pass.board.limits.count ≤ shard)
+LooksNowhere state shard fault = fault ≡ WrongHandle
 
 -- the handle keeps no control
 abbrev pub KeepsNoControl : Option HandleState → Type 0
 KeepsNoControl (Some (Chief chief)) = ⊥
 KeepsNoControl (Some (TextChief chief)) = ⊥
 KeepsNoControl state = ⊤
+
+-- why there is no new pass: the handle keeps no control, or memory was refused
+abbrev pub GivesNoPass : Option HandleState → ActFault → Type 0
+GivesNoPass state fault = ((fault ≡ WrongHandle) × KeepsNoControl state) ⊎ (fault ≡ NoMemory)
 
 -- the control answers the command and is then what it leaves; or there is none, and the state is as it was
 abbrev pub CommandsState : HandleState → HandleState → Command → Result (Unit {0}) ActFault → Type 0

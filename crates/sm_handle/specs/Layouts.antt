@@ -1,6 +1,13 @@
 -- Layouts whose bounds are parts of a text.
-use Rattle.std.specs.Prelude.{ℕ, ◌≡◌, ◌≤◌, ◌<◌, ◌⊎◌, ⊤, List, length, map, slice_get, slice_range, take, Option, Some}
+use Rattle.std.specs.Prelude.{ℕ, ◌≡◌, ◌≤◌, ◌<◌, ◌⊎◌, ⊤, Any, List, length, map, slice_get, slice_range, take}
+use Rattle.std.specs.Prelude.{Option, Some}
 use Rattle.sm_ranges.specs.Ranges.{IsLayout, shard_of}
+use Rattle.sm_ranges.specs.LayoutFault.{first_layout_fault}
+use Rattle.sm_ranges.specs.declared.layout.LayoutFault.TheVariants.{NoMemory}
+use Rattle.sm_handle.specs.declared.act_fault.ActFault.{ActFault}
+use Rattle.sm_handle.specs.declared.act_fault.ActFault.TheVariants.{TooShort, UnknownShard, WrongHandle}
+use Rattle.sm_handle.specs.declared.cut_fault.CutFault.{CutFault}
+use Rattle.sm_handle.specs.declared.cut_fault.CutFault.TheVariants.{Layout as NoLayout, Outside}
 use Rattle.sm_handle.specs.declared.handle_state.HandleState.{HandleState}
 use Rattle.sm_handle.specs.declared.handle_state.HandleState.TheVariants.{Layout}
 use Rattle.sm_handle.specs.declared.text_part.TextPart.{TextPart}
@@ -33,8 +40,21 @@ abbrev pub WritesBound : Option HandleState → ℕ → List ℕ → ℕ → Typ
 WritesBound (Some (Layout bounds)) shard written count = slice_get bounds shard ≡ Some (take count written)
 WritesBound state shard written count = ⊥
 
--- the handle keeps no layout with this shard, or the bound at which the shard begins has more bytes than this room
-abbrev pub HasNoBound : Option HandleState → ℕ → List ℕ → Type 0
-HasNoBound (Some (Layout bounds)) shard room =
-    (length bounds ≤ shard) ⊎ ((low : List ℕ) × (slice_get bounds shard ≡ Some low) × (length room < length low))
-HasNoBound state shard room = ⊤
+-- why no bound is written: the handle keeps no layout, or the layout hasn't this shard, or the bound at which the
+-- shard begins has more bytes than this room
+abbrev pub HasNoBound : Option HandleState → ℕ → List ℕ → ActFault → Type 0
+HasNoBound (Some (Layout bounds)) shard room fault =
+    ((fault ≡ UnknownShard) × (length bounds ≤ shard))
+    ⊎ ((low : List ℕ) × (slice_get bounds shard ≡ Some low) × (length room < length low) × (fault ≡ TooShort))
+HasNoBound state shard room fault = fault ≡ WrongHandle
+
+-- this part isn't within the text
+abbrev pub IsOutside : List ℕ → TextPart → Type 0
+IsOutside text part = (part.end < part.start) ⊎ (length text < part.end)
+
+-- why parts of the text are no layout: one of them isn't within it, or they break a rule of layouts, or memory was
+-- refused
+abbrev pub CutsNothing : List ℕ → List TextPart → CutFault → Type 0
+CutsNothing text parts Outside = Any (IsOutside text) parts
+CutsNothing text parts (NoLayout NoMemory) = ⊤
+CutsNothing text parts (NoLayout fault) = Some fault ≡ first_layout_fault (parts_of text parts)

@@ -7,7 +7,7 @@ use Rattle.sm_service.specs.declared.reply.Reply.TheVariants.{Nothing, Done, Tex
 use Rattle.sm_service.specs.declared.reply.Reply.TheVariants.{WrongKind, Overflow, TooLong}
 use Rattle.sm_service.specs.declared.request.Request.{Request}
 use Rattle.sm_handle.specs.declared.act_fault.ActFault.{ActFault}
-use Rattle.sm_handle.specs.declared.act_fault.ActFault.TheVariants.{NoMemory, WrongHandle}
+use Rattle.sm_handle.specs.declared.act_fault.ActFault.TheVariants.{NoMemory, NoMore, TooShort, WrongHandle}
 use Rattle.sm_handle.specs.declared.handle_state.HandleState.{HandleState}
 use Rattle.sm_handle.specs.declared.handle_state.HandleState.TheVariants.{Answer, Map, Reply}
 use Rattle.sm_handle.specs.declared.reply_parts.ReplyParts.{ReplyParts}
@@ -80,20 +80,20 @@ Replied state parts = (reply : ReplyValue) × (reply_kept state ≡ Some reply) 
 abbrev pub WritesText : Option HandleState → List ℕ → ℕ → Type 0
 WritesText state written count = reply_kept state ≡ Some (Text (take count written))
 
--- the reply is no text, or one with more bytes than this room
-abbrev pub HasNoText : Option ReplyValue → List ℕ → Type 0
-HasNoText (Some (Text text)) room = length room < length text
-HasNoText reply room = ⊤
+-- why no text is written: no text was replied, or one with more bytes than this room
+abbrev pub HasNoText : Option ReplyValue → List ℕ → ActFault → Type 0
+HasNoText (Some (Text text)) room fault = (fault ≡ TooShort) × (length room < length text)
+HasNoText reply room fault = fault ≡ WrongHandle
 
 -- the handle keeps pairs as its reply, and this is the one at this place
 abbrev pub IsPairAt : Option HandleState → ℕ → KeyPair → Type 0
 IsPairAt state at pair =
     (pairs : List KeyPair) × (reply_kept state ≡ Some (Pairs pairs)) × (slice_get pairs at ≡ Some pair)
 
--- the reply has no pair at this place
-abbrev pub HasNoPair : Option ReplyValue → ℕ → Type 0
-HasNoPair (Some (Pairs pairs)) at = slice_get pairs at ≡ None
-HasNoPair reply at = ⊤
+-- why there is no pair: the reply is no pairs, or has none at this place
+abbrev pub HasNoPair : Option ReplyValue → ℕ → ActFault → Type 0
+HasNoPair (Some (Pairs pairs)) at fault = (fault ≡ NoMore) × (slice_get pairs at ≡ None)
+HasNoPair reply at fault = fault ≡ WrongHandle
 
 -- a pair is there, and these are the parts of what its key held
 abbrev pub PairHeld : Option HandleState → ℕ → ReplyParts → Type 0
@@ -108,19 +108,19 @@ abbrev pub WritesHeldText : Option HandleState → ℕ → List ℕ → ℕ → 
 WritesHeldText state at written count =
     (pair : KeyPair) × IsPairAt state at pair × (pair.value ≡ HeldText (take count written))
 
--- what the handle keeps has no pair at this place, or the pair's key has more bytes than this room
-abbrev pub HasNoKeyAt : Option HandleState → ℕ → List ℕ → Type 0
-HasNoKeyAt state at room =
-    HasNoPair (reply_kept state) at
-    ⊎ ((pair : KeyPair) × IsPairAt state at pair × (length room < length pair.key))
+-- why no key is written: there is no pair at this place, or its key has more bytes than this room
+abbrev pub HasNoKeyAt : Option HandleState → ℕ → List ℕ → ActFault → Type 0
+HasNoKeyAt state at room fault =
+    HasNoPair (reply_kept state) at fault
+    ⊎ ((pair : KeyPair) × IsPairAt state at pair × (length room < length pair.key) × (fault ≡ TooShort))
 
--- what a key held is no text, or one with more bytes than this room
-abbrev pub HasNoTextIn : KeyValue → List ℕ → Type 0
-HasNoTextIn (HeldText text) room = length room < length text
-HasNoTextIn held room = ⊤
+-- why no text is written: a key held none, or one with more bytes than this room
+abbrev pub HasNoTextIn : KeyValue → List ℕ → ActFault → Type 0
+HasNoTextIn (HeldText text) room fault = (fault ≡ TooShort) × (length room < length text)
+HasNoTextIn held room fault = fault ≡ WrongHandle
 
--- what the handle keeps has no pair at this place, or the pair's key held no text, or one with more bytes than this
--- room
-abbrev pub HasNoTextAt : Option HandleState → ℕ → List ℕ → Type 0
-HasNoTextAt state at room =
-    HasNoPair (reply_kept state) at ⊎ ((pair : KeyPair) × IsPairAt state at pair × HasNoTextIn pair.value room)
+-- the same of the key of the pair at this place, or there is no pair
+abbrev pub HasNoTextAt : Option HandleState → ℕ → List ℕ → ActFault → Type 0
+HasNoTextAt state at room fault =
+    HasNoPair (reply_kept state) at fault
+    ⊎ ((pair : KeyPair) × IsPairAt state at pair × HasNoTextIn pair.value room fault)

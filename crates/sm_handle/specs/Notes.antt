@@ -2,6 +2,8 @@
 use Rattle.std.specs.Prelude.{◌≡◌, ◌⊎◌, ⊤, Option, Some, None, is_some, true}
 use Rattle.sm_rule.specs.Passes.{PassLooks}
 use Rattle.sm_rule.specs.Views.{Begins, IsMet}
+use Rattle.sm_handle.specs.declared.act_fault.ActFault.{ActFault}
+use Rattle.sm_handle.specs.declared.act_fault.ActFault.TheVariants.{NoMemory, WrongHandle}
 use Rattle.sm_handle.specs.declared.handle_state.HandleState.{HandleState}
 use Rattle.sm_handle.specs.declared.handle_state.HandleState.TheVariants.{Answer, Pass, TextPass}
 
@@ -13,6 +15,14 @@ IsSplitFrom (Some (Pass from)) (Some (Pass pass)) =
 IsSplitFrom (Some (TextPass from)) (Some (TextPass pass)) =
     (pass.board ≡ from.board) × (pass.server ≡ from.server) × Begins from.seen pass.seen
 IsSplitFrom from pass = ⊥
+
+-- why there is no such pass: the handle keeps none, or one that holds a permit, or memory was refused
+abbrev pub SplitsNothing : Option HandleState → ActFault → Type 0
+SplitsNothing (Some (Pass from)) WrongHandle = is_some from.held.1 ≡ true
+SplitsNothing (Some (TextPass from)) WrongHandle = ⊥
+SplitsNothing from WrongHandle = ⊤
+SplitsNothing from NoMemory = ⊤
+SplitsNothing from fault = ⊥
 
 -- where both are passes, or one is and the other an answer, they are of one board
 abbrev pub AreOfOneBoard : Option HandleState → Option HandleState → Type 0

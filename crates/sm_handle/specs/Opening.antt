@@ -1,13 +1,14 @@
 -- Boards that a line of settings describes.
-use Rattle.std.specs.Prelude.{ℕ, ◌≡◌, ◌≢◌, ⊤, List, length, replicate, Option, Some, Ok, Err}
+use Rattle.std.specs.Prelude.{ℕ, ◌≡◌, ◌≢◌, List, length, replicate, Option, Some, Ok, Err}
 use Rattle.sm_foreign.specs.Chiefs.{IsControlBy}
+use Rattle.sm_foreign.specs.Refusals.{OpensNothingBy}
 use Rattle.sm_settings.specs.SettingsLine.{SettingsValues, settings_of}
 use Rattle.sm_settings.specs.declared.settings_fault.SettingsFault.TheVariants.{NoMemory}
 use Rattle.sm_handle.specs.Acts.{foreign_limits}
 use Rattle.sm_handle.specs.declared.handle_state.HandleState.{HandleState}
 use Rattle.sm_handle.specs.declared.handle_state.HandleState.TheVariants.{Chief, Layout, TextChief}
 use Rattle.sm_handle.specs.declared.settings_open_fault.SettingsOpenFault.{SettingsOpenFault}
-use Rattle.sm_handle.specs.declared.settings_open_fault.SettingsOpenFault.TheVariants.{Settings}
+use Rattle.sm_handle.specs.declared.settings_open_fault.SettingsOpenFault.TheVariants.{Open, Settings}
 
 -- the handle keeps the control of a new board of empty bodies of the sample service, as the settings say
 abbrev pub KeepsService : Option HandleState → SettingsValues → Type 0
@@ -38,7 +39,16 @@ OpensBoard line numbers control layout =
     (settings : SettingsValues) × (settings_of line ≡ Ok settings) × KeepsBoard control settings numbers
     × KeepsLayout layout settings.bounds
 
--- a fault of settings is the line's first, but for refused memory
-abbrev pub TellsFault : List ℕ → SettingsOpenFault → Type 0
-TellsFault line (Settings fault) = fault ≢ NoMemory → settings_of line ≡ Err fault
-TellsFault line fault = ⊤
+-- why the line opens no board with so many bodies: its first fault, or it says another number of shards, or memory was
+-- refused
+abbrev pub OpensNoBoard : List ℕ → ℕ → SettingsOpenFault → Type 0
+OpensNoBoard line count (Settings fault) = fault ≢ NoMemory → settings_of line ≡ Err fault
+OpensNoBoard line count (Open fault) =
+    (settings : SettingsValues) × (settings_of line ≡ Ok settings) × OpensNothingBy count settings fault
+
+-- the same of a board with a body for each of its shards
+abbrev pub OpensNoService : List ℕ → SettingsOpenFault → Type 0
+OpensNoService line (Settings fault) = fault ≢ NoMemory → settings_of line ≡ Err fault
+OpensNoService line (Open fault) =
+    (settings : SettingsValues) × (settings_of line ≡ Ok settings)
+    × OpensNothingBy (length settings.shards) settings fault

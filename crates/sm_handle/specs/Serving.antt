@@ -1,7 +1,10 @@
 -- Boards of the sample service, their passes, and envelopes, that handles keep.
-use Rattle.std.specs.Prelude.{ℕ, ◌≡◌, ◌≤◌, ⊤, [], replicate, Option, Some, None}
+use Rattle.std.specs.Prelude.{ℕ, ◌≡◌, ◌≤◌, ◌<◌, ◌⊎◌, ⊤, [], replicate, Option, Some, None}
 use Rattle.sm_body.specs.Service.{Meaning, meaning_of}
+use Rattle.sm_envelope.specs.declared.envelope.TheConstants.{MOST_HOPS}
 use Rattle.sm_foreign.specs.Chiefs.{first_desk}
+use Rattle.sm_ownership.specs.declared.mode.Mode.{Mode}
+use Rattle.sm_ownership.specs.declared.mode.Mode.TheVariants.{Direct, Forwarded}
 use Rattle.sm_rule.specs.Passes.{PassLooks, record_of}
 use Rattle.sm_rule.specs.Views.{Begins}
 use Rattle.sm_server.specs.Answers.{AnswerValue}
@@ -13,8 +16,10 @@ use Rattle.sm_server.specs.declared.outcome.Outcome.TheVariants.{Refused as Refu
 use Rattle.sm_service.specs.Service.{after, key_of_request, reply}
 use Rattle.sm_service.specs.declared.reply.Reply.{Reply as ReplyValue}
 use Rattle.sm_service.specs.declared.request.Request.{Request}
+use Rattle.sm_handle.specs.Notes.{KeepsNoTextPass}
 use Rattle.sm_handle.specs.declared.act_fault.ActFault.{ActFault}
-use Rattle.sm_handle.specs.declared.act_fault.ActFault.TheVariants.{Checkpoint, UnknownShard, WrongHandle}
+use Rattle.sm_handle.specs.declared.act_fault.ActFault.TheVariants.{Checkpoint, NoMemory, NotSent, UnknownShard}
+use Rattle.sm_handle.specs.declared.act_fault.ActFault.TheVariants.{WrongHandle}
 use Rattle.sm_handle.specs.declared.answer_parts.AnswerParts.{AnswerParts}
 use Rattle.sm_handle.specs.declared.handle_state.HandleState.{HandleState}
 use Rattle.sm_handle.specs.declared.handle_state.HandleState.TheVariants.{Answer, Envelope, Layout, TextChief, TextPass}
@@ -54,6 +59,18 @@ Carries (Some (TextPass pass)) (Some (Envelope envelope)) sent request =
     IsSentAs (Some (Envelope envelope)) sent × (envelope.request ≡ request) × (envelope.note.board ≡ pass.board)
     × Begins pass.seen envelope.note.seen
 Carries pass state sent request = ⊥
+
+-- no envelope comes so: it came directly and was forwarded, or was forwarded never, or more often than it may be
+abbrev pub ComesNoWay : Mode → ℕ → Type 0
+ComesNoWay Direct hops = 0 < hops
+ComesNoWay (Forwarded from) hops = (hops ≡ 0) ⊎ (MOST_HOPS < hops)
+
+-- why there is no such envelope: none comes so, the handle keeps no pass of the sample service, or memory was refused
+abbrev pub CarriesNothing : Option HandleState → SentAs → ActFault → Type 0
+CarriesNothing pass sent NotSent = ComesNoWay sent.mode sent.hops
+CarriesNothing pass sent WrongHandle = KeepsNoTextPass pass
+CarriesNothing pass sent NoMemory = ⊤
+CarriesNothing pass sent fault = ⊥
 
 -- the handle keeps what became of an envelope: the answer in its place, or the envelope that goes on or comes back
 abbrev pub KeepsOutcome :

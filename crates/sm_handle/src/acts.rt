@@ -1,7 +1,7 @@
 //! What a call does to the state of a handle.
 ghost use Rattle.std.specs.Prelude.{◌≡◌, IfErr, IfOk, Some};
-ghost use Rattle.sm_handle.specs.Acts.{AdmitsState, CommandsState, EndsState, HoldsNothing, IsPassOfState};
-ghost use Rattle.sm_handle.specs.Acts.{LooksNowhere, RefusesState, TellsWord};
+ghost use Rattle.sm_handle.specs.Acts.{AdmitsState, CommandsState, EndsState, GivesNoPass, HoldsNothing};
+ghost use Rattle.sm_handle.specs.Acts.{IsPassOfState, LooksNowhere, RefusesState, TellsWord};
 
 use crate::act_fault::ActFault;
 use crate::handle_state::HandleState;
@@ -35,7 +35,7 @@ pub fn admit(state: &mut HandleState, k: ShardId, mode: Mode) -> Result<u64, Act
 /// Ends the admission of the state's pass: the generation that this leaves; or why not, and the state is as it was.
 pub fn finish(state: &mut HandleState) -> Result<u64, ActFault>
     ensures ended { IfOk result (EndsState state.old state.new) }
-    ensures refused { IfErr result (λ fault. HoldsNothing (Some state.old)) }
+    ensures refused { IfErr result (λ fault. (fault ≡ ActFault.WrongHandle) × HoldsNothing (Some state.old)) }
     ensures kept { IfErr result (λ fault. state.new ≡ state.old) }
 {
     match state {
@@ -50,7 +50,7 @@ pub fn finish(state: &mut HandleState) -> Result<u64, ActFault>
 /// The word of the shard's record after a look by the state's pass; or why not, and the state is as it was.
 pub fn look(state: &mut HandleState, k: ShardId) -> Result<u64, ActFault>
     ensures seen { IfOk result (TellsWord (Some state.old) (Some state.new) k) }
-    ensures refused { IfErr result (λ fault. LooksNowhere (Some state.old) k) }
+    ensures refused { IfErr result (LooksNowhere (Some state.old) k) }
     ensures kept { IfErr result (λ fault. state.new ≡ state.old) }
 {
     match state {
@@ -72,7 +72,8 @@ pub fn look(state: &mut HandleState, k: ShardId) -> Result<u64, ActFault>
 
 /// A new pass on the board of the state's control, with this server or none; or why not.
 pub fn pass(state: &HandleState, server: Option<ServerId>) -> Result<HandleState, ActFault>
-    ensures { IfOk result (IsPassOfState state.now server) }
+    ensures made { IfOk result (IsPassOfState state.now server) }
+    ensures refused { IfErr result (GivesNoPass (Some state.now)) }
 {
     match state {
         HandleState::Chief(chief) => match chief.foreign_pass(server) {

@@ -1,7 +1,8 @@
 //! Calls on handles.
-ghost use Rattle.std.specs.Prelude.{◌≡◌, IfErr, IfOk, OnOk};
-ghost use Rattle.sm_handle.specs.Acts.{AdmitsHandle, CommandsHandle, EndsHandle, HoldsNothing, IsOpened, IsPassOf};
-ghost use Rattle.sm_handle.specs.Acts.{LooksNowhere, RefusesHandle, TellsWord};
+ghost use Rattle.std.specs.Prelude.{◌≡◌, IfErr, IfOk, OnOk, length};
+ghost use Rattle.sm_foreign.specs.Refusals.{OpensNothing};
+ghost use Rattle.sm_handle.specs.Acts.{AdmitsHandle, CommandsHandle, EndsHandle, GivesNoPass, HoldsNothing, IsOpened};
+ghost use Rattle.sm_handle.specs.Acts.{IsPassOf, LooksNowhere, RefusesHandle, TellsWord};
 
 use crate::act_fault::ActFault;
 use crate::acts;
@@ -26,7 +27,8 @@ impl Handle {
         ceiling: u64,
     ) -> Result<(), OpenFault>
         ensures made { OnOk result (IsOpened self.new.owned.state numbers.now servers ops ceiling) }
-        ensures refused { IfErr result (λ fault. self.new.owned.state ≡ self.old.owned.state) }
+        ensures refused { IfErr result (OpensNothing (length numbers.now) servers ops ceiling) }
+        ensures kept { IfErr result (λ fault. self.new.owned.state ≡ self.old.owned.state) }
     {
         let Ok(bodies) = Foreign::all(alloc, numbers) else {
             return Err(OpenFault::NoMemory);
@@ -54,7 +56,7 @@ impl Handle {
     /// Ends the admission of the pass: the shard's generation since then, or why not, and the handle is as it was.
     pub fn finish(&mut self) -> Result<u64, ActFault>
         ensures ended { IfOk result (EndsHandle self.old.owned.state self.new.owned.state) }
-        ensures refused { IfErr result (λ fault. HoldsNothing self.old.owned.state) }
+        ensures refused { IfErr result (λ fault. (fault ≡ ActFault.WrongHandle) × HoldsNothing self.old.owned.state) }
         ensures kept { IfErr result (λ fault. self.new.owned.state ≡ self.old.owned.state) }
     {
         if !self.full {
@@ -66,7 +68,7 @@ impl Handle {
     /// The word of the shard's record after all that the pass then has seen; or why not, and the handle is as it was.
     pub fn look(&mut self, k: ShardId) -> Result<u64, ActFault>
         ensures seen { IfOk result (TellsWord self.old.owned.state self.new.owned.state k) }
-        ensures refused { IfErr result (λ fault. LooksNowhere self.old.owned.state k) }
+        ensures refused { IfErr result (LooksNowhere self.old.owned.state k) }
         ensures kept { IfErr result (λ fault. self.new.owned.state ≡ self.old.owned.state) }
     {
         if !self.full {
@@ -95,7 +97,8 @@ impl Handle {
     ) -> Result<(), ActFault>
         ensures chief { chief.new.owned.state ≡ chief.old.owned.state }
         ensures made { OnOk result (IsPassOf chief.old.owned.state self.new.owned.state server) }
-        ensures refused { IfErr result (λ fault. self.new.owned.state ≡ self.old.owned.state) }
+        ensures refused { IfErr result (GivesNoPass chief.old.owned.state) }
+        ensures kept { IfErr result (λ fault. self.new.owned.state ≡ self.old.owned.state) }
     {
         if !chief.full {
             return Err(ActFault::WrongHandle);

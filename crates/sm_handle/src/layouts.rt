@@ -1,8 +1,8 @@
 //! Layouts that handles keep.
-ghost use Rattle.std.specs.Prelude.{◌≡◌, IfErr, IfOk, IfSome, OnOk, Some};
+ghost use Rattle.std.specs.Prelude.{◌≡◌, IfErr, IfNone, IfOk, IfSome, OnOk, Some};
 ghost use Rattle.sm_ranges.specs.LayoutFault.{texts_of};
-ghost use Rattle.sm_handle.specs.Layouts.{HasNoBound, IsLayoutOf, IsShardOf, KeepsNoLayout, WritesBound};
-ghost use Rattle.sm_handle.specs.Layouts.{part_of, parts_of};
+ghost use Rattle.sm_handle.specs.Layouts.{CutsNothing, HasNoBound, IsLayoutOf, IsOutside, IsShardOf, KeepsNoLayout};
+ghost use Rattle.sm_handle.specs.Layouts.{WritesBound, part_of, parts_of};
 
 use crate::act_fault::ActFault;
 use crate::cut_fault::CutFault;
@@ -19,7 +19,8 @@ impl Handle {
     /// handle is as it was.
     pub fn cut(&mut self, alloc: Global, text: &[u8], parts: &[TextPart]) -> Result<(), CutFault>
         ensures made { OnOk result (IsLayoutOf self.new.owned.state text.now parts.now) }
-        ensures refused { IfErr result (λ fault. self.new.owned.state ≡ self.old.owned.state) }
+        ensures refused { IfErr result (CutsNothing text.now parts.now) }
+        ensures kept { IfErr result (λ fault. self.new.owned.state ≡ self.old.owned.state) }
     {
         let layout = layout_of(alloc, text, parts)?;
         match self.keep(alloc, HandleState::Layout(layout)) {
@@ -31,7 +32,7 @@ impl Handle {
     /// The shard of the key, which may be any bytes, in the layout that the handle keeps.
     pub fn shard_of(&mut self, key: &[u8]) -> Result<ShardId, ActFault>
         ensures shard { IfOk result (IsShardOf self.old.owned.state key.now) }
-        ensures refused { IfErr result (λ fault. KeepsNoLayout self.old.owned.state) }
+        ensures refused { IfErr result (λ fault. (fault ≡ ActFault.WrongHandle) × KeepsNoLayout self.old.owned.state) }
         ensures unchanged { self.new.owned.state ≡ self.old.owned.state }
     {
         if !self.full {
@@ -44,7 +45,7 @@ impl Handle {
     /// not, and nothing is written.
     pub fn bound(&mut self, k: ShardId, into: &mut [u8]) -> Result<usize, ActFault>
         ensures written { IfOk result (WritesBound self.old.owned.state k into.new) }
-        ensures refused { IfErr result (λ fault. HasNoBound self.old.owned.state k into.old) }
+        ensures refused { IfErr result (HasNoBound self.old.owned.state k into.old) }
         ensures unwritten { IfErr result (λ fault. into.new ≡ into.old) }
         ensures unchanged { self.new.owned.state ≡ self.old.owned.state }
     {
@@ -57,7 +58,8 @@ impl Handle {
 
 // The layout whose bounds are these parts of the text.
 fn layout_of(alloc: Global, text: &[u8], parts: &[TextPart]) -> Result<Layout, CutFault>
-    ensures { IfOk result (λ layout. layout ≡ parts_of text.now parts.now) }
+    ensures made { IfOk result (λ layout. layout ≡ parts_of text.now parts.now) }
+    ensures refused { IfErr result (CutsNothing text.now parts.now) }
 {
     let bounds = bounds_of(alloc, text, parts)?;
     match Layout::new(alloc, &bounds) {
@@ -71,7 +73,8 @@ fn bounds_of<'a>(
     text: &'a [u8],
     parts: &[TextPart],
 ) -> Result<Vec<&'a [u8]>, CutFault>
-    ensures { IfOk result (λ bounds. texts_of bounds.items ≡ parts_of text.now parts.now) }
+    ensures made { IfOk result (λ bounds. texts_of bounds.items ≡ parts_of text.now parts.now) }
+    ensures refused { IfErr result (CutsNothing text.now parts.now) }
 {
     let mut bounds = Vec::new(alloc);
     for part in parts {
@@ -86,14 +89,15 @@ fn bounds_of<'a>(
 }
 
 fn part_in<'a>(text: &'a [u8], part: TextPart) -> Option<&'a [u8]>
-    ensures { IfSome result (λ bound. bound.now ≡ part_of text.now part) }
+    ensures found { IfSome result (λ bound. bound.now ≡ part_of text.now part) }
+    ensures outside { IfNone result (IsOutside text.now part) }
 {
     text.get(part.start..part.end)
 }
 
 fn shard_in(state: &HandleState, key: &[u8]) -> Result<ShardId, ActFault>
     ensures shard { IfOk result (IsShardOf (Some state.now) key.now) }
-    ensures refused { IfErr result (λ fault. KeepsNoLayout (Some state.now)) }
+    ensures refused { IfErr result (λ fault. (fault ≡ ActFault.WrongHandle) × KeepsNoLayout (Some state.now)) }
 {
     match state {
         HandleState::Layout(layout) => Ok(layout.shard_of(key)),
@@ -103,7 +107,7 @@ fn shard_in(state: &HandleState, key: &[u8]) -> Result<ShardId, ActFault>
 
 fn bound_in(state: &HandleState, k: ShardId, into: &mut [u8]) -> Result<usize, ActFault>
     ensures written { IfOk result (WritesBound (Some state.now) k into.new) }
-    ensures refused { IfErr result (λ fault. HasNoBound (Some state.now) k into.old) }
+    ensures refused { IfErr result (HasNoBound (Some state.now) k into.old) }
     ensures unwritten { IfErr result (λ fault. into.new ≡ into.old) }
 {
     match state {

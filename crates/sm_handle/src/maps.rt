@@ -29,7 +29,7 @@ impl Handle {
     /// How many keys of the map that the handle keeps hold something.
     pub fn map_len(&mut self) -> Result<u128, ActFault>
         ensures count { IfOk result (HoldsKeys self.old.owned.state) }
-        ensures refused { IfErr result (λ fault. KeepsNoMap self.old.owned.state) }
+        ensures refused { IfErr result (λ fault. (fault ≡ ActFault.WrongHandle) × KeepsNoMap self.old.owned.state) }
         ensures unchanged { self.new.owned.state ≡ self.old.owned.state }
     {
         if !self.full {
@@ -42,7 +42,7 @@ impl Handle {
     /// room, where it has room for all of them.
     pub fn get(&mut self, key: &[u8], into: &mut [u8]) -> Result<ReplyParts, ActFault>
         ensures held { IfOk result (WritesHeld self.old.owned.state key.now into.new) }
-        ensures refused { IfErr result (λ fault. KeepsNoMap self.old.owned.state) }
+        ensures refused { IfErr result (λ fault. (fault ≡ ActFault.WrongHandle) × KeepsNoMap self.old.owned.state) }
         ensures unwritten { IfErr result (λ fault. into.new ≡ into.old) }
         ensures unchanged { self.new.owned.state ≡ self.old.owned.state }
     {
@@ -90,7 +90,7 @@ impl Handle {
 
 fn len_of(state: &HandleState) -> Result<u128, ActFault>
     ensures count { IfOk result (HoldsKeys (Some state.now)) }
-    ensures refused { IfErr result (λ fault. KeepsNoMap (Some state.now)) }
+    ensures refused { IfErr result (λ fault. (fault ≡ ActFault.WrongHandle) × KeepsNoMap (Some state.now)) }
 {
     match state {
         HandleState::Map(map) => Ok(map.len()),
@@ -101,7 +101,7 @@ fn len_of(state: &HandleState) -> Result<u128, ActFault>
 // What the key of the state's map holds.
 fn value_in(state: &HandleState, key: &[u8], into: &mut [u8]) -> Result<ReplyParts, ActFault>
     ensures held { IfOk result (WritesHeld (Some state.now) key.now into.new) }
-    ensures refused { IfErr result (λ fault. KeepsNoMap (Some state.now)) }
+    ensures refused { IfErr result (λ fault. (fault ≡ ActFault.WrongHandle) × KeepsNoMap (Some state.now)) }
     ensures unwritten { IfErr result (λ fault. into.new ≡ into.old) }
 {
     let HandleState::Map(map) = state else {

@@ -1,7 +1,7 @@
 //! What passes in handles tell each other.
 ghost use Rattle.std.specs.Prelude.{◌≡◌, IfErr, IfNone, IfOk, IfSome, None, OnOk, Some};
 ghost use Rattle.sm_handle.specs.declared.handle_state.HandleState.TheVariants.{Pass as Passing};
-ghost use Rattle.sm_handle.specs.Notes.{AreOfOneBoard, IsSplitFrom, MeetsHandle, TellsNothing};
+ghost use Rattle.sm_handle.specs.Notes.{AreOfOneBoard, IsSplitFrom, MeetsHandle, SplitsNothing, TellsNothing};
 
 use crate::act_fault::ActFault;
 use crate::handle::Handle;
@@ -15,7 +15,8 @@ impl Handle {
     pub fn split(&mut self, alloc: Global, from: &mut Handle) -> Result<(), ActFault>
         ensures from { from.new.owned.state ≡ from.old.owned.state }
         ensures made { OnOk result (IsSplitFrom from.old.owned.state self.new.owned.state) }
-        ensures refused { IfErr result (λ fault. self.new.owned.state ≡ self.old.owned.state) }
+        ensures refused { IfErr result (SplitsNothing from.old.owned.state) }
+        ensures kept { IfErr result (λ fault. self.new.owned.state ≡ self.old.owned.state) }
     {
         if !from.full {
             return Err(ActFault::WrongHandle);
@@ -34,8 +35,9 @@ impl Handle {
         requires { AreOfOneBoard self.old.owned.state other.old.owned.state }
         ensures met { OnOk result (MeetsHandle self.old.owned.state other.old.owned.state self.new.owned.state) }
         ensures gone { OnOk result (other.new.owned.state ≡ None) }
-        ensures apart { IfErr result (λ fault. TellsNothing self.old.owned.state other.old.owned.state) }
-        ensures refused { IfErr result (λ fault. self.new.owned.state ≡ self.old.owned.state) }
+        ensures fault { IfErr result (λ fault. fault ≡ ActFault.WrongHandle) }
+        ensures refused { IfErr result (λ fault. TellsNothing self.old.owned.state other.old.owned.state) }
+        ensures kept { IfErr result (λ fault. self.new.owned.state ≡ self.old.owned.state) }
         ensures back { IfErr result (λ fault. other.new.owned.state ≡ other.old.owned.state) }
     {
         if !self.full || !other.full {
@@ -58,6 +60,7 @@ impl Handle {
 fn split_of(state: &mut HandleState) -> Result<HandleState, ActFault>
     ensures unchanged { state.new ≡ state.old }
     ensures made { IfOk result (λ pass. IsSplitFrom (Some state.old) (Some pass)) }
+    ensures refused { IfErr result (SplitsNothing (Some state.old)) }
 {
     match state {
         HandleState::Pass(pass) if pass.held.is_free() => match pass.held.split() {

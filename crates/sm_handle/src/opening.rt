@@ -1,10 +1,11 @@
 //! Boards that a line of settings describes.
-ghost use Rattle.std.specs.Prelude.{◌≡◌, IfErr, IfOk, OnOk, Ok, Some, length, replicate};
+ghost use Rattle.std.specs.Prelude.{ℕ, ◌≡◌, IfErr, IfOk, OnOk, Ok, Some, length, replicate};
 ghost use Rattle.sm_settings.specs.SettingsLine.{settings_of, values_of};
 ghost use Rattle.sm_settings.specs.SettingsRules.{KeepsRules};
 ghost use Rattle.sm_foreign.specs.Chiefs.{IsControlBy};
+ghost use Rattle.sm_foreign.specs.Refusals.{OpensNothingBy};
 ghost use Rattle.sm_handle.specs.Acts.{foreign_limits};
-ghost use Rattle.sm_handle.specs.Opening.{KeepsLayout, OpensBoard, OpensService, TellsFault};
+ghost use Rattle.sm_handle.specs.Opening.{KeepsLayout, OpensBoard, OpensNoBoard, OpensNoService, OpensService};
 
 use crate::handle::Handle;
 use crate::handle_state::HandleState;
@@ -26,7 +27,7 @@ impl Handle {
         line: &[u8],
     ) -> Result<usize, SettingsOpenFault>
         ensures made { IfOk result (OpensService line.now self.new.owned.state layout.new.owned.state) }
-        ensures fault { IfErr result (TellsFault line.now) }
+        ensures refused { IfErr result (OpensNoService line.now) }
         ensures kept { IfErr result (λ fault. self.new.owned.state ≡ self.old.owned.state) }
         ensures unwritten { IfErr result (λ fault. layout.new.owned.state ≡ layout.old.owned.state) }
     {
@@ -56,7 +57,7 @@ impl Handle {
     ) -> Result<(), SettingsOpenFault>
         ensures made { OnOk result
             (OpensBoard line.now numbers.now self.new.owned.state layout.new.owned.state) }
-        ensures fault { IfErr result (TellsFault line.now) }
+        ensures refused { IfErr result (OpensNoBoard line.now (length numbers.now)) }
         ensures kept { IfErr result (λ fault. self.new.owned.state ≡ self.old.owned.state) }
         ensures unwritten { IfErr result (λ fault. layout.new.owned.state ≡ layout.old.owned.state) }
     {
@@ -100,7 +101,8 @@ impl Handle {
 fn read(alloc: Global, line: &[u8]) -> Result<Settings, SettingsOpenFault>
     ensures ok { IfOk result (λ settings. settings_of line.now ≡ Ok (values_of settings)) }
     ensures rules { IfOk result (λ settings. KeepsRules (values_of settings)) }
-    ensures fault { IfErr result (TellsFault line.now) }
+    ensures service { IfErr result (OpensNoService line.now) }
+    ensures board { (count : ℕ) → IfErr result (OpensNoBoard line.now count) }
 {
     match Settings::read(alloc, line) {
         Ok(settings) => Ok(settings),
@@ -111,8 +113,10 @@ fn read(alloc: Global, line: &[u8]) -> Result<Settings, SettingsOpenFault>
 // The control of a board of the sample service as settings say.
 fn service_by(alloc: Global, settings: &Settings) -> Result<Box<Chief<CounterText>>, OpenFault>
     requires { KeepsRules (values_of settings.now) }
-    ensures { IfOk result (λ chief. IsControlBy chief.value
+    ensures made { IfOk result (λ chief. IsControlBy chief.value
         (replicate (length settings.now.shards.items) settings.now.kept) (values_of settings.now)) }
+    ensures refused { IfErr result
+        (OpensNothingBy (length settings.now.shards.items) (values_of settings.now)) }
 {
     let Ok(bodies) = empty_bodies(alloc, settings.shards.len(), settings.kept as usize) else {
         return Err(OpenFault::NoMemory);
@@ -127,8 +131,9 @@ fn board_by(
     numbers: &[u64],
 ) -> Result<Box<Chief<Foreign>>, OpenFault>
     requires { KeepsRules (values_of settings.now) }
-    ensures { IfOk result
+    ensures made { IfOk result
         (λ chief. IsControlBy chief.value (foreign_limits numbers.now) (values_of settings.now)) }
+    ensures refused { IfErr result (OpensNothingBy (length numbers.now) (values_of settings.now)) }
 {
     let Ok(bodies) = Foreign::all(alloc, numbers) else {
         return Err(OpenFault::NoMemory);

@@ -1,6 +1,6 @@
 //! Plans that handles keep.
 ghost use Rattle.std.specs.Prelude.{◌≡◌, IfErr, IfOk, OnOk, Some};
-ghost use Rattle.sm_handle.specs.Plans.{HasNoMove, HasNotLeft, IsLeftOut, IsMove, IsPlanOf};
+ghost use Rattle.sm_handle.specs.Plans.{HasNoMove, HasNoPlan, HasNotLeft, IsLeftOut, IsMove, IsPlanOf};
 
 use crate::act_fault::ActFault;
 use crate::handle::Handle;
@@ -22,7 +22,8 @@ impl Handle {
     ) -> Result<(), ActFault>
         ensures chief { chief.new.owned.state ≡ chief.old.owned.state }
         ensures made { OnOk result (IsPlanOf chief.old.owned.state self.new.owned.state from) }
-        ensures refused { IfErr result (λ fault. self.new.owned.state ≡ self.old.owned.state) }
+        ensures refused { IfErr result (HasNoPlan chief.old.owned.state from) }
+        ensures kept { IfErr result (λ fault. self.new.owned.state ≡ self.old.owned.state) }
     {
         if !chief.full {
             return Err(ActFault::WrongHandle);
@@ -37,7 +38,7 @@ impl Handle {
     /// The move at this place of the plan that the handle keeps.
     pub fn planned(&mut self, at: usize) -> Result<Move, ActFault>
         ensures found { IfOk result (IsMove self.old.owned.state at) }
-        ensures refused { IfErr result (λ fault. HasNoMove self.old.owned.state at) }
+        ensures refused { IfErr result (HasNoMove self.old.owned.state at) }
         ensures unchanged { self.new.owned.state ≡ self.old.owned.state }
     {
         if !self.full {
@@ -49,7 +50,7 @@ impl Handle {
     /// The shard at this place of those that the plan that the handle keeps has no room for.
     pub fn left(&mut self, at: usize) -> Result<ShardId, ActFault>
         ensures found { IfOk result (IsLeftOut self.old.owned.state at) }
-        ensures refused { IfErr result (λ fault. HasNotLeft self.old.owned.state at) }
+        ensures refused { IfErr result (HasNotLeft self.old.owned.state at) }
         ensures unchanged { self.new.owned.state ≡ self.old.owned.state }
     {
         if !self.full {
@@ -64,7 +65,8 @@ fn plan_of(
     state: &HandleState,
     from: Option<ServerId>,
 ) -> Result<HandleState, ActFault>
-    ensures { IfOk result (λ plan. IsPlanOf (Some state.now) (Some plan) from) }
+    ensures made { IfOk result (λ plan. IsPlanOf (Some state.now) (Some plan) from) }
+    ensures refused { IfErr result (HasNoPlan (Some state.now) from) }
 {
     let made = match state {
         HandleState::Chief(chief) => chief.plan(alloc, from),
@@ -80,7 +82,7 @@ fn plan_of(
 
 fn move_in(state: &HandleState, at: usize) -> Result<Move, ActFault>
     ensures found { IfOk result (IsMove (Some state.now) at) }
-    ensures refused { IfErr result (λ fault. HasNoMove (Some state.now) at) }
+    ensures refused { IfErr result (HasNoMove (Some state.now) at) }
 {
     match state {
         HandleState::Plan(plan) => match plan.moves().get(at) {
@@ -93,7 +95,7 @@ fn move_in(state: &HandleState, at: usize) -> Result<Move, ActFault>
 
 fn left_in(state: &HandleState, at: usize) -> Result<ShardId, ActFault>
     ensures found { IfOk result (IsLeftOut (Some state.now) at) }
-    ensures refused { IfErr result (λ fault. HasNotLeft (Some state.now) at) }
+    ensures refused { IfErr result (HasNotLeft (Some state.now) at) }
 {
     match state {
         HandleState::Plan(plan) => match plan.left().get(at) {

@@ -14,7 +14,8 @@ impl Handle {
     /// The parts of the reply that the handle keeps.
     pub fn reply(&mut self) -> Result<ReplyParts, ActFault>
         ensures parts { IfOk result (Replied self.old.owned.state) }
-        ensures refused { IfErr result (λ fault. reply_kept self.old.owned.state ≡ None) }
+        ensures refused { IfErr result
+            (λ fault. (fault ≡ ActFault.WrongHandle) × (reply_kept self.old.owned.state ≡ None)) }
         ensures unchanged { self.new.owned.state ≡ self.old.owned.state }
     {
         if !self.full {
@@ -26,7 +27,7 @@ impl Handle {
     /// Writes the text that was replied: its length; or says why not, and nothing is written.
     pub fn text(&mut self, into: &mut [u8]) -> Result<usize, ActFault>
         ensures written { IfOk result (WritesText self.old.owned.state into.new) }
-        ensures refused { IfErr result (λ fault. HasNoText (reply_kept self.old.owned.state) into.old) }
+        ensures refused { IfErr result (HasNoText (reply_kept self.old.owned.state) into.old) }
         ensures unwritten { IfErr result (λ fault. into.new ≡ into.old) }
         ensures unchanged { self.new.owned.state ≡ self.old.owned.state }
     {
@@ -39,7 +40,7 @@ impl Handle {
     /// The parts of what the key held that the pair at this place of the reply has.
     pub fn pair(&mut self, at: usize) -> Result<ReplyParts, ActFault>
         ensures parts { IfOk result (PairHeld self.old.owned.state at) }
-        ensures refused { IfErr result (λ fault. HasNoPair (reply_kept self.old.owned.state) at) }
+        ensures refused { IfErr result (HasNoPair (reply_kept self.old.owned.state) at) }
         ensures unchanged { self.new.owned.state ≡ self.old.owned.state }
     {
         if !self.full {
@@ -52,7 +53,7 @@ impl Handle {
     /// written.
     pub fn pair_key(&mut self, at: usize, into: &mut [u8]) -> Result<usize, ActFault>
         ensures written { IfOk result (WritesKey self.old.owned.state at into.new) }
-        ensures refused { IfErr result (λ fault. HasNoKeyAt self.old.owned.state at into.old) }
+        ensures refused { IfErr result (HasNoKeyAt self.old.owned.state at into.old) }
         ensures unwritten { IfErr result (λ fault. into.new ≡ into.old) }
         ensures unchanged { self.new.owned.state ≡ self.old.owned.state }
     {
@@ -66,7 +67,7 @@ impl Handle {
     /// nothing is written.
     pub fn pair_text(&mut self, at: usize, into: &mut [u8]) -> Result<usize, ActFault>
         ensures written { IfOk result (WritesHeldText self.old.owned.state at into.new) }
-        ensures refused { IfErr result (λ fault. HasNoTextAt self.old.owned.state at into.old) }
+        ensures refused { IfErr result (HasNoTextAt self.old.owned.state at into.old) }
         ensures unwritten { IfErr result (λ fault. into.new ≡ into.old) }
         ensures unchanged { self.new.owned.state ≡ self.old.owned.state }
     {
@@ -80,7 +81,7 @@ impl Handle {
 // The reply that the state is or has.
 fn reply_in(state: &HandleState) -> Result<&Reply, ActFault>
     ensures reply { IfOk result (λ reply. reply_kept (Some state.now) ≡ Some reply.now) }
-    ensures refused { IfErr result (λ fault. reply_kept (Some state.now) ≡ None) }
+    ensures refused { IfErr result (λ fault. (fault ≡ ActFault.WrongHandle) × (reply_kept (Some state.now) ≡ None)) }
 {
     match state {
         HandleState::Reply(reply) => Ok(reply),
@@ -91,14 +92,14 @@ fn reply_in(state: &HandleState) -> Result<&Reply, ActFault>
 
 fn parts_in(state: &HandleState) -> Result<ReplyParts, ActFault>
     ensures parts { IfOk result (Replied (Some state.now)) }
-    ensures refused { IfErr result (λ fault. reply_kept (Some state.now) ≡ None) }
+    ensures refused { IfErr result (λ fault. (fault ≡ ActFault.WrongHandle) × (reply_kept (Some state.now) ≡ None)) }
 {
     Ok(ReplyParts::of(reply_in(state)?))
 }
 
 fn text_in(state: &HandleState, into: &mut [u8]) -> Result<usize, ActFault>
     ensures written { IfOk result (WritesText (Some state.now) into.new) }
-    ensures refused { IfErr result (λ fault. HasNoText (reply_kept (Some state.now)) into.old) }
+    ensures refused { IfErr result (HasNoText (reply_kept (Some state.now)) into.old) }
     ensures unwritten { IfErr result (λ fault. into.new ≡ into.old) }
 {
     match reply_in(state)? {
@@ -110,7 +111,7 @@ fn text_in(state: &HandleState, into: &mut [u8]) -> Result<usize, ActFault>
 // The pair at this place of the reply.
 fn pair_in(state: &HandleState, at: usize) -> Result<&Pair, ActFault>
     ensures pair { IfOk result (λ pair. IsPairAt (Some state.now) at pair.now) }
-    ensures refused { IfErr result (λ fault. HasNoPair (reply_kept (Some state.now)) at) }
+    ensures refused { IfErr result (HasNoPair (reply_kept (Some state.now)) at) }
 {
     let Reply::Pairs(pairs) = reply_in(state)? else {
         return Err(ActFault::WrongHandle);
@@ -123,7 +124,7 @@ fn pair_in(state: &HandleState, at: usize) -> Result<&Pair, ActFault>
 
 fn held_in(state: &HandleState, at: usize) -> Result<ReplyParts, ActFault>
     ensures parts { IfOk result (PairHeld (Some state.now) at) }
-    ensures refused { IfErr result (λ fault. HasNoPair (reply_kept (Some state.now)) at) }
+    ensures refused { IfErr result (HasNoPair (reply_kept (Some state.now)) at) }
 {
     let pair = pair_in(state, at)?;
     Ok(ReplyParts::of_value(pair.value()))
@@ -131,7 +132,7 @@ fn held_in(state: &HandleState, at: usize) -> Result<ReplyParts, ActFault>
 
 fn key_in(state: &HandleState, at: usize, into: &mut [u8]) -> Result<usize, ActFault>
     ensures written { IfOk result (WritesKey (Some state.now) at into.new) }
-    ensures refused { IfErr result (λ fault. HasNoKeyAt (Some state.now) at into.old) }
+    ensures refused { IfErr result (HasNoKeyAt (Some state.now) at into.old) }
     ensures unwritten { IfErr result (λ fault. into.new ≡ into.old) }
 {
     let pair = pair_in(state, at)?;
@@ -140,7 +141,7 @@ fn key_in(state: &HandleState, at: usize, into: &mut [u8]) -> Result<usize, ActF
 
 fn held_text_in(state: &HandleState, at: usize, into: &mut [u8]) -> Result<usize, ActFault>
     ensures written { IfOk result (WritesHeldText (Some state.now) at into.new) }
-    ensures refused { IfErr result (λ fault. HasNoTextAt (Some state.now) at into.old) }
+    ensures refused { IfErr result (HasNoTextAt (Some state.now) at into.old) }
     ensures unwritten { IfErr result (λ fault. into.new ≡ into.old) }
 {
     let pair = pair_in(state, at)?;

@@ -1,9 +1,12 @@
 //! Boards of the sample service, and envelopes, that handles keep.
-ghost use Rattle.std.specs.Prelude.{◌≡◌, [], IfErr, IfOk, IfSome, IsSome, OnOk, Some, replicate};
+ghost use Rattle.std.specs.Prelude.{◌≡◌, ◌≤◌, [], IfErr, IfNone, IfOk, IfSome, IsSome, OnOk, Some, replicate};
+ghost use Rattle.sm_foreign.specs.Refusals.{OpensNothing};
+ghost use Rattle.sm_ownership.specs.declared.mode.Mode.TheVariants.{Direct, Forwarded};
 ghost use Rattle.sm_handle.specs.declared.handle_state.HandleState.TheVariants.{Envelope as Sent};
 ghost use Rattle.sm_handle.specs.declared.handle_state.HandleState.TheVariants.{Layout as LayoutOf, TextPass};
-ghost use Rattle.sm_handle.specs.Serving.{Carries, IsOfBoard, IsSentAs, IsServiceOpened, KeepsNoAnswer};
-ghost use Rattle.sm_handle.specs.Serving.{KeepsNoEnvelope, MakesCheckpoint, RefusesCheckpoint, Serves};
+ghost use Rattle.sm_handle.specs.Serving.{Carries, CarriesNothing, ComesNoWay, IsOfBoard, IsSentAs};
+ghost use Rattle.sm_handle.specs.Serving.{IsServiceOpened, KeepsNoAnswer, KeepsNoEnvelope, MakesCheckpoint};
+ghost use Rattle.sm_handle.specs.Serving.{RefusesCheckpoint, Serves};
 ghost use Rattle.sm_handle.specs.Serving.{ServesNowhere, TellsAnswer};
 
 use crate::act_fault::ActFault;
@@ -12,7 +15,7 @@ use crate::handle::Handle;
 use crate::handle_state::HandleState;
 use crate::sent_as::SentAs;
 use crate::served_as::ServedAs;
-use sm_envelope::envelope::Envelope;
+use sm_envelope::envelope::{Envelope, MOST_HOPS};
 use sm_envelope::shell::Shell;
 use sm_foreign::{Chief, FreePass, OpenFault};
 use sm_ownership::mode::Mode;
@@ -40,7 +43,8 @@ impl Handle {
         ceiling: u64,
     ) -> Result<(), OpenFault>
         ensures made { OnOk result (IsServiceOpened self.new.owned.state count kept servers ops ceiling) }
-        ensures refused { IfErr result (λ fault. self.new.owned.state ≡ self.old.owned.state) }
+        ensures refused { IfErr result (OpensNothing count servers ops ceiling) }
+        ensures kept { IfErr result (λ fault. self.new.owned.state ≡ self.old.owned.state) }
     {
         let Ok(bodies) = empty_bodies(alloc, count, kept) else {
             return Err(OpenFault::NoMemory);
@@ -63,7 +67,8 @@ impl Handle {
     ) -> Result<(), ActFault>
         ensures pass { pass.new.owned.state ≡ pass.old.owned.state }
         ensures made { OnOk result (Carries pass.old.owned.state self.new.owned.state sent request) }
-        ensures refused { IfErr result (λ fault. self.new.owned.state ≡ self.old.owned.state) }
+        ensures refused { IfErr result (CarriesNothing pass.old.owned.state sent) }
+        ensures kept { IfErr result (λ fault. self.new.owned.state ≡ self.old.owned.state) }
     {
         if !pass.full {
             return Err(ActFault::WrongHandle);
@@ -105,7 +110,8 @@ impl Handle {
     /// The envelope that the handle keeps, but for its request and its note.
     pub fn sent(&mut self) -> Result<SentAs, ActFault>
         ensures sent { IfOk result (IsSentAs self.old.owned.state) }
-        ensures refused { IfErr result (λ fault. KeepsNoEnvelope self.old.owned.state) }
+        ensures refused { IfErr result
+            (λ fault. (fault ≡ ActFault.WrongHandle) × KeepsNoEnvelope self.old.owned.state) }
         ensures unchanged { self.new.owned.state ≡ self.old.owned.state }
     {
         if !self.full {
@@ -117,7 +123,7 @@ impl Handle {
     /// The answer that the handle keeps, but for its reply.
     pub fn answer(&mut self) -> Result<AnswerParts, ActFault>
         ensures parts { IfOk result (TellsAnswer self.old.owned.state) }
-        ensures refused { IfErr result (λ fault. KeepsNoAnswer self.old.owned.state) }
+        ensures refused { IfErr result (λ fault. (fault ≡ ActFault.WrongHandle) × KeepsNoAnswer self.old.owned.state) }
         ensures unchanged { self.new.owned.state ≡ self.old.owned.state }
     {
         if !self.full {
@@ -162,6 +168,7 @@ fn envelope_of(
     request: Request,
 ) -> Result<HandleState, ActFault>
     ensures made { IfOk result (λ made. Carries (Some state.old) (Some made) sent request) }
+    ensures refused { IfErr result (CarriesNothing (Some state.old) sent) }
     ensures unchanged { state.new ≡ state.old }
 {
     let Some(shell) = shell_of(sent) else {
@@ -176,24 +183,18 @@ fn envelope_of(
 
 // The shell of an envelope that came so, where one comes so: directly without a hop, or forwarded by 1 to 4.
 fn shell_of(sent: SentAs) -> Option<Shell>
-    ensures { IfSome result (λ shell. (shell.number ≡ sent.number) × (shell.shard ≡ sent.shard)
+    ensures made { IfSome result (λ shell. (shell.number ≡ sent.number) × (shell.shard ≡ sent.shard)
         × (shell.mode ≡ sent.mode) × (shell.hops ≡ sent.hops)) }
+    ensures none { IfNone result (ComesNoWay sent.mode sent.hops) }
 {
     let direct = Envelope::new(sent.number, sent.shard, (), ());
     let envelope = match forwarder(&sent.mode) {
-        None => direct,
-        Some(from) => hopped(direct, from, sent.hops),
+        None if sent.hops == 0 => direct,
+        Some(from) if 1 <= sent.hops && sent.hops <= MOST_HOPS => hopped(direct, from, sent.hops),
+        _ => return None,
     };
     let (_, _, shell) = envelope.parts();
-    if shell.number() == sent.number
-        && shell.shard() == sent.shard
-        && shell.mode() == sent.mode
-        && shell.hops() == sent.hops
-    {
-        Some(shell)
-    } else {
-        None
-    }
+    Some(shell)
 }
 
 // What the server of the state's pass makes of the envelope, and what became of that; or the state as it was, and why.
@@ -250,15 +251,26 @@ fn serve_at(
 }
 
 // The server that forwarded what came so, if one did.
-fn forwarder(mode: &Mode) -> Option<ServerId> {
+fn forwarder(mode: &Mode) -> Option<ServerId>
+    ensures direct { IfNone result (mode.now ≡ Direct) }
+    ensures forwarded { IfSome result (λ from. mode.now ≡ Forwarded from) }
+{
     match mode {
         Mode::Direct => None,
         Mode::Forwarded(from) => Some(*from),
     }
 }
 
-// The envelope after so many hops, or as many as it may have, each from this server.
-fn hopped(envelope: Envelope<(), ()>, from: ServerId, hops: u8) -> Envelope<(), ()> {
+// The envelope after so many hops, each from this server.
+fn hopped(direct: Envelope<(), ()>, from: ServerId, hops: u8) -> Envelope<(), ()>
+    requires direct { direct.hops ≡ 0 }
+    requires some { 1 ≤ hops }
+    requires few { hops ≤ MOST_HOPS }
+    ensures number { result.number ≡ direct.number }
+    ensures shard { result.shard ≡ direct.shard }
+    ensures mode { result.mode ≡ Forwarded from }
+    ensures hops { result.hops ≡ hops }
+{
     // A record by which the server forwards.
     let state = Record {
         stand: Stand::Forwarding {
@@ -268,7 +280,7 @@ fn hopped(envelope: Envelope<(), ()>, from: ServerId, hops: u8) -> Envelope<(), 
         admitted: false,
         generation: 1,
     };
-    let mut envelope = envelope;
+    let mut envelope = direct;
     for _hop in 0..hops {
         envelope = match envelope.forwarded(&state, from) {
             Ok(forwarded) => forwarded.1,
@@ -280,7 +292,7 @@ fn hopped(envelope: Envelope<(), ()>, from: ServerId, hops: u8) -> Envelope<(), 
 
 fn sent_in(state: &HandleState) -> Result<SentAs, ActFault>
     ensures sent { IfOk result (IsSentAs (Some state.now)) }
-    ensures refused { IfErr result (λ fault. KeepsNoEnvelope (Some state.now)) }
+    ensures refused { IfErr result (λ fault. (fault ≡ ActFault.WrongHandle) × KeepsNoEnvelope (Some state.now)) }
 {
     match state {
         HandleState::Envelope(envelope) => Ok(SentAs {
@@ -295,7 +307,7 @@ fn sent_in(state: &HandleState) -> Result<SentAs, ActFault>
 
 fn answer_in(state: &HandleState) -> Result<AnswerParts, ActFault>
     ensures parts { IfOk result (TellsAnswer (Some state.now)) }
-    ensures refused { IfErr result (λ fault. KeepsNoAnswer (Some state.now)) }
+    ensures refused { IfErr result (λ fault. (fault ≡ ActFault.WrongHandle) × KeepsNoAnswer (Some state.now)) }
 {
     match state {
         HandleState::Answer(answer) => Ok(AnswerParts {

@@ -17,7 +17,7 @@ pub fn write_where_it_fits(bytes: &[u8], into: &mut [u8])
 /// written.
 pub fn write(bytes: &[u8], into: &mut [u8]) -> Result<usize, ActFault>
     ensures written { IfOk result (λ count. take count into.new ≡ bytes.now) }
-    ensures refused { IfErr result (λ fault. length into.old < length bytes.now) }
+    ensures refused { IfErr result (λ fault. (fault ≡ ActFault.TooShort) × (length into.old < length bytes.now)) }
     ensures unwritten { IfErr result (λ fault. into.new ≡ into.old) }
 {
     if bytes.len() > into.len() {
