@@ -1,5 +1,5 @@
 -- The codes by which calls refuse.
-use Rattle.std.specs.Prelude.{ℕ, Option, Some, None}
+use Rattle.std.specs.Prelude.{ℕ, ◌≡◌, Option, Some, None}
 use Rattle.sm_desk.specs.declared.command.CommandFault.{CommandFault}
 use Rattle.sm_desk.specs.declared.command.CommandFault.TheVariants.{UnknownServer as NoServer, Change as ByChange}
 use Rattle.sm_desk.specs.declared.command.CommandFault.TheVariants.{Place, Restart, Raced}
@@ -9,10 +9,15 @@ use Rattle.sm_ownership.specs.declared.admit_fault.AdmitFault.TheVariants.{Admit
 use Rattle.sm_ownership.specs.declared.change_fault.ChangeFault.{ChangeFault}
 use Rattle.sm_ownership.specs.declared.change_fault.ChangeFault.TheVariants.{UnknownShard as NoShard, WrongPhase}
 use Rattle.sm_ownership.specs.declared.change_fault.ChangeFault.TheVariants.{SameServer, Spent, Busy}
+use Rattle.sm_place.specs.declared.books_fault.BooksFault.TheVariants.{NoMemory as NoBooks}
 use Rattle.sm_place.specs.declared.place_fault.PlaceFault.{PlaceFault}
 use Rattle.sm_place.specs.declared.place_fault.PlaceFault.TheVariants.{Leaving, NoCapacity, DomainLimit}
 use Rattle.sm_ranges.specs.declared.key.KeyFault.TheVariants.{Empty, TooLong, NoMemory as NoKey}
+use Rattle.sm_ranges.specs.declared.layout.LayoutFault.TheVariants.{Empty as NoBound, FirstNotEmpty, NotRising}
+use Rattle.sm_ranges.specs.declared.layout.LayoutFault.TheVariants.{KeyTooLong, TooMany, NoMemory as NoBounds}
 use Rattle.sm_rule.specs.declared.admit_refusal.AdmitRefusal.{AdmitRefusal}
+use Rattle.sm_rule.specs.declared.make_fault.MakeFault.TheVariants.{BadCeiling as WrongCeiling, NoMemory as NoBoard}
+use Rattle.sm_rule.specs.declared.make_fault.MakeFault.TheVariants.{NoShard as NoShards, TooMany as TooManyShards}
 use Rattle.sm_rule.specs.Admissions.{fault_told}
 use Rattle.sm_server.specs.declared.checkpoint_fault.CheckpointFault.{CheckpointFault}
 use Rattle.sm_server.specs.declared.checkpoint_fault.CheckpointFault.TheVariants.{Admit as NotAdmittedTo}
@@ -24,6 +29,11 @@ use Rattle.sm_tasks.specs.declared.restart_fault.RestartFault.{RestartFault}
 use Rattle.sm_tasks.specs.declared.restart_fault.RestartFault.TheVariants.{NotUp, NotAsked, GlobalCap, ShardCap}
 use Rattle.sm_tasks.specs.declared.restart_fault.RestartFault.TheVariants.{GroupCap, DomainCap, NotApproved}
 use Rattle.sm_tasks.specs.declared.restart_fault.RestartFault.TheVariants.{StillServing, AlreadyUp, AlreadyFailed}
+use Rattle.sm_foreign.specs.declared.open_fault.OpenFault.{OpenFault}
+use Rattle.sm_foreign.specs.declared.open_fault.OpenFault.TheVariants.{Board, Bodies, Books, Restarts, Servers}
+use Rattle.sm_foreign.specs.declared.open_fault.OpenFault.TheVariants.{NoMemory as NoMemoryToOpen}
+use Rattle.sm_handle.specs.declared.cut_fault.CutFault.{CutFault}
+use Rattle.sm_handle.specs.declared.cut_fault.CutFault.TheVariants.{Layout as NoLayout, Outside}
 use Rattle.sm_handle.specs.declared.act_fault.ActFault.{ActFault}
 use Rattle.sm_handle.specs.declared.act_fault.ActFault.TheVariants.{WrongHandle, UnknownShard, UnknownServer, NoMemory}
 use Rattle.sm_handle.specs.declared.act_fault.ActFault.TheVariants.{TooShort, NotSent, NoMore, Admit, Checkpoint}
@@ -105,6 +115,10 @@ act_fault_code (Admit refusal) = told_code refusal
 act_fault_code (Checkpoint fault) = checkpoint_fault_code fault
 act_fault_code (Command fault) = command_fault_code fault
 
+-- this is the code of a fault of which that holds
+abbrev pub IsCodeOf : (ActFault → Type 0) → ℕ → Type 0
+IsCodeOf Refuses code = (fault : ActFault) × Refuses fault × (code ≡ act_fault_code fault)
+
 -- the same of an admission, which is refused for fewer reasons
 abbrev pub pass_code : ActFault → ℕ
 pass_code (Admit refusal) = told_code refusal
@@ -125,6 +139,29 @@ word_fault_code BadWord = 4
 word_fault_code BadCeiling = 5
 word_fault_code (WordUnchanged fault) = change_fault_code fault
 word_fault_code (WordUnadmitted fault) = admit_fault_code fault
+
+-- why there is no board
+abbrev pub open_fault_code : OpenFault → ℕ
+open_fault_code Servers = 2
+open_fault_code Restarts = 2
+open_fault_code NoMemoryToOpen = 3
+open_fault_code (Board NoBoard) = 3
+open_fault_code (Board WrongCeiling) = 5
+open_fault_code (Board NoShards) = 6
+open_fault_code (Board TooManyShards) = 7
+open_fault_code (Books NoBooks) = 3
+open_fault_code (Books fault) = 8
+open_fault_code Bodies = 9
+
+-- why parts of a text are no layout
+abbrev pub cut_fault_code : CutFault → ℕ
+cut_fault_code Outside = 2
+cut_fault_code (NoLayout NoBounds) = 3
+cut_fault_code (NoLayout TooMany) = 7
+cut_fault_code (NoLayout NoBound) = 50
+cut_fault_code (NoLayout FirstNotEmpty) = 51
+cut_fault_code (NoLayout (NotRising place)) = 52
+cut_fault_code (NoLayout (KeyTooLong place)) = 53
 
 -- why parts are no request of the sample service
 abbrev pub request_fault_code : RequestFault → ℕ

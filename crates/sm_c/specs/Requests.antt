@@ -1,16 +1,18 @@
 -- Requests of the sample service by their parts.
 use Rattle.std.specs.Prelude.{ℕ, ℤ, pos, int_le, ◌≡◌, ◌<◌, ◌⊎◌, ◌^◌, ◌-◌, Bool, false, ◌&&◌, List, Option, length, min}
-use Rattle.sm_ranges.specs.declared.limits.TheConstants.{MAX_KEY, MAX_SHARD}
+use Rattle.sm_ranges.specs.declared.limits.TheConstants.{MAX_KEY, MAX_SERVER, MAX_SHARD}
+use Rattle.sm_ranges.specs.declared.key.KeyFault.{KeyFault}
+use Rattle.sm_ranges.specs.declared.key.KeyFault.TheVariants.{Empty, TooLong, NoMemory}
 use Rattle.sm_server.specs.declared.refusal.Refusal.{Refusal}
 use Rattle.sm_service.specs.declared.request.Request.{Request}
 use Rattle.sm_service.specs.declared.request.Request.TheVariants.{Get, Put, Append, Inc, Del, Scan}
 use Rattle.sm_handle.specs.declared.handle_state.HandleState.{HandleState}
 use Rattle.sm_handle.specs.declared.act_fault.ActFault.{ActFault}
 use Rattle.sm_handle.specs.declared.served_as.ServedAs.TheVariants.{Refused}
-use Rattle.sm_handle.specs.Maps.{HoldsKeys, MakesNoReply, MakesReply}
-use Rattle.sm_handle.specs.Serving.{Carries, IsSentAs, RefusesCheckpoint, Serves, ServesNowhere}
+use Rattle.sm_handle.specs.Maps.{HoldsKeys, KeepsNoMap, MakesNoReply, MakesReply}
+use Rattle.sm_handle.specs.Serving.{Carries, CarriesNothing, IsSentAs, RefusesCheckpoint, Serves, ServesNowhere}
 use Rattle.sm_handle.specs.declared.sent_as.SentAs.{SentAs}
-use Rattle.sm_c.specs.Codes.{act_fault_code, refusal_code, request_fault_code}
+use Rattle.sm_c.specs.Codes.{IsCodeOf, act_fault_code, refusal_code, request_fault_code}
 use Rattle.sm_c.specs.Words.{CameFrom}
 use Rattle.sm_c.specs.declared.sent_parts.SentParts.{SentParts}
 use Rattle.sm_c.specs.Reading.{TellsRecord, act_read, refusal_read}
@@ -28,9 +30,11 @@ HasParts kind key other amount (Del named) = (kind ≡ 5) × (named ≡ key)
 HasParts kind key other amount (Scan low high most) =
     (kind ≡ 6) × (low ≡ key) × (high ≡ other) × (pos most ≡ amount)
 
--- the bytes are no key: there are none, or too many
-abbrev pub IsNoKey : List ℕ → Type 0
-IsNoKey bytes = (length bytes ≡ 0) ⊎ (MAX_KEY < length bytes)
+-- why the bytes are no key: there are none, or too many
+abbrev pub IsNoKey : List ℕ → KeyFault → Type 0
+IsNoKey bytes Empty = length bytes ≡ 0
+IsNoKey bytes TooLong = MAX_KEY < length bytes
+IsNoKey bytes NoMemory = ⊥
 
 -- the amount is a number of pairs
 abbrev pub is_u32 : ℤ → Bool
@@ -40,14 +44,20 @@ is_u32 amount = int_le (pos 0) amount && int_le amount (pos (2 ^ 32 - 1))
 abbrev pub IsNoRequest : ℕ → ℤ → Type 0
 IsNoRequest kind amount = (kind ≡ 0) ⊎ (6 < kind) ⊎ ((kind ≡ 6) × (is_u32 amount ≡ false))
 
--- a request of this kind names one by these bytes or, if it is a scan, by those, and they are no key
-abbrev pub HasNoKey : ℕ → List ℕ → List ℕ → Type 0
-HasNoKey kind key other = IsNoKey key ⊎ ((kind ≡ 6) × IsNoKey other)
+-- why a request of this kind has no key: it names one by these bytes or, if it is a scan, by those
+abbrev pub HasNoKey : ℕ → List ℕ → List ℕ → KeyFault → Type 0
+HasNoKey kind key other fault = IsNoKey key fault ⊎ ((kind ≡ 6) × IsNoKey other fault)
 
 -- why parts are no request
 abbrev pub AreNoRequest : RequestFault → ℕ → List ℕ → List ℕ → ℤ → Type 0
 AreNoRequest Argument kind key other amount = IsNoRequest kind amount
-AreNoRequest (BadKey fault) kind key other amount = HasNoKey kind key other
+AreNoRequest (BadKey fault) kind key other amount = HasNoKey kind key other fault
+
+-- why the map wasn't asked for a key: the bytes are none, or the handle keeps no map; and the code says which
+abbrev pub GetsNothing : Option HandleState → List ℕ → ℕ → Type 0
+GetsNothing map key code =
+    ((fault : KeyFault) × IsNoKey key fault × (code ≡ request_fault_code (BadKey fault)))
+    ⊎ ((code ≡ 1) × KeepsNoMap map)
 
 -- so many keys of the map hold something, or more than a word counts
 abbrev pub CountsKeys : Option HandleState → ℕ → Type 0
@@ -63,7 +73,11 @@ AsksMap before after kind key other amount reply =
 abbrev pub AsksNothing : Option HandleState → ℕ → List ℕ → List ℕ → ℤ → ℕ → Type 0
 AsksNothing before kind key other amount code =
     ((fault : RequestFault) × AreNoRequest fault kind key other amount × (code ≡ request_fault_code fault))
-    ⊎ ((fault : ActFault) × MakesNoReply before fault × (code ≡ act_fault_code fault))
+    ⊎ IsCodeOf (MakesNoReply before) code
+
+-- no shard or no server has the number
+abbrev pub AreNoSentParts : SentParts → Type 0
+AreNoSentParts parts = (MAX_SHARD < parts.shard) ⊎ (MAX_SERVER < parts.from)
 
 -- the parts are those of an envelope that was sent so
 abbrev pub AreSentParts : SentParts → SentAs → Type 0
@@ -77,6 +91,15 @@ abbrev pub SendsRequest :
 SendsRequest pass envelope parts kind key other amount =
     (sent : SentAs) × (request : Request) × AreSentParts parts sent × HasParts kind key other amount request
     × Carries pass envelope sent request
+
+-- why there is no such envelope: the parts are none, or those of no request, or none comes so, or the handle keeps no
+-- pass of the sample service, or memory was refused; and the code says which
+abbrev pub SendsNothing : Option HandleState → SentParts → ℕ → List ℕ → List ℕ → ℤ → ℕ → Type 0
+SendsNothing pass parts kind key other amount code =
+    ((code ≡ 2) × AreNoSentParts parts)
+    ⊎ ((fault : RequestFault) × AreNoRequest fault kind key other amount × (code ≡ request_fault_code fault))
+    ⊎ ((sent : SentAs) × AreSentParts parts sent × IsCodeOf (CarriesNothing pass sent) code)
+    ⊎ (code ≡ 3)
 
 -- the handle keeps an envelope with these parts
 abbrev pub TellsSent : Option HandleState → SentParts → Type 0

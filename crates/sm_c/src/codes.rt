@@ -1,7 +1,8 @@
 //! The codes by which calls answer C.
 ghost use Rattle.std.specs.Prelude.{◌≡◌, ◌≢◌, ◌<◌};
-ghost use Rattle.sm_c.specs.Codes.{act_fault_code, admit_fault_code, change_fault_code, command_fault_code, pass_code};
-ghost use Rattle.sm_c.specs.Codes.{refusal_code, request_fault_code, restart_fault_code, told_code, word_fault_code};
+ghost use Rattle.sm_c.specs.Codes.{act_fault_code, admit_fault_code, change_fault_code, command_fault_code};
+ghost use Rattle.sm_c.specs.Codes.{cut_fault_code, open_fault_code, pass_code, refusal_code, request_fault_code};
+ghost use Rattle.sm_c.specs.Codes.{restart_fault_code, told_code, word_fault_code};
 
 use crate::requests::RequestFault;
 use crate::word_fault::WordFault;
@@ -179,6 +180,7 @@ pub(crate) fn code_of_word(fault: WordFault) -> u32
 
 /// The code of why there is no board.
 pub(crate) fn code_of_open(fault: OpenFault) -> u32
+    ensures code { result ≡ open_fault_code fault }
     ensures refused { result ≢ 0 }
     ensures low { result < 70 }
 {
@@ -199,7 +201,8 @@ pub(crate) fn code_of_open(fault: OpenFault) -> u32
 
 /// The code of why parts of a text are no layout.
 pub(crate) fn code_of_cut(fault: CutFault) -> u32
-    ensures { result ≢ 0 }
+    ensures code { result ≡ cut_fault_code fault }
+    ensures refused { result ≢ 0 }
 {
     match fault {
         CutFault::Outside => BAD_ARGUMENT,

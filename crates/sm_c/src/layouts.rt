@@ -1,9 +1,11 @@
 //! Layouts.
 ghost use Rattle.std.specs.Prelude.{◌≡◌, ◌≢◌, ◌<◌, ◌⊎◌};
 ghost use Rattle.sm_ranges.specs.declared.limits.TheConstants.{MAX_SHARD};
-ghost use Rattle.sm_handle.specs.Layouts.{HasNoBound, IsLayoutOf, IsShardOf, KeepsNoLayout, WritesBound};
+ghost use Rattle.sm_handle.specs.Layouts.{CutsNothing, HasNoBound, IsLayoutOf, IsShardOf, KeepsNoLayout, WritesBound};
+ghost use Rattle.sm_handle.specs.declared.cut_fault.CutFault.{CutFault as CutFaultValue};
+ghost use Rattle.sm_c.specs.Codes.{IsCodeOf, cut_fault_code};
 
-use crate::codes::{UNKNOWN_SHARD, code_of_act, code_of_cut};
+use crate::codes::{UNKNOWN_SHARD, WRONG_HANDLE, code_of_act, code_of_cut};
 use sm_handle::{Handle, TextPart};
 use sm_ranges::shard_id::ShardId;
 use std::alloc::Global;
@@ -17,6 +19,8 @@ pub extern "C" fn durkenzo_layout(
     parts: &[TextPart],
 ) -> u32
     ensures made { result ≡ 0 → IsLayoutOf layout.new.owned.state text.now parts.now }
+    ensures refused { result ≢ 0
+        → (fault : CutFaultValue) × CutsNothing text.now parts.now fault × (result ≡ cut_fault_code fault) }
     ensures kept { result ≢ 0 → layout.new.owned.state ≡ layout.old.owned.state }
 {
     match layout.cut(alloc, text, parts) {
@@ -29,7 +33,7 @@ pub extern "C" fn durkenzo_layout(
 #[unsafe(no_mangle)]
 pub extern "C" fn durkenzo_shard_of(layout: &mut Handle, key: &[u8], shard: &mut u16) -> u32
     ensures found { result ≡ 0 → IsShardOf layout.old.owned.state key.now shard.new }
-    ensures refused { result ≢ 0 → KeepsNoLayout layout.old.owned.state }
+    ensures refused { result ≢ 0 → (result ≡ WRONG_HANDLE) × KeepsNoLayout layout.old.owned.state }
     ensures unwritten { result ≢ 0 → shard.new ≡ shard.old }
     ensures unchanged { layout.new.owned.state ≡ layout.old.owned.state }
 {
@@ -51,7 +55,8 @@ pub extern "C" fn durkenzo_bound(
     length: &mut usize,
 ) -> u32
     ensures written { result ≡ 0 → WritesBound layout.old.owned.state shard into.new length.new }
-    ensures refused { result ≢ 0 → (MAX_SHARD < shard) ⊎ HasNoBound layout.old.owned.state shard into.old }
+    ensures refused { result ≢ 0 → ((result ≡ UNKNOWN_SHARD) × (MAX_SHARD < shard))
+        ⊎ IsCodeOf (HasNoBound layout.old.owned.state shard into.old) result }
     ensures unwritten { result ≢ 0 → into.new ≡ into.old }
     ensures no_length { result ≢ 0 → length.new ≡ length.old }
     ensures unchanged { layout.new.owned.state ≡ layout.old.owned.state }

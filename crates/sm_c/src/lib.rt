@@ -3,15 +3,20 @@
 //! used by one call at a time.
 #![tactic(auto)]
 
-ghost use Rattle.std.specs.Prelude.{◌≡◌, ◌≢◌, ◌<◌, ◌⊎◌, Some, None, unwrap_or};
+ghost use Rattle.std.specs.Prelude.{◌≡◌, ◌≢◌, ◌<◌, ◌⊎◌, Some, None, length, unwrap_or};
+ghost use Rattle.sm_foreign.specs.Refusals.{OpensNothing};
+ghost use Rattle.sm_foreign.specs.declared.open_fault.OpenFault.{OpenFault as OpenFaultValue};
+ghost use Rattle.sm_handle.specs.declared.act_fault.ActFault.{ActFault as ActFaultValue};
 ghost use Rattle.sm_ownership.specs.declared.record.Record.{Record as RecordValue};
 ghost use Rattle.sm_ownership.specs.Rules.{executor, forward_to};
-ghost use Rattle.sm_handle.specs.Acts.{EndsHandle, HoldsNothing, IsOpened, IsPassOf, LooksNowhere, TellsWord};
+ghost use Rattle.sm_handle.specs.Acts.{EndsHandle, GivesNoPass, HoldsNothing, IsOpened, IsPassOf, LooksNowhere};
+ghost use Rattle.sm_handle.specs.Acts.{TellsWord};
 ghost use Rattle.sm_ranges.specs.ServerId.{IsServer};
 ghost use Rattle.sm_ranges.specs.declared.limits.TheConstants.{MAX_SERVER, MAX_SHARD};
 ghost use Rattle.sm_word.specs.Word.{IsWellFormed, word_of};
 ghost use Rattle.sm_c.specs.Calls.{AdmitsFrom, ChangesBoard, LooksAt, RefusesChange, RefusesFrom, RefusesRestart};
 ghost use Rattle.sm_c.specs.Calls.{RefusesByWord, Restarts};
+ghost use Rattle.sm_c.specs.Codes.{IsCodeOf, open_fault_code};
 ghost use Rattle.sm_c.specs.Words.{AcceptsWord, AdmitsWord, ArePartsOf, ChangesWord, EndsWord, ForbidsChange, HasNoEnd};
 ghost use Rattle.sm_c.specs.Words.{HasNoRecord, IsNoServer, IsNoWord, PacksParts, RefusesWord};
 
@@ -32,8 +37,8 @@ mod word_fault;
 mod words;
 
 use codes::{
-    BAD_ARGUMENT, BAD_WORD, NOT_ADMITTED, UNKNOWN_SHARD, code_of_act, code_of_open, code_of_pass,
-    code_of_word,
+    BAD_ARGUMENT, BAD_WORD, NOT_ADMITTED, UNKNOWN_SHARD, WRONG_HANDLE, code_of_act, code_of_open,
+    code_of_pass, code_of_word,
 };
 use kinds::{change_of, known_server, mode_of, step_of};
 use read::{read_of, tell, tell_parts, tell_word};
@@ -104,7 +109,7 @@ pub extern "C" fn durkenzo_admitted(
 #[unsafe(no_mangle)]
 pub extern "C" fn durkenzo_ended(word: u64, next: &mut u64) -> u32
     ensures made { result ≡ 0 → EndsWord word next.new }
-    ensures refused { result ≢ 0 → IsNoWord word ⊎ HasNoEnd word }
+    ensures refused { result ≢ 0 → (result ≡ NOT_ADMITTED) × (IsNoWord word ⊎ HasNoEnd word) }
     ensures kept { result ≢ 0 → next.new ≡ next.old }
 {
     match ended_word(word) {
@@ -121,7 +126,7 @@ pub extern "C" fn durkenzo_ended(word: u64, next: &mut u64) -> u32
 pub extern "C" fn durkenzo_unpack(word: u64, parts: &mut RecordParts) -> u32
     ensures made { result ≡ 0
         → (state : RecordValue) × IsWellFormed state × (word_of state ≡ word) × ArePartsOf parts.new state }
-    ensures refused { result ≢ 0 → IsNoWord word }
+    ensures refused { result ≢ 0 → (result ≡ BAD_WORD) × IsNoWord word }
     ensures kept { result ≢ 0 → parts.new ≡ parts.old }
 {
     match unpack(word) {
@@ -137,7 +142,7 @@ pub extern "C" fn durkenzo_unpack(word: u64, parts: &mut RecordParts) -> u32
 #[unsafe(no_mangle)]
 pub extern "C" fn durkenzo_pack(parts: &RecordParts, word: &mut u64) -> u32
     ensures made { result ≡ 0 → PacksParts parts.now word.new }
-    ensures refused { result ≢ 0 → HasNoRecord parts.now }
+    ensures refused { result ≢ 0 → (result ≡ BAD_ARGUMENT) × HasNoRecord parts.now }
     ensures kept { result ≢ 0 → word.new ≡ word.old }
 {
     match packed_word(parts) {
@@ -153,7 +158,8 @@ pub extern "C" fn durkenzo_pack(parts: &RecordParts, word: &mut u64) -> u32
 #[unsafe(no_mangle)]
 pub extern "C" fn durkenzo_accepts(word: u64, server: u16, from: u16, accepted: &mut bool) -> u32
     ensures made { result ≡ 0 → AcceptsWord word server from accepted.new }
-    ensures refused { result ≢ 0 → IsNoServer server ⊎ (MAX_SERVER < from) ⊎ IsNoWord word }
+    ensures refused { result ≢ 0 → ((result ≡ BAD_ARGUMENT) × (IsNoServer server ⊎ (MAX_SERVER < from)))
+        ⊎ ((result ≡ BAD_WORD) × IsNoWord word) }
     ensures kept { result ≢ 0 → accepted.new ≡ accepted.old }
 {
     let Some(server) = known_server(server) else {
@@ -205,6 +211,8 @@ pub extern "C" fn durkenzo_open(
     ceiling: u64,
 ) -> u32
     ensures made { result ≡ 0 → IsOpened chief.new.owned.state numbers.now servers ops ceiling }
+    ensures refused { result ≢ 0 → (fault : OpenFaultValue)
+        × OpensNothing (length numbers.now) servers ops ceiling fault × (result ≡ open_fault_code fault) }
     ensures kept { result ≢ 0 → chief.new.owned.state ≡ chief.old.owned.state }
 {
     match chief.open(alloc, numbers, servers, ops, ceiling) {
@@ -224,9 +232,11 @@ pub extern "C" fn durkenzo_pass(
 ) -> u32
     ensures chief { chief.new.owned.state ≡ chief.old.owned.state }
     ensures made { result ≡ 0 → IsPassOf chief.old.owned.state pass.new.owned.state (Some server) }
+    ensures refused { result ≢ 0 → ((result ≡ BAD_ARGUMENT) × IsNoServer server)
+        ⊎ IsCodeOf (GivesNoPass chief.old.owned.state) result }
     ensures kept { result ≢ 0 → pass.new.owned.state ≡ pass.old.owned.state }
 {
-    let Some(server) = ServerId::new(server) else {
+    let Some(server) = known_server(server) else {
         return BAD_ARGUMENT;
     };
     match pass.pass(alloc, chief, Some(server)) {
@@ -239,7 +249,8 @@ pub extern "C" fn durkenzo_pass(
 #[unsafe(no_mangle)]
 pub extern "C" fn durkenzo_look(pass: &mut Handle, shard: u16, parts: &mut RecordParts) -> u32
     ensures seen { result ≡ 0 → LooksAt pass.old.owned.state pass.new.owned.state shard parts.new }
-    ensures refused { result ≢ 0 → (MAX_SHARD < shard) ⊎ LooksNowhere pass.old.owned.state shard }
+    ensures refused { result ≢ 0 → ((result ≡ UNKNOWN_SHARD) × (MAX_SHARD < shard))
+        ⊎ IsCodeOf (LooksNowhere pass.old.owned.state shard) result }
     ensures kept { result ≢ 0 → pass.new.owned.state ≡ pass.old.owned.state }
     ensures unwritten { result ≢ 0 → parts.new ≡ parts.old }
 {
@@ -263,7 +274,8 @@ const NO_WORD: u64 = 0xffff_ffff_ffff_ffff;
 #[unsafe(no_mangle)]
 pub extern "C" fn durkenzo_look_word(pass: &mut Handle, shard: u16) -> u64
     ensures seen { result ≢ NO_WORD → TellsWord pass.old.owned.state pass.new.owned.state shard result }
-    ensures refused { result ≡ NO_WORD → (MAX_SHARD < shard) ⊎ LooksNowhere pass.old.owned.state shard }
+    ensures refused { result ≡ NO_WORD
+        → (MAX_SHARD < shard) ⊎ ((fault : ActFaultValue) × LooksNowhere pass.old.owned.state shard fault) }
     ensures kept { result ≡ NO_WORD → pass.new.owned.state ≡ pass.old.owned.state }
 {
     let Some(k) = ShardId::new(shard) else {
@@ -347,7 +359,7 @@ pub extern "C" fn durkenzo_admit_word(
 #[unsafe(no_mangle)]
 pub extern "C" fn durkenzo_finish(pass: &mut Handle, generation: &mut u64) -> u32
     ensures ended { result ≡ 0 → EndsHandle pass.old.owned.state pass.new.owned.state generation.new }
-    ensures refused { result ≢ 0 → HoldsNothing pass.old.owned.state }
+    ensures refused { result ≢ 0 → (result ≡ WRONG_HANDLE) × HoldsNothing pass.old.owned.state }
     ensures kept { result ≢ 0 → pass.new.owned.state ≡ pass.old.owned.state }
     ensures unwritten { result ≢ 0 → generation.new ≡ generation.old }
 {

@@ -1,9 +1,9 @@
 //! Maps of the sample service.
-ghost use Rattle.std.specs.Prelude.{◌≡◌, ◌≢◌, ◌⊎◌};
+ghost use Rattle.std.specs.Prelude.{◌≡◌, ◌≢◌};
 ghost use Rattle.sm_handle.specs.Maps.{IsEmptyMap, KeepsNoMap, Replied, WritesHeld};
-ghost use Rattle.sm_c.specs.Requests.{AsksMap, AsksNothing, CountsKeys, IsNoKey};
+ghost use Rattle.sm_c.specs.Requests.{AsksMap, AsksNothing, CountsKeys, GetsNothing};
 
-use crate::codes::{NO_MEMORY, code_of_act, code_of_request};
+use crate::codes::{NO_MEMORY, WRONG_HANDLE, code_of_act, code_of_request};
 use crate::requests::{RequestFault, lent_key_of, lent_request_of};
 use sm_handle::{Handle, ReplyParts};
 use std::alloc::Global;
@@ -12,6 +12,7 @@ use std::alloc::Global;
 #[unsafe(no_mangle)]
 pub extern "C" fn durkenzo_map(alloc: Global, map: &mut Handle) -> u32
     ensures made { result ≡ 0 → IsEmptyMap map.new.owned.state }
+    ensures refused { result ≢ 0 → result ≡ NO_MEMORY }
     ensures kept { result ≢ 0 → map.new.owned.state ≡ map.old.owned.state }
 {
     match map.map(alloc) {
@@ -24,7 +25,7 @@ pub extern "C" fn durkenzo_map(alloc: Global, map: &mut Handle) -> u32
 #[unsafe(no_mangle)]
 pub extern "C" fn durkenzo_map_length(map: &mut Handle, length: &mut u64) -> u32
     ensures found { result ≡ 0 → CountsKeys map.old.owned.state length.new }
-    ensures refused { result ≢ 0 → KeepsNoMap map.old.owned.state }
+    ensures refused { result ≢ 0 → (result ≡ WRONG_HANDLE) × KeepsNoMap map.old.owned.state }
     ensures unwritten { result ≢ 0 → length.new ≡ length.old }
     ensures unchanged { map.new.owned.state ≡ map.old.owned.state }
 {
@@ -46,7 +47,7 @@ pub extern "C" fn durkenzo_get(
     parts: &mut ReplyParts,
 ) -> u32
     ensures held { result ≡ 0 → WritesHeld map.old.owned.state key.now into.new parts.new }
-    ensures refused { result ≢ 0 → KeepsNoMap map.old.owned.state ⊎ IsNoKey key.now }
+    ensures refused { result ≢ 0 → GetsNothing map.old.owned.state key.now result }
     ensures unwritten { result ≢ 0 → (into.new ≡ into.old) × (parts.new ≡ parts.old) }
     ensures unchanged { map.new.owned.state ≡ map.old.owned.state }
 {

@@ -1,8 +1,9 @@
 //! What passes tell each other.
 ghost use Rattle.std.specs.Prelude.{◌≡◌, ◌≢◌, None};
-ghost use Rattle.sm_handle.specs.Notes.{AreOfOneBoard, IsSplitFrom, MeetsHandle, TellsNothing};
+ghost use Rattle.sm_handle.specs.Notes.{AreOfOneBoard, IsSplitFrom, MeetsHandle, SplitsNothing, TellsNothing};
+ghost use Rattle.sm_c.specs.Codes.{IsCodeOf};
 
-use crate::codes::code_of_act;
+use crate::codes::{WRONG_HANDLE, code_of_act};
 use sm_handle::Handle;
 use std::alloc::Global;
 
@@ -12,6 +13,7 @@ use std::alloc::Global;
 pub extern "C" fn durkenzo_split(alloc: Global, from: &mut Handle, pass: &mut Handle) -> u32
     ensures from { from.new.owned.state ≡ from.old.owned.state }
     ensures made { result ≡ 0 → IsSplitFrom from.old.owned.state pass.new.owned.state }
+    ensures refused { result ≢ 0 → IsCodeOf (SplitsNothing from.old.owned.state) result }
     ensures kept { result ≢ 0 → pass.new.owned.state ≡ pass.old.owned.state }
 {
     match pass.split(alloc, from) {
@@ -26,7 +28,8 @@ pub extern "C" fn durkenzo_meet(alloc: Global, pass: &mut Handle, other: &mut Ha
     requires { AreOfOneBoard pass.old.owned.state other.old.owned.state }
     ensures met { result ≡ 0 → MeetsHandle pass.old.owned.state other.old.owned.state pass.new.owned.state }
     ensures gone { result ≡ 0 → other.new.owned.state ≡ None }
-    ensures refused { result ≢ 0 → TellsNothing pass.old.owned.state other.old.owned.state }
+    ensures refused { result ≢ 0
+        → (result ≡ WRONG_HANDLE) × TellsNothing pass.old.owned.state other.old.owned.state }
     ensures kept { result ≢ 0 → pass.new.owned.state ≡ pass.old.owned.state }
     ensures back { result ≢ 0 → other.new.owned.state ≡ other.old.owned.state }
 {

@@ -1,7 +1,8 @@
 //! Boards that a line of settings describes.
-ghost use Rattle.std.specs.Prelude.{◌≡◌, ◌≢◌, ◌≤◌};
-ghost use Rattle.sm_handle.specs.Opening.{OpensBoard, OpensService};
-ghost use Rattle.sm_c.specs.Opening.{HasFault, settings_code};
+ghost use Rattle.std.specs.Prelude.{◌≡◌, ◌≢◌, ◌≤◌, length};
+ghost use Rattle.sm_handle.specs.Opening.{OpensBoard, OpensNoBoard, OpensNoService, OpensService};
+ghost use Rattle.sm_handle.specs.declared.settings_open_fault.SettingsOpenFault.{SettingsOpenFault as FaultValue};
+ghost use Rattle.sm_c.specs.Opening.{HasFault, settings_code, settings_open_code};
 
 use crate::codes::{NO_MEMORY, code_of_open};
 use sm_handle::{Handle, SettingsOpenFault};
@@ -22,6 +23,8 @@ pub extern "C" fn durkenzo_open_settings(
     ensures made { result ≡ 0
         → OpensService line.now chief.new.owned.state layout.new.owned.state shards.new }
     ensures fault { 70 ≤ result → HasFault line.now result }
+    ensures refused { result ≢ 0
+        → (fault : FaultValue) × OpensNoService line.now fault × (result ≡ settings_open_code fault) }
     ensures kept { result ≢ 0 → chief.new.owned.state ≡ chief.old.owned.state }
     ensures unwritten { result ≢ 0
         → (layout.new.owned.state ≡ layout.old.owned.state) × (shards.new ≡ shards.old) }
@@ -49,6 +52,8 @@ pub extern "C" fn durkenzo_open_bodies(
     ensures made { result ≡ 0
         → OpensBoard line.now numbers.now chief.new.owned.state layout.new.owned.state }
     ensures fault { 70 ≤ result → HasFault line.now result }
+    ensures refused { result ≢ 0 → (fault : FaultValue) × OpensNoBoard line.now (length numbers.now) fault
+        × (result ≡ settings_open_code fault) }
     ensures kept { result ≢ 0 → chief.new.owned.state ≡ chief.old.owned.state }
     ensures unwritten { result ≢ 0 → layout.new.owned.state ≡ layout.old.owned.state }
 {

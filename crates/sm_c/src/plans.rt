@@ -1,7 +1,10 @@
 //! Plans.
-ghost use Rattle.std.specs.Prelude.{◌≡◌, ◌≢◌};
-ghost use Rattle.sm_handle.specs.Plans.{HasNoMove, HasNotLeft, IsLeftOut};
+ghost use Rattle.std.specs.Prelude.{◌≡◌, ◌≢◌, ◌<◌, ◌⊎◌};
+ghost use Rattle.sm_handle.specs.Plans.{HasNoMove, HasNoPlan, HasNotLeft, IsLeftOut};
+ghost use Rattle.sm_ranges.specs.declared.limits.TheConstants.{MAX_SERVER};
+ghost use Rattle.sm_word.specs.Word.{server_of};
 ghost use Rattle.sm_c.specs.Calls.{MovesTo, PlansFrom};
+ghost use Rattle.sm_c.specs.Codes.{IsCodeOf};
 
 use crate::codes::{BAD_ARGUMENT, code_of_act};
 use sm_handle::Handle;
@@ -19,6 +22,8 @@ pub extern "C" fn durkenzo_plan(
 ) -> u32
     ensures chief { chief.new.owned.state ≡ chief.old.owned.state }
     ensures made { result ≡ 0 → PlansFrom chief.old.owned.state plan.new.owned.state from }
+    ensures refused { result ≢ 0 → ((result ≡ BAD_ARGUMENT) × (MAX_SERVER < from))
+        ⊎ IsCodeOf (HasNoPlan chief.old.owned.state (server_of from)) result }
     ensures kept { result ≢ 0 → plan.new.owned.state ≡ plan.old.owned.state }
 {
     let server = ServerId::new(from);
@@ -40,7 +45,7 @@ pub extern "C" fn durkenzo_move(
     server: &mut u16,
 ) -> u32
     ensures found { result ≡ 0 → MovesTo plan.old.owned.state at shard.new server.new }
-    ensures refused { result ≢ 0 → HasNoMove plan.old.owned.state at }
+    ensures refused { result ≢ 0 → IsCodeOf (HasNoMove plan.old.owned.state at) result }
     ensures unwritten { result ≢ 0 → (shard.new ≡ shard.old) × (server.new ≡ server.old) }
     ensures unchanged { plan.new.owned.state ≡ plan.old.owned.state }
 {
@@ -58,7 +63,7 @@ pub extern "C" fn durkenzo_move(
 #[unsafe(no_mangle)]
 pub extern "C" fn durkenzo_left(plan: &mut Handle, at: usize, shard: &mut u16) -> u32
     ensures found { result ≡ 0 → IsLeftOut plan.old.owned.state at shard.new }
-    ensures refused { result ≢ 0 → HasNotLeft plan.old.owned.state at }
+    ensures refused { result ≢ 0 → IsCodeOf (HasNotLeft plan.old.owned.state at) result }
     ensures unwritten { result ≢ 0 → shard.new ≡ shard.old }
     ensures unchanged { plan.new.owned.state ≡ plan.old.owned.state }
 {

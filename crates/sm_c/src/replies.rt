@@ -1,7 +1,8 @@
 //! Replies of the sample service.
-ghost use Rattle.std.specs.Prelude.{◌≡◌, ◌≢◌, IsErr};
+ghost use Rattle.std.specs.Prelude.{◌≡◌, ◌≢◌, Err};
 ghost use Rattle.sm_handle.specs.Maps.{HasNoKeyAt, HasNoPair, HasNoText, HasNoTextAt, PairHeld, WritesHeldText};
 ghost use Rattle.sm_handle.specs.Maps.{WritesKey, WritesText, reply_kept};
+ghost use Rattle.sm_c.specs.Codes.{IsCodeOf};
 
 use crate::codes::code_of_act;
 use sm_handle::{ActFault, Handle, ReplyParts};
@@ -14,7 +15,7 @@ pub extern "C" fn durkenzo_reply_text(
     length: &mut usize,
 ) -> u32
     ensures written { result ≡ 0 → WritesText reply.old.owned.state into.new length.new }
-    ensures refused { result ≢ 0 → HasNoText (reply_kept reply.old.owned.state) into.old }
+    ensures refused { result ≢ 0 → IsCodeOf (HasNoText (reply_kept reply.old.owned.state) into.old) result }
     ensures unwritten { result ≢ 0 → into.new ≡ into.old }
     ensures no_length { result ≢ 0 → length.new ≡ length.old }
     ensures unchanged { reply.new.owned.state ≡ reply.old.owned.state }
@@ -27,7 +28,7 @@ pub extern "C" fn durkenzo_reply_text(
 #[unsafe(no_mangle)]
 pub extern "C" fn durkenzo_pair(reply: &mut Handle, at: usize, parts: &mut ReplyParts) -> u32
     ensures found { result ≡ 0 → PairHeld reply.old.owned.state at parts.new }
-    ensures refused { result ≢ 0 → HasNoPair (reply_kept reply.old.owned.state) at }
+    ensures refused { result ≢ 0 → IsCodeOf (HasNoPair (reply_kept reply.old.owned.state) at) result }
     ensures unwritten { result ≢ 0 → parts.new ≡ parts.old }
     ensures unchanged { reply.new.owned.state ≡ reply.old.owned.state }
 {
@@ -49,7 +50,7 @@ pub extern "C" fn durkenzo_pair_key(
     length: &mut usize,
 ) -> u32
     ensures written { result ≡ 0 → WritesKey reply.old.owned.state at into.new length.new }
-    ensures refused { result ≢ 0 → HasNoKeyAt reply.old.owned.state at into.old }
+    ensures refused { result ≢ 0 → IsCodeOf (HasNoKeyAt reply.old.owned.state at into.old) result }
     ensures unwritten { result ≢ 0 → into.new ≡ into.old }
     ensures no_length { result ≢ 0 → length.new ≡ length.old }
     ensures unchanged { reply.new.owned.state ≡ reply.old.owned.state }
@@ -67,7 +68,7 @@ pub extern "C" fn durkenzo_pair_text(
     length: &mut usize,
 ) -> u32
     ensures written { result ≡ 0 → WritesHeldText reply.old.owned.state at into.new length.new }
-    ensures refused { result ≢ 0 → HasNoTextAt reply.old.owned.state at into.old }
+    ensures refused { result ≢ 0 → IsCodeOf (HasNoTextAt reply.old.owned.state at into.old) result }
     ensures unwritten { result ≢ 0 → into.new ≡ into.old }
     ensures no_length { result ≢ 0 → length.new ≡ length.old }
     ensures unchanged { reply.new.owned.state ≡ reply.old.owned.state }
@@ -79,7 +80,7 @@ pub extern "C" fn durkenzo_pair_text(
 // The code of what was written, whose length this keeps.
 fn code_of_written(made: Result<usize, ActFault>, length: &mut usize) -> u32
     ensures written { result ≡ 0 → made ≡ Ok length.new }
-    ensures refused { result ≢ 0 → IsErr made }
+    ensures refused { result ≢ 0 → IsCodeOf (λ fault. made ≡ Err fault) result }
     ensures no_length { result ≢ 0 → length.new ≡ length.old }
 {
     match made {

@@ -86,7 +86,7 @@ pub(crate) fn lent_request_of<'a>(
 /// The bytes, where they are a key.
 pub(crate) fn lent_key_of(bytes: &[u8]) -> Result<&[u8], KeyFault>
     ensures key { IfOk result (λ key. key.now ≡ bytes.now) }
-    ensures refused { IfErr result (λ fault. IsNoKey bytes.now) }
+    ensures refused { IfErr result (IsNoKey bytes.now) }
 {
     match Key::fault_of(bytes) {
         None => Ok(bytes),
@@ -96,7 +96,7 @@ pub(crate) fn lent_key_of(bytes: &[u8]) -> Result<&[u8], KeyFault>
 
 fn key_of(alloc: Global, bytes: &[u8]) -> Result<Key, KeyFault>
     ensures key { IfOk result (λ key. key ≡ bytes.now) }
-    ensures refused { IfErr result (λ fault. IsNoKey bytes.now ⊎ (fault ≡ KeyFault.NoMemory)) }
+    ensures refused { IfErr result (λ fault. IsNoKey bytes.now fault ⊎ (fault ≡ KeyFault.NoMemory)) }
 {
     Key::new(alloc, bytes)
 }

@@ -1,5 +1,5 @@
-ghost use Rattle.std.specs.Prelude.{IfSome};
-ghost use Rattle.sm_c.specs.Requests.{AreSentParts};
+ghost use Rattle.std.specs.Prelude.{IfNone, IfSome};
+ghost use Rattle.sm_c.specs.Requests.{AreNoSentParts, AreSentParts};
 ghost use Rattle.sm_c.specs.Words.{CameFrom};
 
 use crate::kinds::mode_of;
@@ -21,7 +21,8 @@ pub struct SentParts {
 impl SentParts {
     /// What these parts tell of an envelope, or none where they name no shard or server.
     pub(crate) fn sent(&self) -> Option<SentAs>
-        ensures { IfSome result (AreSentParts self.now) }
+        ensures sent { IfSome result (AreSentParts self.now) }
+        ensures none { IfNone result (AreNoSentParts self.now) }
     {
         let (Some(shard), Some(mode)) = (ShardId::new(self.shard), mode_of(self.from)) else {
             return None;

@@ -5,12 +5,14 @@ ghost use Rattle.sm_handle.specs.Serving.{IsOfBoard, IsServiceOpened, KeepsNoAns
 ghost use Rattle.sm_handle.specs.Serving.{Serves, TellsAnswer};
 ghost use Rattle.sm_handle.specs.declared.served_as.ServedAs.TheVariants.{Answered, Forward, Refused};
 ghost use Rattle.sm_server.specs.declared.refusal.Refusal.{Refusal as RefusalValue};
-ghost use Rattle.sm_c.specs.Codes.{refusal_code};
+ghost use Rattle.sm_foreign.specs.Refusals.{OpensNothing};
+ghost use Rattle.sm_foreign.specs.declared.open_fault.OpenFault.{OpenFault as OpenFaultValue};
+ghost use Rattle.sm_c.specs.Codes.{open_fault_code, refusal_code};
 ghost use Rattle.sm_c.specs.Reading.{TellsRecord, refusal_read};
-ghost use Rattle.sm_c.specs.Requests.{ComesBack, LeavesShard, SendsRequest, TellsSent};
+ghost use Rattle.sm_c.specs.Requests.{ComesBack, LeavesShard, SendsNothing, SendsRequest, TellsSent};
 
 use crate::codes::{
-    BAD_ARGUMENT, FORWARD, UNKNOWN_SHARD, code_of_act, code_of_open, code_of_refusal,
+    BAD_ARGUMENT, FORWARD, UNKNOWN_SHARD, WRONG_HANDLE, code_of_act, code_of_open, code_of_refusal,
     code_of_request,
 };
 use crate::read::{read_of, read_of_refusal, tell};
@@ -35,6 +37,8 @@ pub extern "C" fn durkenzo_open_service(
     ceiling: u64,
 ) -> u32
     ensures made { result ≡ 0 → IsServiceOpened chief.new.owned.state shards kept servers ops ceiling }
+    ensures refused { result ≢ 0
+        → (fault : OpenFaultValue) × OpensNothing shards servers ops ceiling fault × (result ≡ open_fault_code fault) }
     ensures kept { result ≢ 0 → chief.new.owned.state ≡ chief.old.owned.state }
 {
     match chief.open_service(alloc, shards, kept, servers, ops, ceiling) {
@@ -59,6 +63,8 @@ pub extern "C" fn durkenzo_envelope(
     ensures pass { pass.new.owned.state ≡ pass.old.owned.state }
     ensures made { result ≡ 0
         → SendsRequest pass.old.owned.state envelope.new.owned.state parts.now kind key.now other.now amount }
+    ensures refused { result ≢ 0
+        → SendsNothing pass.old.owned.state parts.now kind key.now other.now amount result }
     ensures kept { result ≢ 0 → envelope.new.owned.state ≡ envelope.old.owned.state }
 {
     let Some(sent) = parts.sent() else {
@@ -106,7 +112,7 @@ pub extern "C" fn durkenzo_serve(
 #[unsafe(no_mangle)]
 pub extern "C" fn durkenzo_sent(envelope: &mut Handle, parts: &mut SentParts) -> u32
     ensures found { result ≡ 0 → TellsSent envelope.old.owned.state parts.new }
-    ensures refused { result ≢ 0 → KeepsNoEnvelope envelope.old.owned.state }
+    ensures refused { result ≢ 0 → (result ≡ WRONG_HANDLE) × KeepsNoEnvelope envelope.old.owned.state }
     ensures unwritten { result ≢ 0 → parts.new ≡ parts.old }
     ensures unchanged { envelope.new.owned.state ≡ envelope.old.owned.state }
 {
@@ -128,7 +134,7 @@ pub extern "C" fn durkenzo_answer(
 ) -> u32
     ensures found { result ≡ 0
         → TellsAnswer answer.old.owned.state parts.new × Replied answer.old.owned.state reply.new }
-    ensures refused { result ≢ 0 → KeepsNoAnswer answer.old.owned.state }
+    ensures refused { result ≢ 0 → (result ≡ WRONG_HANDLE) × KeepsNoAnswer answer.old.owned.state }
     ensures unwritten { result ≢ 0 → (parts.new ≡ parts.old) × (reply.new ≡ reply.old) }
     ensures unchanged { answer.new.owned.state ≡ answer.old.owned.state }
 {
