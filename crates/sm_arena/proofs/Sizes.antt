@@ -6,7 +6,7 @@ use Rattle.std.proofs.lemmas.List.Sums.{sum_by-cons, sum_by_push}
 use Rattle.sm_arena.specs.declared.chunk.Chunk.{Chunk}
 use Rattle.sm_arena.specs.Chunk.{written_in}
 use Rattle.sm_arena.specs.declared.blocks.Blocks.{Blocks}
-use Rattle.sm_arena.specs.Blocks.{chunks_in, total, HasSpace}
+use Rattle.sm_arena.specs.Blocks.{chunks_in, total}
 use Rattle.sm_arena.specs.Sizes.{next_size, least_after, sizes_in}
 
 next_more : (least : ℕ) (sizes : List ℕ) (size : ℕ)
@@ -51,8 +51,3 @@ sizes_fit (b ∷ bs) = omega (
 
 pub held_fits : (b : Blocks) → sum (sizes_in b.blocks.items) < 2 ^ 127
 held_fits b = omega (arith, sizes_fit b.blocks.items, b.blocks.ok.0, b.blocks.ok.1, b.blocks.small)
-
--- where there is room for many bytes, there is for fewer
-pub less_space : (bs : List Chunk) (place many few : ℕ) → few ≤ many → HasSpace bs place many
-    → HasSpace bs place few
-less_space bs place many few le has = (has.0, λ d. omega (arith, has.1 d, le))

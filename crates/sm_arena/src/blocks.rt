@@ -1,6 +1,5 @@
-ghost use Rattle.std.specs.Prelude.{◌≡◌, ◌+◌, ◌<◌, ◌≤◌, ◌^◌, ◌++◌, ◌∷◌, [], length, max, replicate, sum};
+ghost use Rattle.std.specs.Prelude.{◌≡◌, ◌+◌, ◌<◌, ◌≤◌, ◌++◌, ◌∷◌, [], length, max, replicate, sum};
 ghost use Rattle.std.specs.Prelude.{slice_index_or, vec_capacity, vec_len, ℕ, List, IfOk, IfErr, OnOk, OnErr, IsTrue};
-ghost use Rattle.sm_arena.specs.Chunk.{written_in};
 ghost use Rattle.sm_arena.specs.Blocks.{chunks_in, bytes_at, next_span, IsWriting, IsWritingPair, IsGrown, IsFilled};
 ghost use Rattle.sm_arena.specs.Blocks.{HasSpace};
 ghost use Rattle.sm_arena.specs.Sizes.{sizes_in, next_size, size_holding, least_after, HasGrown};

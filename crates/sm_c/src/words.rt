@@ -1,5 +1,5 @@
 //! Steps from word to word.
-ghost use Rattle.std.specs.Prelude.{◌≡◌, ◌≢◌, ◌⊎◌, IfErr, IfNone, IfOk, IfSome, None};
+ghost use Rattle.std.specs.Prelude.{◌⊎◌, IfErr, IfNone, IfOk, IfSome, None};
 ghost use Rattle.sm_word.specs.Known.{NewlyNamesServer};
 ghost use Rattle.sm_c.specs.Codes.{word_fault_code};
 ghost use Rattle.sm_c.specs.Words.{AdmitsBy, ChangesBy, EndsWord, ForbidsBy, HasNoEnd, HasNoRecord, IsNoWord};

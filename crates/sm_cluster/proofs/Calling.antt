@@ -19,7 +19,7 @@ use Rattle.sm_cluster.specs.declared.reply.CallReply.{CallReply}
 use Rattle.sm_cluster.specs.declared.reply.CallReply.TheVariants as reply
 use Rattle.sm_cluster.specs.Calls.{CallResult, CalledAt, ClientValue, FaultAt, IsAnswerFor, IsEnvelopeOf, WasRefused}
 use Rattle.sm_cluster.specs.Calls.{handed_back, shard_asked}
-use Rattle.sm_cluster.specs.Exchanging.{IsCallOf, IsLeftAfter, IsLeftBy, SendsBackOn, call_outcome}
+use Rattle.sm_cluster.specs.Exchanging.{IsCallOf, IsLeftAfter, IsLeftBy, call_outcome}
 use Rattle.sm_cluster.specs.Replies.{CallValue, ComesBackFor, Fits, IsAnswerTo, IsRefusalTo}
 use Rattle.sm_cluster.specs.Since.{IsClientSince}
 use Rattle.sm_cluster.specs.lemmas.Since.{since_looks, since_same}
@@ -47,14 +47,6 @@ request_back service asked back Unreachable request is why = ap Some is
 request_back service asked back (Refused refusal) request is why = ap Some is
 request_back service asked back NoMemory request is why = ap Some is
 request_back service asked back Closed request is never = absurd never
-
--- an envelope that comes back has a note of the call's board
-pub sent_back : {Q R E : Type 0} (service : Meaning Q R) (asked : CallValue Q) (board : BoardValue)
-    (reply : Result (CallReply (AnswerValue Q R) (Sent Q)) E) → asked.sent.note.board ≡ board
-    → IfOk reply (Fits service (Some asked)) → IfOk reply (SendsBackOn board)
-sent_back service asked board (Ok (reply.Answered answer)) is fits = tt
-sent_back service asked board (Ok (reply.Refused fault back)) is fits = fits.0.board ∙ is
-sent_back service asked board (Err none) is fits = tt
 
 -- a call of a client
 module _ {Q R : Type 0} (service : Meaning Q R) (before : ClientValue Q) (number : ℕ) (request : Q)

@@ -1,10 +1,9 @@
 -- Places of holds.
 use Rattle.std.proofs.Common.{◌≡◌, ◌<◌, ℕ, zero, suc, ◌⊎◌, inl, inr, List, [], ◌∷◌, ◌++◌, length, refl, sym, ap, ◌∙◌}
 use Rattle.std.proofs.Common.{subst, arith, rules, ⊎_elim}
-use Rattle.std.specs.Prelude.{◌≢◌, IfSome, Option, Some, None, slice_index_or, slice_set}
+use Rattle.std.specs.Prelude.{IfSome, Option, Some, None, slice_index_or, slice_set}
 use Rattle.std.proofs.lemmas.Bool.{cases_order}
-use Rattle.std.proofs.lemmas.List.Elements.{All-append}
-use Rattle.std.proofs.lemmas.List.{append-nil, get_or-set_other, get_or-set_same, length-set}
+use Rattle.std.proofs.lemmas.List.{get_or-set_other, get_or-set_same, length-set}
 use Rattle.sm_ownership.specs.declared.entry.Ending.TheVariants.{Nothing}
 use Rattle.sm_ownership.specs.declared.entry.Entry.{Entry}
 use Rattle.sm_ownership.specs.declared.entry.Kind.TheVariants.{Done}
@@ -12,8 +11,7 @@ use Rattle.sm_ownership.specs.declared.record.Record.{Record}
 use Rattle.sm_ownership.specs.declared.mode.Mode.{Mode}
 use Rattle.sm_rule.specs.Admissions.{PassAdmitted, held_admission}
 use Rattle.sm_rule.specs.Boards.{BoardValue}
-use Rattle.sm_ownership.specs.History.{NoneBy}
-use Rattle.sm_rule.specs.Passes.{PassAdds, PassLooks, PassValue}
+use Rattle.sm_rule.specs.Passes.{PassAdds, PassValue}
 use Rattle.sm_rule.specs.Views.{Begins, record_in}
 use Rattle.sm_rule.specs.lemmas.Passing.{begins_begins}
 use Rattle.sm_cluster.specs.Holding.{AreEndedIn, AreHoldsOn, HasEnded, HasEndedIn, HoldsShard, hold_at}
@@ -153,13 +151,3 @@ ends_here pass ended shard here done =
     let first : ℕ × Record = (done.0, done.1.0) in
     let second : ℕ × Record = (shard, here.0) in
     subst (λ (n : ℕ). PassAdds pass n (Done Nothing) ended) (same_first first second (sym done.1.1 ∙ here.1)) done.2
-
--- a new pass has no entry after a look
-pub looks_new : {Q : Type 0} (before after : PassValue Q) → PassLooks before after → NoneBy before.number before.seen
-    → NoneBy after.number after.seen
-looks_new {Q} before after looks none =
-    let all : NoneBy before.number (before.seen ++ looks.0.0) =
-    All-append (λ (entry : Entry Q). entry.actor ≢ before.number) before.seen looks.0.0 none looks.0.2 in
-    let seen : NoneBy before.number after.seen =
-    subst (NoneBy before.number) (sym (looks.0.1 ∙ append-nil (before.seen ++ looks.0.0))) all in
-    subst (λ (number : ℕ). NoneBy number after.seen) (sym (ap (λ (pass : PassValue Q). pass.number) looks.1)) seen

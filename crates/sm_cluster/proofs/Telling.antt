@@ -1,10 +1,6 @@
 -- What a cluster tells, and its teller.
-use Rattle.std.proofs.Common.{◌≡◌, ℕ, List, ap, subst, ◌∙◌}
-use Rattle.sm_ownership.specs.declared.route_fault.RouteFault.{RouteFault}
-use Rattle.sm_control.specs.Controls.{ControlValue}
-use Rattle.sm_control.specs.Routes.{Routed}
+use Rattle.std.proofs.Common.{◌≡◌, List, ap, subst, ◌∙◌}
 use Rattle.sm_ownership.specs.declared.entry.Entry.{Entry}
-use Rattle.std.specs.Prelude.{Option, Some, None, Err}
 use Rattle.sm_rule.specs.Boards.{BoardValue}
 use Rattle.sm_rule.specs.Passes.{PassLooks, PassValue}
 use Rattle.sm_rule.specs.Views.{Begins, IsMet}
@@ -41,9 +37,3 @@ tells_more {Q} inside before told is begins = (
   subst (λ (cluster : ClusterValue Q). Begins cluster.told told) is begins,
   ap (λ (cluster : ClusterValue Q). cluster_telling cluster told) is,
 )
-
--- a control whose route was refused is as it was
-pub unrouted : {Q : Type 0} (fault : Option RouteFault) (before after : ControlValue Q) (shard : ℕ)
-    (refused : RouteFault) → Routed fault before after shard (Err refused) → after ≡ before
-unrouted (Some fault) before after shard refused routed = routed.1
-unrouted None before after shard refused routed = absurd routed

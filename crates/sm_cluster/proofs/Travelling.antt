@@ -1,9 +1,8 @@
 -- Envelopes of a call on their way.
 use Rattle.std.proofs.Common.{◌≡◌, ℕ, List, [], refl, sym, ap, ◌∙◌, subst}
-use Rattle.std.specs.Prelude.{Some}
 use Rattle.std.proofs.lemmas.List.{append-nil}
 use Rattle.sm_body.specs.Service.{Meaning}
-use Rattle.sm_envelope.specs.Envelope.{ShellView, shell_of, whole}
+use Rattle.sm_envelope.specs.Envelope.{ShellView}
 use Rattle.sm_ownership.specs.declared.entry.Entry.{Entry}
 use Rattle.sm_rule.specs.Boards.{BoardValue}
 use Rattle.sm_rule.specs.Passes.{PassValue}
@@ -15,11 +14,10 @@ use Rattle.sm_server.specs.declared.outcome.Outcome.TheVariants.{Answered, Forwa
 use Rattle.sm_server.specs.Answers.{AnswerValue, IsAnswer}
 use Rattle.sm_server.specs.declared.refusal.Refusal.{Refusal}
 use Rattle.sm_server.specs.Serving.{IsAnswered, IsHandedBack, Sent, Served, is_here}
-use Rattle.sm_cluster.specs.declared.call_refused.CallFault.{CallFault}
 use Rattle.sm_cluster.specs.declared.call_refused.CallFault.TheVariants as call
 use Rattle.sm_cluster.specs.declared.reply.CallReply.TheVariants as reply
 use Rattle.sm_cluster.specs.Passes.{IsNewPass}
-use Rattle.sm_cluster.specs.Replies.{CallValue, ComesBackFor, Fits, IsAnswerTo, IsOfTheWay, IsOnTheWay, IsRefusalTo}
+use Rattle.sm_cluster.specs.Replies.{CallValue, IsAnswerTo, IsOnTheWay, IsRefusalTo}
 use Rattle.sm_cluster.specs.Telling.{IsNotedAgain, IsToldOf}
 
 pub begins_same : {Q : Type 0} (history : List (Entry Q)) → Begins history history
@@ -70,17 +68,6 @@ way_noted sent envelope again way noted = record {
   request = noted.request ∙ way.request;
   board = noted.board ∙ way.board;
   told = begins_begins sent.note.seen envelope.note.seen again.note.seen way.told noted.told;
-}
-
--- an envelope that is put together of its parts and another note
-pub noted_again : {Q : Type 0} (envelope again : Sent Q) (shell : ShellView) (request : Q) (note : PassValue Q)
-    → again ≡ whole shell request note → shell ≡ shell_of envelope → request ≡ envelope.request
-    → note.board ≡ envelope.note.board → Begins envelope.note.seen note.seen → IsNotedAgain envelope again
-noted_again {Q} envelope again shell request note is shell_is request_is board_is told = record {
-  shell = ap (λ (one : Sent Q). shell_of one) is ∙ shell_is;
-  request = ap (λ (one : Sent Q). one.request) is ∙ request_is;
-  board = ap (λ (one : Sent Q). one.note.board) is ∙ board_is;
-  told = subst (λ (one : Sent Q). Begins envelope.note.seen one.note.seen) (sym is) told;
 }
 
 -- what a new pass was told, it was told by less
@@ -148,17 +135,3 @@ module _ {Q R : Type 0} (service : Meaning Q R) (stepped asked : CallValue Q) (b
   told (Answered answer) served = answered answer served
   told (Forward to back) served = forwards to back served
   told (Refused refusal back) served = refuses refusal back served
-
--- what holds a message up on its way sends its envelope back
-pub comes_back : {Q R : Type 0} (service : Meaning Q R) (asked : CallValue Q) (fault : CallFault) (back : Sent Q)
-    → IsOfTheWay fault → ComesBackFor service asked fault back
-comes_back service asked call.NoRoute back never = never
-comes_back service asked call.Unreachable back way = way
-comes_back service asked (call.Refused refusal) back never = absurd never
-comes_back service asked call.NoMemory back way = way
-comes_back service asked call.Closed back never = never
-
--- what holds a message up on its way is a reply that fits its call
-pub held_up : {Q R : Type 0} (service : Meaning Q R) (asked : CallValue Q) (fault : CallFault) (envelope : Sent Q)
-    → IsOnTheWay asked.sent envelope → IsOfTheWay fault → Fits service (Some asked) (reply.Refused fault envelope)
-held_up service asked fault envelope on way = (on, comes_back service asked fault envelope way)

@@ -1,4 +1,4 @@
-ghost use Rattle.std.specs.Prelude.{◌≡◌, ◌<◌, IfOk, IfSome, None, Some, length, replicate, slice_set};
+ghost use Rattle.std.specs.Prelude.{◌≡◌, ◌<◌, IfOk, IfSome, None, Some, replicate, slice_set};
 ghost use Rattle.sm_rule.specs.Views.{Begins};
 ghost use Rattle.sm_cluster.specs.Holding.{AreEndedIn, AreHoldsOn, HasEndedIn, HoldsShard, hold_at};
 

@@ -1,8 +1,7 @@
 //! The requests of calls on their way.
-ghost use Rattle.std.specs.Prelude.{◌≡◌, None, Some};
+ghost use Rattle.std.specs.Prelude.{◌≡◌, Some};
 ghost use Rattle.std.specs.Arc.{arc_value};
 ghost use Rattle.sm_body.specs.Service.{meaning_of};
-ghost use Rattle.sm_rule.specs.Views.{Begins};
 ghost use Rattle.sm_cluster.specs.Replies.{CallValue, IsOnTheWay};
 ghost use Rattle.sm_cluster.specs.Passes.{IsNewPass};
 ghost use Rattle.sm_cluster.specs.Telling.{IsNotedAgain, Tells};
@@ -17,7 +16,6 @@ use sm_envelope::envelope::Envelope;
 use sm_inbox::SendFault;
 use sm_ranges::server_id::ServerId;
 use sm_rule::admit_refusal::AdmitRefusal;
-use sm_rule::board::Board;
 use sm_rule::note::Note;
 use sm_rule::pass::Pass;
 use sm_server::{Answer, Outcome, Refusal, serve};

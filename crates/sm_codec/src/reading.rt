@@ -1,4 +1,4 @@
-ghost use Rattle.std.specs.Prelude.{◌≡◌, ◌<◌, ◌^◌, ℕ, List, length, IfOk, Ok, Err};
+ghost use Rattle.std.specs.Prelude.{◌≡◌, ◌<◌, ◌^◌, ℕ, IfOk, Ok, Err};
 ghost use Rattle.sm_codec.specs.declared.fault.Fault.{Fault as FaultValue};
 ghost use Rattle.sm_codec.specs.declared.fault.Fault.TheVariants.{Word};
 ghost use Rattle.sm_codec.specs.declared.store_settings.StoreSettings.{StoreSettings as SettingsValue};

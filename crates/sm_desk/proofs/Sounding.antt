@@ -1,14 +1,13 @@
 -- Books stay sound where a state is set, and where a stand is set that leaves room; and the state of a server without a
 -- row.
-use Rattle.std.proofs.Common.{◌≡◌, ◌≢◌, ℕ, ◌<◌, ◌≤◌, length, refl, sym, ap, subst, ◌∙◌, arith, ⊎_elim}
+use Rattle.std.proofs.Common.{◌≡◌, ◌≢◌, ℕ, ◌<◌, length, sym, ap, subst, ◌∙◌, ⊎_elim}
 use Rattle.std.proofs.lemmas.Bool.{cases_eq}
-use Rattle.std.proofs.lemmas.List.{get_or_past, length-set}
+use Rattle.std.proofs.lemmas.List.{length-set}
 use Rattle.sm_ranges.specs.declared.stand.Stand.{Stand}
 use Rattle.sm_ranges.specs.Stand.{AllNamed}
 use Rattle.sm_place.specs.declared.server_state.ServerState.{ServerState}
-use Rattle.sm_place.specs.declared.server_state.ServerState.TheVariants.{Up}
 use Rattle.sm_place.specs.declared.shard.Shard.{Shard}
-use Rattle.sm_place.specs.Books.{BooksView, IsKnown, place_of, shard_at, state_of, with_stand, with_state}
+use Rattle.sm_place.specs.Books.{BooksView, IsKnown, place_of, shard_at, with_stand, with_state}
 use Rattle.sm_place.specs.Room.{HasRoom}
 use Rattle.sm_place.specs.Sound.{AreSound}
 use Rattle.sm_place.specs.lemmas.Changed.{length-with_stand, shard_at-other, shard_at-same}
@@ -58,8 +57,3 @@ sound_stand books k stand sound within known room = record {
         ∙ ap (λ i. (shard_at books.shards i).row.group) (sym same))
         (λ (apart : j ≢ k). ap (λ (one : Shard). one.row.group) (shard_at-other books.shards k j stand apart))
         (cases_eq j k)
-
--- a server without a row is up
-pub state_of-unknown : (books : BooksView) (a : ℕ) → length books.states ≡ length books.servers
-    → length books.servers ≤ place_of books.servers a → state_of books a ≡ Up
-state_of-unknown books a len past = get_or_past books.states (place_of books.servers a) Up (omega arith)

@@ -1,7 +1,7 @@
 -- The desk: what the control knows when it checks a command. Rules of stands, of room and of approvals are those of the
 -- crates below; here stand their order, and what a command leaves.
 use Rattle.std.specs.Prelude.{ℕ, Bool, true, false, Option, Some, None, nat_lt, not, if◌then◌else◌, unwrap_or, List}
-use Rattle.std.specs.Prelude.{Result, length, map, ◌||◌}
+use Rattle.std.specs.Prelude.{Result, length, map}
 use Rattle.std.specs.Option.{option_map, option_or}
 use Rattle.std.specs.Result.{result_err}
 use Rattle.sm_ranges.specs.declared.stand.Stand.{Stand}

@@ -1,7 +1,7 @@
 //! The codes by which calls answer C.
 ghost use Rattle.std.specs.Prelude.{◌≡◌, ◌≢◌, ◌<◌, ◌≤◌};
 ghost use Rattle.sm_director.specs.Calls.{IsRefusal};
-ghost use Rattle.sm_director.specs.Kinds.{change_code, command_code, line_code, place_code, restart_code};
+ghost use Rattle.sm_director.specs.Kinds.{change_code, command_code, line_code, restart_code};
 
 use crate::director_fault::DirectorFault;
 use sm_desk::CommandFault;

@@ -4,7 +4,7 @@
 //! thread to thread, and is used by one call at a time.
 #![tactic(auto)]
 
-ghost use Rattle.std.specs.Prelude.{◌≡◌, ◌≢◌, ◌<◌, ◌≤◌, None, Some, IfSome, length, slice_get, unwrap_or};
+ghost use Rattle.std.specs.Prelude.{◌≡◌, ◌≢◌, ◌<◌, ◌≤◌, None, Some, length, unwrap_or};
 ghost use Rattle.sm_codec.specs.Spelling.{state_number};
 ghost use Rattle.sm_lead.specs.Commands.{read_at};
 ghost use Rattle.sm_lead.specs.NextSteps.{fallen, server_step, shard_step};

@@ -1,5 +1,5 @@
 //! The codes by which calls answer C.
-ghost use Rattle.std.specs.Prelude.{◌≡◌, ◌≢◌, ◌<◌, ◌≤◌, false, true};
+ghost use Rattle.std.specs.Prelude.{◌≡◌, ◌≢◌, ◌<◌, false, true};
 ghost use Rattle.sm_driver.specs.Calls.{TellsDecision, is_decided};
 
 use crate::driver_fault::DriverFault;

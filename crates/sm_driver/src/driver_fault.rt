@@ -1,4 +1,4 @@
-use sm_codec::{Fault, ReadError};
+use sm_codec::Fault;
 use sm_shard::ReplayFault;
 use std::alloc::{AllocError, AllocFailed};
 

@@ -1,7 +1,6 @@
 //! What a server sends, as bytes.
-ghost use Rattle.std.specs.Prelude.{◌≡◌, ◌<◌, ◌^◌, IfOk, IfSome, IsTrue, Option, None, map};
+ghost use Rattle.std.specs.Prelude.{◌≡◌, ◌<◌, ◌^◌, IfOk, IsTrue, Option, None, map};
 ghost use Rattle.sm_codec.specs.Spelling.{FitsBatch, FitsItem, FitsMode, item_view, item_views};
-ghost use Rattle.sm_shard.specs.declared.base_work.NamedBase.{NamedBase as NamedValue};
 ghost use Rattle.sm_texts.specs.Texts.{parts_in};
 ghost use Rattle.sm_driver.specs.Servers.{AreTexts, IsSpelled, batch_written, head_written, number_written, text_for};
 ghost use Rattle.sm_driver.specs.Servers.{texts_for};

@@ -1,9 +1,9 @@
 ghost use Rattle.std.specs.Prelude.{◌≡◌, IfOk, IfSome, OnOk};
 ghost use Rattle.sm_shard.specs.declared.steps.ShardInput.TheVariants.{Base as BaseInput, Clear as ClearInput};
 ghost use Rattle.sm_shard.specs.declared.steps.ShardInput.TheVariants.{Flush as FlushInput, Lost as LostInput};
-ghost use Rattle.sm_shard.specs.declared.steps.ShardInput.TheVariants.{Made as MadeInput, PartsMade as PartsInput};
+ghost use Rattle.sm_shard.specs.declared.steps.ShardInput.TheVariants.{PartsMade as PartsInput};
 ghost use Rattle.sm_shard.specs.declared.steps.ShardOutput.TheVariants.{Decided};
-ghost use Rattle.sm_driver.specs.Servers.{AddsBatch, AddsPart, AreTexts, DoneOn, IsAny, IsComing, IsNewServer};
+ghost use Rattle.sm_driver.specs.Servers.{AddsBatch, AddsPart, DoneOn, IsAny, IsComing, IsNewServer};
 ghost use Rattle.sm_driver.specs.Servers.{IsPartOf, IsReading, IsRecordReading, SpellsSending, TellsAnswers};
 ghost use Rattle.sm_driver.specs.Servers.{is_basing, is_clearing, is_sending};
 

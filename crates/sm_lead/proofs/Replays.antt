@@ -1,12 +1,9 @@
 -- What stays of a desk's rows.
-use Rattle.std.proofs.Common.{◌≡◌, ap, refl, ◌∙◌}
+use Rattle.std.proofs.Common.{◌≡◌, ap, ◌∙◌}
 use Rattle.sm_desk.specs.declared.command.Command.{Command}
 use Rattle.sm_desk.specs.Desk.{DeskView, commanded}
 use Rattle.sm_lead.specs.Placements.{HasRowsOf, rows_of}
 use Rattle.sm_lead.proofs.Agreement.{rows_commanded}
-
-pub same_rows : (desk : DeskView) → HasRowsOf desk desk
-same_rows desk = record { rows = refl; caps = refl }
 
 pub rows_after : (old mid new : DeskView) → HasRowsOf old mid → HasRowsOf mid new → HasRowsOf old new
 rows_after old mid new first second =

@@ -1,8 +1,6 @@
 //! A control is made of what was read: the desk makes the commands that lead to it.
 
-ghost use Rattle.std.specs.Prelude.{◌≡◌, IfOk, IsTrue};
-ghost use Rattle.sm_desk.specs.declared.command.Command.TheVariants.{Change as ChangeOf};
-ghost use Rattle.sm_desk.specs.Desk.{commanded};
+ghost use Rattle.std.specs.Prelude.{IfOk, IsTrue};
 ghost use Rattle.sm_lead.specs.Controls.{AreStandsRead, AreStatesRead, IsLoaded};
 ghost use Rattle.sm_lead.specs.Placements.{HasRowsOf};
 

@@ -1,6 +1,5 @@
 ghost use Rattle.std.specs.Prelude.{◌≡◌, ℕ, None, IfSome};
-ghost use Rattle.sm_desk.specs.Desk.{commanded, desk_fault};
-ghost use Rattle.sm_lead.specs.Commands.{IsAfter, command_fault, reads_after, write_of};
+ghost use Rattle.sm_lead.specs.Commands.{IsAfter, command_fault, reads_after};
 
 use crate::command_sending::CommandSending;
 use crate::command_write::CommandWrite;

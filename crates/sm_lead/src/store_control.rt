@@ -1,10 +1,6 @@
-ghost use Rattle.std.specs.Prelude.{◌≡◌, None, Some, IfOk, IfSome};
-ghost use Rattle.std.specs.Option.{option_map};
+ghost use Rattle.std.specs.Prelude.{◌≡◌, IfOk};
 ghost use Rattle.std.specs.Result.{result_err};
-ghost use Rattle.sm_place.specs.Books.{state_of};
-ghost use Rattle.sm_place.specs.ServerState.{is_failed, is_leaving};
 ghost use Rattle.sm_desk.specs.declared.command.Command.TheVariants.{Change as ChangeOf};
-ghost use Rattle.sm_desk.specs.Desk.{desk_fault};
 ghost use Rattle.sm_lead.specs.Commands.{command_fault, record_refusal, write_of};
 ghost use Rattle.sm_lead.specs.Sendings.{IsJudged};
 

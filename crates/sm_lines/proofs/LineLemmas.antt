@@ -3,17 +3,17 @@ use Rattle.std.proofs.Common.{Contains, Bool, true, false, ◌⊎◌, ◌≡◌,
 use Rattle.std.proofs.Common.{subst, sym, ◌∙◌, arith, length, ◌+◌, ◌*◌, ◌<◌, ◌≤◌, take, drop, slice_index, drop-cons}
 use Rattle.std.proofs.Common.{append_assoc, append-nil, length-append}
 use Rattle.std.proofs.lemmas.Grind.{common_steps}
-use Rattle.std.proofs.lemmas.List.{take-append-drop, take_all, drop_all}
+use Rattle.std.proofs.lemmas.List.{take-append-drop, take_all}
 use Rattle.std.proofs.lemmas.List.Elements.{All-contains, All-nil, All-cons, All-head, All-tail, All-append}
 use Rattle.std.proofs.lemmas.Bool.{false≢true}
 use Rattle.std.proofs.KnownBytes.{Consumes-nil}
 use Rattle.std.specs.Io.KnownBytes.{Consumes, IsAtEnd}
-use Rattle.sm_lines.specs.Lines.{lines_of, onto_first, with_feeds, IsPlain}
+use Rattle.sm_lines.specs.Lines.{lines_of, onto_first, IsPlain}
 use Rattle.sm_lines.specs.Reading.{Reading, Reads, TookLines, TookNext, TookPart, IsOrderly, IsUncalled, call_of}
 use Rattle.sm_lines.specs.declared.TheConstants.{PIECE}
 use Rattle.sm_lines.specs.declared.line_reader.Next.{Next}
 use Rattle.sm_lines.specs.declared.line_reader.Next.TheVariants.{Line, LongLine, End}
-use Rattle.sm_lines.specs.lemmas.Taking.{lines_of-plain, lines_of-line, reads_more, reads_none}
+use Rattle.sm_lines.specs.lemmas.Taking.{lines_of-plain, lines_of-line, reads_more}
 
 -- the line in front as far as it was taken off: what there is of it, and what is kept of that
 pub record SoFar (was now : Reading) (is_long : Bool) (limit : ℕ) : Type 0 where

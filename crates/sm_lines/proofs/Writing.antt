@@ -1,10 +1,10 @@
 -- Lemmas on bytes that are written piece by piece.
-use Rattle.std.proofs.Common.{Bool, true, Option, None, Some, ◌≡◌, ℕ, List, [], ◌++◌, ap, sym, ◌∙◌, append-nil}
-use Rattle.std.proofs.Common.{append_assoc, refl, subst, take, drop, ◌+◌, ◌-◌, min, length, arith}
+use Rattle.std.proofs.Common.{true, Option, None, Some, ◌≡◌, ℕ, List, [], ◌++◌, ap, sym, ◌∙◌, append-nil}
+use Rattle.std.proofs.Common.{append_assoc, subst, take, drop, ◌+◌, ◌-◌, min, length, arith}
 use Rattle.std.proofs.Math.Seq.{take-add, take-append-add}
 use Rattle.std.proofs.lemmas.List.{take-append-le, take_all, take_min}
 use Rattle.std.proofs.lemmas.Grind.{common_steps}
-use Rattle.std.proofs.KnownBytes.{Appends-trans, Appends-nil}
+use Rattle.std.proofs.KnownBytes.{Appends-trans}
 use Rattle.std.specs.Io.KnownBytes.{Appends, Keeps}
 use Rattle.sm_lines.specs.Writing.{Writing, Sends, Wrote, WroteFront, WroteShort}
 

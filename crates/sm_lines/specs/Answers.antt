@@ -1,7 +1,7 @@
 -- What is written in answer to lines.
-use Rattle.std.specs.Prelude.{◌≡◌, ◌≢◌, ◌⊎◌, true, ℕ, ◌*◌, ◌≤◌, ◌<◌, List, [], ◌∷◌, ◌++◌, length, take, Result, Err}
+use Rattle.std.specs.Prelude.{◌≡◌, ◌⊎◌, true, ℕ, ◌≤◌, ◌<◌, List, [], ◌∷◌, ◌++◌, length, take, Result, Err}
 use Rattle.std.specs.Prelude.{OnOk}
-use Rattle.sm_lines.specs.Reading.{Reading, ReaderStopped, Reads, TookLines, TookPart}
+use Rattle.sm_lines.specs.Reading.{Reading, ReaderStopped, TookLines, TookPart}
 use Rattle.sm_lines.specs.Transcripts.{Transcript}
 use Rattle.sm_lines.specs.Writing.{Writing, Wrote, WroteShort}
 use Rattle.sm_lines.specs.declared.answer_fault.AnswerFault.{AnswerFault}

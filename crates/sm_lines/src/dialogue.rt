@@ -1,4 +1,4 @@
-ghost use Rattle.std.specs.Prelude.{◌≡◌, ◌≢◌, ◌*◌, ◌≤◌, ◌⊎◌, [], true, false, IfOk, OnOk, OnErr, Contains, length};
+ghost use Rattle.std.specs.Prelude.{◌≡◌, ◌≢◌, ◌*◌, ◌≤◌, [], true, false, IfOk, OnOk, OnErr, Contains, length};
 ghost use Rattle.std.specs.Io.KnownBytes.{IsAtEnd};
 ghost use Rattle.sm_lines.specs.Reading.{IsUncalled, ReaderStopped, TookNext, TookPart};
 ghost use Rattle.sm_lines.specs.Writing.{Sends, WroteShort, Wrote};

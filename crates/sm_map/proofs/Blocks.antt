@@ -236,22 +236,6 @@ has_within lengths place has = omega (
   has.1,
 )
 
--- where an entry stands, or the end, before as many as there are
-pub stop_within : (lengths : List ℕ) (place : Place) → IsStop lengths place → number_of lengths place ≤ sum lengths
-stop_within lengths place (inl has) = omega (
-  arith,
-  sum_by_more (λ (n : ℕ). n) lengths place.block 0 has.0,
-  sum_by-take-le (λ (n : ℕ). n) lengths (place.block + 1),
-  has.1,
-)
-stop_within lengths place (inr end) = omega (arith, sum_by-take-le (λ (n : ℕ). n) lengths place.block, end.1)
-
-pub stop_inside : (lengths : List ℕ) (place : Place) → IsStop lengths place → number_of lengths place < sum lengths
-    → HasEntry lengths place
-stop_inside lengths place (inl has) less = has
-stop_inside lengths place (inr end) less =
-    absurd (omega (arith, ap sum (take_all place.block lengths (omega (arith, end.0))), end.1))
-
 pub entry_read : (blocks : List BlockValue) (place : Place) (block : BlockValue) → HasEntry (lengths_in blocks) place
     → block ≡ get_or blocks place.block block → (e d : KeyEntry) → e ≡ get_or block.entries place.offset d
     → e ≡ get_or (entries_in blocks) (number_of (lengths_in blocks) place) d

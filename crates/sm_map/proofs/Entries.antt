@@ -70,16 +70,6 @@ pairs-remove placed es at = simp (map-append, take-map, drop-map)
 pub length-pairs : (placed : Places) (es : List KeyEntry) → length (pairs_of placed es) ≡ length es
 length-pairs placed es = length-map es (pair_of placed)
 
--- a place of a pair is one of an entry
-pub in_entries : (v : ArenaValue) (es : List KeyEntry) (ls : List ℕ) (seen : MapValue) → map_of v es ls ≡ seen
-    → (at : ℕ) → at < length seen.pairs → at < length es
-in_entries v es ls seen is at lt = omega (arith, length-pairs v.placed es, ap (λ (map : MapValue). length map.pairs) is)
-
--- and the other way round
-pub in_seen : (v : ArenaValue) (es : List KeyEntry) (ls : List ℕ) (seen : MapValue) → map_of v es ls ≡ seen → (at : ℕ)
-    → at < length es → at < length seen.pairs
-in_seen v es ls seen is at lt = omega (arith, length-pairs v.placed es, ap (λ (map : MapValue). length map.pairs) is)
-
 pub seen_in_order : (v : ArenaValue) (es : List KeyEntry) (ls : List ℕ) (seen : MapValue) → map_of v es ls ≡ seen
     → IsMap v es → IsKeyMap seen.pairs
 seen_in_order v es ls seen is m = rw (← is) m.rising

@@ -1,26 +1,24 @@
 -- Calls that may make no step, and the answers to all others.
-use Rattle.std.proofs.Common.{◌≡◌, ◌<◌, ℕ, Bool, true, false, List, Option, Some, None, is_some, length, refl, ap}
+use Rattle.std.proofs.Common.{◌≡◌, ◌<◌, ℕ, true, List, Option, Some, None, is_some, length, refl, ap}
 use Rattle.std.proofs.Common.{slice_index_or, subst, sym, ◌∙◌, arith, IfOk, Ok, Err, Result}
 use Rattle.std.proofs.lemmas.List.FromFn.{get_or-map-range_with_len}
 use Rattle.std.specs.Option.{option_or}
 use Rattle.std.specs.declared.alloc.AllocError.{AllocError}
-use Rattle.sm_desk.specs.Desk.{DeskView, is_known}
 use Rattle.sm_ownership.specs.declared.route.Route.{Route}
 use Rattle.sm_ownership.specs.Routes.{routes_of}
 use Rattle.sm_ranges.specs.Ranges.{shard_of}
-use Rattle.sm_place.specs.Plans.{PlanView, assign_plan, drain_plan}
 use Rattle.sm_script.specs.declared.line_answer.LineAnswer.{LineAnswer}
-use Rattle.sm_script.specs.declared.line_answer.LineAnswer.TheVariants.{Planned, Refused as IsRefused}
+use Rattle.sm_script.specs.declared.line_answer.LineAnswer.TheVariants.{Refused as IsRefused}
 use Rattle.sm_script.specs.declared.call.Call.{Call}
 use Rattle.sm_script.specs.declared.call.Call.TheVariants as call
 use Rattle.sm_script.specs.declared.refused.Refused.TheVariants as refused
 use Rattle.sm_service.specs.declared.request.Request.{Request}
 use Rattle.sm_service.specs.Service.{key_of_request}
 use Rattle.sm_table.specs.Standing.{StandsFor, WorldView}
-use Rattle.sm_table.specs.World.{WorldState, count_of, is_there}
+use Rattle.sm_table.specs.World.{WorldState, count_of}
 use Rattle.sm_model.specs.Calls.{answer_of, answer_without_steps, answered, called, ends_in_step}
 use Rattle.sm_model.specs.Calls.{route_for, shard_for}
-use Rattle.sm_model.proofs.Ways.{drained, requested_by, unless_route}
+use Rattle.sm_model.proofs.Ways.{requested_by, unless_route}
 use Rattle.sm_model.specs.Sessions.{GivesAnswer, IsAt}
 
 -- a call that ends in a step has the answer to that
@@ -48,34 +46,6 @@ some_or (Some x) second some = refl
 pub answered-some : (w : WorldState Request) (asked : Call) → is_some (answer_of (called w asked).0) ≡ true
     → is_some (answered w asked) ≡ true
 answered-some w asked some = some_or (answer_without_steps w asked) (answer_of (called w asked).0) some
-
--- a plan by the books of a session
-pub gives_plan : (view : WorldView Request) (plan : PlanView) → plan ≡ assign_plan view.desk.books
-    → GivesAnswer view call.Place (Planned plan) view
-gives_plan view plan is = λ w at.
-    (ap (λ one. Some (Planned one)) (sym (is ∙ ap (λ (desk : DeskView). assign_plan desk.books) at.world.desk)), at)
-
-known_there : (view : WorldView Request) (w : WorldState Request) (server : ℕ) (known : Bool) → IsAt view w
-    → known ≡ is_known view.desk.books.servers server → is_there w server ≡ known
-known_there view w server known at is =
-    ap (λ (desk : DeskView). is_known desk.books.servers server) (sym at.world.desk) ∙ sym is
-
-pub gives_drain : (view : WorldView Request) (server : ℕ) (plan : PlanView)
-    → true ≡ is_known view.desk.books.servers server → plan ≡ drain_plan view.desk.books server
-    → GivesAnswer view (call.Drain server) (Planned plan) view
-gives_drain view server plan knows is = λ w at.
-    let there : is_there w server ≡ true = known_there view w server true at knows in
-    let planned : drained w server ≡ Planned plan = rw there
-    (ap (λ one. Planned one) (sym (is ∙ ap (λ (desk : DeskView). drain_plan desk.books server) at.world.desk))) in
-    (ap (λ one. Some one) planned, at)
-
--- the server doesn't exist
-pub gives_unknown : (view : WorldView Request) (server : ℕ) → false ≡ is_known view.desk.books.servers server
-    → GivesAnswer view (call.Drain server) (IsRefused refused.UnknownServer) view
-gives_unknown view server knows = λ w at.
-    let there : is_there w server ≡ false = known_there view w server false at knows in
-    let unknown : drained w server ≡ IsRefused refused.UnknownServer = rw there refl in
-    (ap (λ one. Some one) unknown, at)
 
 -- ---- the published route of a request's shard
 

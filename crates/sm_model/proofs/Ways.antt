@@ -6,9 +6,8 @@ use Rattle.sm_envelope.specs.declared.refusal.Refusal.TheVariants as refusal
 use Rattle.sm_model.specs.Calls.{Stepped, after_hops, is_begun, is_sent, requested_at, stepped}
 use Rattle.sm_ownership.specs.declared.admit_fault.AdmitFault.TheVariants as admit
 use Rattle.sm_ownership.specs.declared.route.Route.{Route}
-use Rattle.sm_place.specs.Plans.{drain_plan}
 use Rattle.sm_script.specs.declared.line_answer.LineAnswer.{LineAnswer}
-use Rattle.sm_script.specs.declared.line_answer.LineAnswer.TheVariants.{Refused as IsRefused, Planned}
+use Rattle.sm_script.specs.declared.line_answer.LineAnswer.TheVariants.{Refused as IsRefused}
 use Rattle.sm_script.specs.declared.refused.Refused.TheVariants as refused
 use Rattle.sm_service.specs.declared.reply.Reply.{Reply}
 use Rattle.sm_service.specs.declared.request.Request.{Request}
@@ -16,7 +15,7 @@ use Rattle.sm_table.specs.declared.step.Step.TheVariants.{Finish}
 use Rattle.sm_table.specs.declared.world_answer.WorldAnswer.{WorldAnswer}
 use Rattle.sm_table.specs.declared.world_answer.WorldAnswer.TheVariants.{Made, Refused}
 use Rattle.sm_table.specs.declared.world_fault.WorldFault.{WorldFault}
-use Rattle.sm_table.specs.World.{WorldState, is_there}
+use Rattle.sm_table.specs.World.{WorldState}
 
 -- a request that a server began is finished
 abbrev pub after_arrival : ℕ → Result (WorldAnswer Reply) WorldFault → WorldState Request → Stepped
@@ -40,8 +39,3 @@ requested_by w request shard route =
 -- a client's request is refused where there is no route
 abbrev pub unless_route : Option Route → Option LineAnswer
 unless_route route = option_map_or (λ (one : Route). None) route (Some (IsRefused refused.NoRoute))
-
--- the plan for the server's shards, where the server exists
-abbrev pub drained : WorldState Request → ℕ → LineAnswer
-drained w server =
-    if is_there w server then Planned (drain_plan w.desk.books server) else IsRefused refused.UnknownServer

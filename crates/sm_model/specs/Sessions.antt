@@ -1,5 +1,5 @@
 -- When a world's backend stands at a world of the definitions, and what it answers there.
-use Rattle.std.specs.Prelude.{◌≡◌, ℕ, List, [], Some, Result, true, is_some}
+use Rattle.std.specs.Prelude.{◌≡◌, [], Some, Result, true, is_some}
 use Rattle.sm_envelope.specs.declared.envelope.TheConstants.{MOST_HOPS}
 use Rattle.sm_model.specs.Calls.{Stepped, after_hops, answer_of, answered, called, settings_frame, stepped}
 use Rattle.sm_script.specs.declared.line_answer.LineAnswer.{LineAnswer}

@@ -7,11 +7,11 @@ use Rattle.sm_rows.specs.declared.server_row.ServerRow.{ServerRow}
 use Rattle.sm_rows.specs.declared.group_row.GroupRow.{GroupRow}
 use Rattle.sm_place.specs.declared.shard.Shard.{Shard}
 use Rattle.sm_place.specs.declared.server_state.ServerState.{ServerState}
-use Rattle.sm_place.specs.Counters.{HasRanges, HasRows, HasLoads, HasCounts, IsTallied}
+use Rattle.sm_place.specs.Counters.{HasRows, HasLoads, HasCounts, IsTallied}
 use Rattle.sm_place.specs.Ranks.{Ranking}
 use Rattle.sm_ranges.specs.Stand.{AllNamed}
 use Rattle.sm_place.specs.Books.{moved, IsKnown, shard_at, with_stand}
-use Rattle.sm_place.specs.Room.{HasRoom, count_in}
+use Rattle.sm_place.specs.Room.{HasRoom}
 use Rattle.sm_place.specs.lemmas.Changed.{length-with_stand, shard_at-other, shard_at-same}
 
 -- a vector whose slice was written has what was written
@@ -61,13 +61,3 @@ IsTallied-with_stand servers groups shards states loads counts loads' counts' r 
       counts_len = e ∙ tallied.counts_len;
       has_counts = has_counts;
     }
-
--- the counts of a group within its limit fit their type
-pub count_fits : (servers : List ServerRow) (groups : List GroupRow) (shards shards' : List Shard)
-    (states : List ServerState) (r : Ranking) (k : ℕ)
-    → k < length shards → HasRanges servers groups states r → HasRows servers groups shards
-    → HasRoom servers groups shards'
-    → (d : ℕ) → count_in servers shards' (shard_at shards k).row.group d < 65536
-count_fits servers groups shards shards' states r k inside ranges rows room d =
-    let h = rows.group k inside in
-    omega (arith, room.limit (shard_at shards k).row.group d h, ranges.limits (shard_at shards k).row.group h)

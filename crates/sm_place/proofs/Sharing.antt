@@ -1,5 +1,5 @@
 -- What a stand adds at the places of its servers.
-use Rattle.std.proofs.Common.{ℕ, ◌+◌, ◌<◌, ◌≤◌, ◌≡◌, zero, suc, Bool, true, false, cond, eqb, List, [], ◌∷◌}
+use Rattle.std.proofs.Common.{ℕ, ◌+◌, ◌<◌, ◌≡◌, zero, suc, Bool, true, false, cond, eqb, List, [], ◌∷◌}
 use Rattle.std.proofs.Common.{length, get_or, Option, Some, None, sym, refl, ap, ◌∙◌, inl, inr, arith, ◌||◌}
 use Rattle.std.specs.Prelude.{IfSome, option_map, remove, slice_index}
 use Rattle.std.proofs.lemmas.Bool.{eq-eqb, or_right}
@@ -10,7 +10,7 @@ use Rattle.sm_ranges.specs.Stand.{AllNamed, passes, names, owner_of, other_of}
 use Rattle.sm_rows.specs.declared.server_row.ServerRow.{ServerRow}
 use Rattle.sm_place.specs.declared.shard.Shard.{Shard}
 use Rattle.sm_place.specs.Counters.{HasLoads}
-use Rattle.sm_place.specs.Cells.{amount_at, is_hit, AreInside, ArePlaces}
+use Rattle.sm_place.specs.Cells.{amount_at, is_hit, ArePlaces}
 use Rattle.sm_place.specs.Books.{moved, no_shard, place_of, IsKnown, shard_at, with_stand}
 use Rattle.sm_place.specs.lemmas.Changed.{same_place}
 use Rattle.sm_place.specs.Room.{load_on, load_by}
@@ -57,11 +57,6 @@ pub load_on-with_stand : (shards : List Shard) (k a : ℕ) (stand : Stand) → k
     → load_on (with_stand shards k stand) a + load_by a (shard_at shards k)
     ≡ load_on shards a + load_by a (moved (shard_at shards k) stand)
 load_on-with_stand shards k a stand h = sum_by-set (load_by a) shards k (moved (shard_at shards k) stand) no_shard h
-
-pub AreInside-place : (servers : List ServerRow) (x : Option ℕ) → IfSome x (IsKnown servers)
-    → AreInside (length servers) (option_map (place_of servers) x)
-AreInside-place servers None h = tt
-AreInside-place servers (Some a) h = h
 
 -- a place that is hit is that of a server of the two
 pub hit_place : (servers : List ServerRow) (x y : Option ℕ) (i : ℕ) → IfSome x (IsKnown servers)
@@ -171,21 +166,6 @@ raise_fits servers shards k stand loads0 loads1 x y x' y' n m inside known has a
       fits a found.1.0,
       load_on-with_stand shards k a stand inside,
     ) in
-    rw (← found.1.1) goal
-
--- the counter of a server that the stand names has the shard's load in it
-pub lower_fits : (servers : List ServerRow) (shards : List Shard) (k : ℕ) (loads : List ℕ) (x y : Option ℕ) (n : ℕ)
-    → k < length shards
-    → AllNamed (IsKnown servers) (shard_at shards k).stand
-    → HasLoads servers shards loads
-    → ArePlaces servers (shard_at shards k).stand x y → n ≡ (shard_at shards k).row.load
-    → (i : ℕ) → is_hit x y i ≡ true → n ≤ slice_index loads i
-lower_fits servers shards k loads x y n inside known has at en i hit =
-    let found = hit_named servers (shard_at shards k).stand x y i at known hit in
-    let a = found.0 in
-    let share : load_by a (shard_at shards k) ≡ n = load_by-named a (shard_at shards k) found.1.2 ∙ sym en in
-    let goal : n ≤ slice_index loads (place_of servers a) =
-    omega (arith, share, has.at a found.1.0, load_on-remove shards k a inside) in
     rw (← found.1.1) goal
 
 -- what an index gives is the shard

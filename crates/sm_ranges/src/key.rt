@@ -1,4 +1,4 @@
-ghost use Rattle.std.specs.Prelude.{◌≡◌, ◌↔◌, IfOk, IfErr, OnOk};
+ghost use Rattle.std.specs.Prelude.{◌≡◌, ◌↔◌, IfOk, OnOk};
 ghost use Rattle.sm_ranges.specs.declared.key.KeyFault.TheVariants.{Empty, TooLong};
 
 use crate::limits::MAX_KEY;

@@ -1,14 +1,13 @@
 -- How the domains that servers are of are found, and compared with rows.
 use Rattle.std.proofs.Common.{ℕ, zero, suc, ◌+◌, ◌-◌, ◌<◌, ◌≤◌, ◌≡◌, ◌≢◌, Bool, true, false, cond, eqb, ltb, List, []}
-use Rattle.std.proofs.Common.{◌∷◌, ◌++◌, length, get_or, set, take, drop, map}
-use Rattle.std.proofs.Common.{refl, ap, sym, ◌∙◌, append_assoc, append-nil, arith, inl, inr, ◌⊎◌, ◌&&◌, ◌||◌}
+use Rattle.std.proofs.Common.{◌∷◌, ◌++◌, length, get_or, take, drop, map}
+use Rattle.std.proofs.Common.{refl, ap, sym, ◌∙◌, append_assoc, append-nil, arith, inl, inr, ◌⊎◌, ◌&&◌}
 use Rattle.std.specs.Prelude.{replicate, filter}
 use Rattle.std.specs.List.{range_with_len}
-use Rattle.std.proofs.lemmas.Bool.{ltb-true, ltb-false, or_right}
+use Rattle.std.proofs.lemmas.Bool.{ltb-true, ltb-false}
 use Rattle.std.proofs.lemmas.Bool.Decides.{eqb_tells}
-use Rattle.std.proofs.lemmas.List.{length-replicate, get_or-replicate, length-set, get_or-set_same, get_or-set_other}
+use Rattle.std.proofs.lemmas.List.{length-replicate, get_or-replicate}
 use Rattle.std.proofs.lemmas.List.{take_all}
-use Rattle.std.proofs.lemmas.List.Folds.{list_any_more}
 use Rattle.sm_rows.specs.declared.domain_row.DomainRow.{DomainRow}
 use Rattle.sm_rows.specs.declared.limits.TheConstants.{MAX_DOMAIN}
 use Rattle.sm_rows.specs.declared.server_row.ServerRow.{ServerRow}
@@ -23,52 +22,6 @@ pub AreMarked-none : (servers : List ServerRow) (n : ℕ) → AreMarked servers 
 AreMarked-none servers n = record {
   len = length-replicate n false;
   at = λ d h. get_or-replicate n d false false h;
-}
-
-used_more : (servers : List ServerRow) (i : ℕ) (server : ServerRow) (d : ℕ) → i < length servers
-    → server ≡ get_or servers i server
-    → is_used (take (i + 1) servers) d ≡ (is_used (take i servers) d || eqb server.domain d)
-used_more servers i server d h is =
-    list_any_more (λ s. eqb s.domain d) servers i server h
-    ∙ ap (λ (s : ServerRow). is_used (take i servers) d || eqb s.domain d) (sym is)
-
-or_not : (u : Bool) → (u || false) ≡ u
-or_not true = refl
-or_not false = refl
-
--- the next server's domain is marked
-pub AreMarked-next : (servers : List ServerRow) (n i : ℕ) (marks : List Bool) (server : ServerRow) → i < length servers
-    → server ≡ get_or servers i server → server.domain < n
-    → AreMarked servers n i marks → AreMarked servers n (i + 1) (set marks server.domain true)
-AreMarked-next servers n i marks server h is small marked = record {
-  len = length-set marks server.domain true ∙ marked.len;
-  at = λ d hd. elim (eqb_tells server.domain d) [
-    | inl p ↦
-        let inside : server.domain < length marks = rw marked.len small in
-        ap (λ e. get_or (set marks server.domain true) e false) (sym p.1)
-        ∙ get_or-set_same marks server.domain true false inside
-        ∙ sym (used_more servers i server d h is ∙ or_right (is_used (take i servers) d) (eqb server.domain d) p.0)
-    | inr p ↦
-        get_or-set_other marks server.domain d true false (λ same. p.1 (sym same))
-        ∙ marked.at d hd
-        ∙ sym (used_more servers i server d h is ∙ ap (λ b. is_used (take i servers) d || b) p.0
-        ∙ or_not (is_used (take i servers) d))
-  ];
-}
-
--- a domain that is none of so many is marked nowhere
-pub AreMarked-beyond : (servers : List ServerRow) (n i : ℕ) (marks : List Bool) (server : ServerRow)
-    → i < length servers
-    → server ≡ get_or servers i server → n ≤ server.domain
-    → AreMarked servers n i marks → AreMarked servers n (i + 1) marks
-AreMarked-beyond servers n i marks server h is beyond marked = record {
-  len = marked.len;
-  at = λ d hd. elim (eqb_tells server.domain d) [
-    | inl p ↦ absurd (omega (arith, p.1, beyond, hd))
-    | inr p ↦ marked.at d hd
-        ∙ sym (used_more servers i server d h is ∙ ap (λ b. is_used (take i servers) d || b) p.0
-        ∙ or_not (is_used (take i servers) d))
-  ];
 }
 
 -- after all servers each mark says whether a server is of the domain

@@ -1,15 +1,12 @@
 -- What the first line is.
-use Rattle.std.proofs.Common.{◌≡◌, subst, sym, inl, inr, refl, Result, Err}
+use Rattle.std.proofs.Common.{◌≡◌, subst, inl, inr, refl}
 use Rattle.sm_lines.specs.Reading.{Reading, TookNext}
 use Rattle.sm_lines.specs.declared.line_reader.Next.{Next}
 use Rattle.sm_lines.specs.declared.line_reader.Next.TheVariants.{Line, LongLine, End}
-use Rattle.sm_settings.specs.SettingsLine.{SettingsValues}
 use Rattle.sm_settings.specs.declared.settings.TheConstants.{MAX_SETTINGS}
-use Rattle.sm_settings.specs.declared.settings_fault.SettingsFault.{SettingsFault}
 use Rattle.sm_settings.specs.declared.settings_fault.SettingsFault.TheVariants.{BadJson, TooLong}
-use Rattle.sm_run.specs.declared.begin_fault.BeginFault.TheVariants.{Settings as IsOfSettings}
 use Rattle.sm_run.specs.declared.opening.Opening.TheVariants.{Kept, Refused}
-use Rattle.sm_run.specs.Openings.{HasNone, IsOpening, RefusesRead}
+use Rattle.sm_run.specs.Openings.{IsOpening}
 
 -- the first line was kept
 pub line_opening : (was now : Reading) (next : Next) → next ≡ Line → TookNext MAX_SETTINGS next was now
@@ -32,10 +29,3 @@ end_opening was now next is took =
     let P : Next → Type 0 = λ n. TookNext MAX_SETTINGS n was now in
     let end = subst P is took in
     inl (end.0, end.1, refl)
-
--- the fault of a line
-pub refuses_read : (read : Result SettingsValues SettingsFault) (fault : SettingsFault) → read ≡ Err fault
-    → RefusesRead HasNone read (IsOfSettings fault)
-refuses_read read fault is =
-    let P : Result SettingsValues SettingsFault → Type 0 = λ r. RefusesRead HasNone r (IsOfSettings fault) in
-    subst P (sym is) refl

@@ -1,5 +1,5 @@
 -- Runs for which no session was begun.
-use Rattle.std.proofs.Common.{◌≡◌, ◌≢◌, ◌∙◌, true, false, ℕ, List, [], ◌∷◌, ap, refl, sym, subst, inr, Result, Ok}
+use Rattle.std.proofs.Common.{◌≡◌, ◌≢◌, ◌∙◌, true, false, ℕ, List, [], ◌∷◌, ap, refl, subst, inr, Result, Ok}
 use Rattle.std.proofs.Common.{Err, OnOk, IfOk}
 use Rattle.std.proofs.lemmas.Bool.{false≢true}
 use Rattle.sm_lines.specs.Reading.{Reading, TookLines}

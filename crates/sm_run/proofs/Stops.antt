@@ -1,5 +1,5 @@
 -- Where a run stopped, and what it had written by then.
-use Rattle.std.proofs.Common.{◌≡◌, ◌≢◌, ◌<◌, ◌≤◌, ◌+◌, ◌-◌, ◌*◌, ◌++◌, ◌∷◌, [], Bool, true, false, ℕ, suc, List}
+use Rattle.std.proofs.Common.{◌≡◌, ◌≢◌, ◌<◌, ◌+◌, ◌-◌, ◌++◌, ◌∷◌, [], true, false, ℕ, List}
 use Rattle.std.proofs.Common.{length, take, ap, sym, ◌∙◌, subst, refl, arith, ◌⊎◌, inl, inr, append_assoc, append-nil}
 use Rattle.std.proofs.Common.{Result, Ok, Err}
 use Rattle.std.proofs.lemmas.Bool.{cases_lt, false≢true}
@@ -7,14 +7,13 @@ use Rattle.std.proofs.lemmas.List.{take-append-le}
 use Rattle.std.proofs.lemmas.List.Elements.{All-nil}
 use Rattle.std.proofs.Math.Seq.{take-append-add}
 use Rattle.std.specs.Io.KnownBytes.{Appends}
-use Rattle.sm_lines.specs.Answers.{AnsweredInput, AnswersAll, RanTo, ReadingStopped, StopsAfter}
+use Rattle.sm_lines.specs.Answers.{AnsweredInput, AnswersAll, ReadingStopped, StopsAfter}
 use Rattle.sm_lines.specs.Reading.{Reading, Reads, ReaderStopped, TookLines, TookPart, IsOrderly}
 use Rattle.sm_lines.specs.Transcripts.{Transcript}
-use Rattle.sm_lines.specs.Writing.{Writing, Sends, Wrote, WroteShort}
-use Rattle.sm_lines.specs.declared.TheConstants.{PIECE}
+use Rattle.sm_lines.specs.Writing.{Writing, Sends, WroteShort}
 use Rattle.sm_lines.specs.declared.watch.TheConstants.{COUNT_LIMIT}
 use Rattle.sm_lines.specs.lemmas.Answering.{AnswersAll-more, sends_none}
-use Rattle.sm_lines.specs.lemmas.Taking.{no_lines, reads_last, reads_more, took_more, took_none}
+use Rattle.sm_lines.specs.lemmas.Taking.{no_lines, took_more, took_none}
 use Rattle.sm_run.specs.declared.opening.Opening.{Opening}
 use Rattle.sm_run.specs.declared.opening.Opening.TheVariants.{Kept, Refused}
 use Rattle.sm_settings.specs.declared.settings_fault.SettingsFault.{SettingsFault}

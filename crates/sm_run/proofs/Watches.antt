@@ -1,10 +1,9 @@
 -- What a run leaves of the reader and the writer that are watched.
-use Rattle.std.proofs.Common.{◌≡◌, ◌≢◌, ◌⊎◌, ◌+◌, ◌*◌, ◌≤◌, inl, inr, true, false, ℕ, List, [], ◌∷◌, ◌++◌, Result, Ok}
-use Rattle.std.proofs.Common.{Err, OnOk, refl, sym, ap, ◌∙◌, subst, arith}
+use Rattle.std.proofs.Common.{◌≡◌, ◌≢◌, ◌+◌, inl, inr, true, false, ℕ, List, [], ◌∷◌, ◌++◌, Result, Ok}
+use Rattle.std.proofs.Common.{Err, refl, ap, ◌∙◌}
 use Rattle.std.proofs.lemmas.Bool.{false≢true}
-use Rattle.std.specs.Io.KnownBytes.{IsAtEnd}
 use Rattle.sm_lines.specs.Answers.{AnsweredInput, ReadingStopped, StopsAfter}
-use Rattle.sm_lines.specs.Reading.{Reading, Reads, ReaderStopped, TookLines, TookPart}
+use Rattle.sm_lines.specs.Reading.{Reading, Reads, ReaderStopped, TookLines}
 use Rattle.sm_lines.specs.Transcripts.{Transcript}
 use Rattle.sm_lines.specs.Writing.{Writing}
 use Rattle.sm_lines.specs.declared.watch.TheConstants.{COUNT_LIMIT}
@@ -16,7 +15,6 @@ use Rattle.sm_run.specs.Watching.{KeepsWatch}
 use Rattle.sm_run.specs.declared.run_fault.RunFault.{RunFault}
 use Rattle.sm_run.specs.declared.run_fault.RunFault.TheVariants.{Read, Write, NoMemory, NoThread}
 use Rattle.sm_run.specs.declared.status.Status.{Status}
-use Rattle.sm_run.specs.declared.status.Status.TheVariants.{Ran}
 use Rattle.sm_run.proofs.Stops.{Touched}
 
 -- some bytes were read

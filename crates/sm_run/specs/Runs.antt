@@ -1,5 +1,5 @@
 -- What a run has read and written.
-use Rattle.std.specs.Prelude.{◌≡◌, ◌⊎◌, true, ℕ, ◌+◌, List, [], ◌∷◌, ◌++◌, take, Result, Ok, Err}
+use Rattle.std.specs.Prelude.{◌≡◌, ◌⊎◌, true, ℕ, ◌+◌, List, [], ◌∷◌, ◌++◌, take, Result, Err}
 use Rattle.std.specs.Io.KnownBytes.{Appends}
 use Rattle.sm_lines.specs.Answers.{AnswersAll, ReadingStopped, StopsAfter}
 use Rattle.sm_lines.specs.Reading.{Reading, TookLines}

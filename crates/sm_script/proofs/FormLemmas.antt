@@ -1,5 +1,5 @@
 -- A search of a mapped list.
-use Rattle.std.proofs.Common.{◌≡◌, Bool, true, false, List, [], ◌∷◌, Option, Some, None, map, refl, cond}
+use Rattle.std.proofs.Common.{◌≡◌, Bool, true, false, List, [], ◌∷◌, Some, map, refl, cond}
 use Rattle.std.specs.List.{find}
 use Rattle.std.specs.Option.{option_map}
 

@@ -1,5 +1,5 @@
 -- What the steps of a server tell together.
-use Rattle.std.proofs.Common.{◌≡◌, ◌<◌, ◌≤◌, ℕ, ◌+◌, Bool, true, List, [], length, refl, sym, ap, ◌∙◌, subst, inr}
+use Rattle.std.proofs.Common.{◌≡◌, ◌<◌, ◌≤◌, ℕ, ◌+◌, Bool, true, List, length, refl, sym, ap, ◌∙◌, subst, inr}
 use Rattle.std.proofs.Common.{arith}
 use Rattle.std.specs.Prelude.{Option, Some, None, nat_lt}
 use Rattle.std.proofs.lemmas.Bool.{cond_both}
@@ -18,7 +18,7 @@ use Rattle.sm_rule.specs.declared.admit_refusal.AdmitRefusal.{AdmitRefusal}
 use Rattle.sm_rule.specs.declared.admit_refusal.AdmitRefusal.TheVariants as admission
 use Rattle.sm_rule.specs.Admissions.{PassAdmitted, Races, RefusedBy, fault_for}
 use Rattle.sm_rule.specs.Boards.{BoardValue, limit_at}
-use Rattle.sm_rule.specs.Passes.{PassLooks, PassValue, own, record_of}
+use Rattle.sm_rule.specs.Passes.{PassLooks, PassValue, record_of}
 use Rattle.sm_rule.specs.Views.{Begins}
 use Rattle.sm_rule.specs.lemmas.Passing.{adds_begins, begins_begins, looks_begins, own_none}
 use Rattle.sm_server.specs.declared.outcome.Outcome.{Outcome}

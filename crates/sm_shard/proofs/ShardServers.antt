@@ -69,11 +69,6 @@ pub ok_map : {A E : Type 0} (P R : A → Type 0) (result : Result A E) → ((x :
 ok_map P R (Ok x) f all_hold = f x all_hold
 ok_map P R (Err e) f all_hold = all_hold
 
-pub some_map : {A : Type 0} (P R : A → Type 0) (found : Option A) → ((x : A) → P x → R x) → IfSome found P
-    → IfSome found R
-some_map P R None f all_hold = all_hold
-some_map P R (Some x) f all_hold = f x all_hold
-
 pub some_of : {A : Type 0} (P : A → Type 0) (found : Option A) (x : A) → found ≡ Some x → IfSome found P → P x
 some_of P found x is all_hold = subst (λ o. IfSome o P) is all_hold
 

@@ -73,11 +73,10 @@ pub struct PartsSending<'a, R> {
 }
 
 impl<Q: Drop, R: Copy + Drop, M: StoreMachine<Q, R>> ShardServer<M, Q, R> {
-    ghost use Rattle.std.specs.Prelude.{◌++◌, ◌+◌, List, ◌≤◌, ◌↔◌, true, false, IsTrue, IsSome, IfOk, OnErr};
+    ghost use Rattle.std.specs.Prelude.{◌++◌, ◌+◌, List, ◌↔◌, false, IsTrue, IsSome, IfOk, OnErr};
     ghost use Rattle.std.specs.Prelude.{ℕ, length, map};
     ghost use Rattle.std.specs.List.{AllByRecursion};
     ghost use Rattle.sm_shard.specs.Bases.{Part, base_of};
-    ghost use Rattle.sm_store.specs.declared.item.Item.{Item as ItemValue};
     ghost use Rattle.sm_store.specs.Store.{record_key, stored_record};
     ghost use Rattle.sm_store.specs.Deeds.{AreRight, Charter, Clearing, MaySend, WasFound, transaction_of};
     ghost use Rattle.sm_store.specs.System.{Ask, MayClaim};

@@ -1,6 +1,6 @@
 ghost use Rattle.std.specs.Prelude.{◌≡◌, ◌≤◌, ◌++◌, ◌+◌, List, [], ◌<◌, false, IsTrue, IfOk, OnOk, OnErr, IfSome};
 ghost use Rattle.std.specs.Prelude.{IfNone};
-ghost use Rattle.std.specs.Prelude.{ℕ, length, take, drop, vec_len};
+ghost use Rattle.std.specs.Prelude.{ℕ, length, take, drop};
 ghost use Rattle.sm_ownership.specs.declared.record.Record.{Record as RecordValue};
 ghost use Rattle.sm_ownership.specs.Rules.{forward_to};
 ghost use Rattle.sm_store.specs.declared.item.Item.{Item as ItemValue};

@@ -1,7 +1,7 @@
 -- All processes and the store, over every order of events. Messages come late, twice, or never, and in any order: what
 -- was once sent to the store may reach it at any later moment, any number of times. Processes stop, forget and start at
 -- any moment: nothing here rests on what they remember, but only on what they send and claim.
-use Rattle.std.specs.Prelude.{ℕ, Option, Some, None, ◌≡◌, ◌≤◌, ◌<◌, ◌⊎◌, List, [], ◌∷◌, ◌++◌, length, slice_get}
+use Rattle.std.specs.Prelude.{ℕ, Option, Some, None, ◌≡◌, ◌≤◌, ◌⊎◌, List, [], ◌∷◌, ◌++◌, length, slice_get}
 use Rattle.std.specs.Prelude.{if◌then◌else◌}
 use Rattle.std.specs.List.{AllByRecursion}
 use Rattle.sm_store.specs.declared.item.Item.{Item}

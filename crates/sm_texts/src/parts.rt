@@ -4,7 +4,6 @@ ghost use Rattle.std.specs.List.{AllByRecursion};
 ghost use Rattle.sm_codec.specs.Spelling.{FitsItem, item_view, item_views, part_bytes};
 ghost use Rattle.sm_texts.specs.Parts.{last_item, part_text, reply_bytes};
 
-use crate::requests::number_of;
 use crate::text_reply::TextReply;
 use sm_codec::{ReadError, StoredPart, read_part, write_part};
 use sm_ownership::mode::Mode;

@@ -1,7 +1,6 @@
 //! The bytes that stand for a map.
 ghost use Rattle.std.specs.Prelude.{◌≡◌, ◌<◌, ◌≤◌, ◌++◌, ℕ, List, IfSome, Some, IfOk, OnOk, length, map};
 ghost use Rattle.std.specs.Option.{option_map};
-ghost use Rattle.sm_map.specs.KeyMap.{KeyPair};
 ghost use Rattle.sm_map.specs.Val.{held_of, row_of};
 ghost use Rattle.sm_store.specs.declared.item.Item.{Item};
 ghost use Rattle.std.specs.Global.{Vec};

@@ -1,5 +1,5 @@
 -- Answers to one more line, and none.
-use Rattle.std.proofs.Common.{◌≡◌, ℕ, List, [], ◌∷◌, ◌++◌, refl, ap, sym, ◌∙◌, append_assoc, append-nil, subst}
+use Rattle.std.proofs.Common.{ℕ, List, [], ◌∷◌, ◌++◌, refl, ap, sym, ◌∙◌, append_assoc, append-nil, subst}
 use Rattle.std.proofs.KnownBytes.{Appends-nil}
 use Rattle.sm_lines.specs.Answers.{AnswersAll}
 use Rattle.sm_lines.specs.Writing.{Writing, Sends}

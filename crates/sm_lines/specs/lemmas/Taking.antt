@@ -1,13 +1,13 @@
 -- Bytes and lines that are taken off one after another.
-use Rattle.std.proofs.Common.{◌≡◌, ◌≢◌, ◌+◌, ◌<◌, ℕ, suc, List, [], ◌∷◌, ◌++◌, length, All, Bool, true}
+use Rattle.std.proofs.Common.{◌≡◌, ◌≢◌, ◌+◌, ℕ, suc, List, [], ◌∷◌, ◌++◌, length, All, Bool, true}
 use Rattle.std.proofs.Common.{false, Option, Some, None, refl, ap, sym, ◌∙◌, append_assoc, append-nil}
-use Rattle.std.proofs.Common.{length-append, arith, ◌⊎◌, inl, inr}
+use Rattle.std.proofs.Common.{length-append, arith, inl, inr}
 use Rattle.std.proofs.lemmas.Bool.{cases_eq, false≢true, ne_eqb}
-use Rattle.std.proofs.lemmas.List.Elements.{All-nil, All-cons, All-head, All-tail, All-append}
+use Rattle.std.proofs.lemmas.List.Elements.{All-nil, All-head, All-tail, All-append}
 use Rattle.std.proofs.KnownBytes.{Consumes-nil, Consumes-trans}
 use Rattle.std.specs.Io.KnownBytes.{prepend_known, Consumes, IsAtEnd}
 use Rattle.sm_lines.specs.Lines.{lines_of, onto_first, with_feeds, IsPlain}
-use Rattle.sm_lines.specs.Reading.{to_come, Reading, Reads, TookLines, IsOrderly, IsUncalled, call_of}
+use Rattle.sm_lines.specs.Reading.{to_come, Reading, Reads, TookLines, IsOrderly}
 
 -- ---- bytes
 

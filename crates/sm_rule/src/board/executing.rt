@@ -2,7 +2,7 @@
 ghost use Rattle.std.specs.Prelude.{◌≡◌, ◌<◌, ◌≤◌, ◌^◌, ◌++◌, ◌∷◌, [], None, IfErr, IfOk, OnErr, OnOk, fold, length};
 ghost use Rattle.sm_ownership.specs.declared.entry.Ending.TheVariants.{Nothing, Request as Requested};
 ghost use Rattle.sm_ownership.specs.declared.entry.Kind.TheVariants.{Done};
-ghost use Rattle.sm_ownership.specs.History.{all_of, checkpoint_ending, first_of, kept};
+ghost use Rattle.sm_ownership.specs.History.{all_of, checkpoint_ending, kept};
 ghost use Rattle.sm_rule.specs.Admissions.{HoldsPermit};
 ghost use Rattle.sm_rule.specs.Boards.{limit_at};
 ghost use Rattle.sm_rule.specs.Bodies.{Keeps};

@@ -1,5 +1,5 @@
 -- The parts of steps, as proofs go through them one by one.
-use Rattle.std.specs.Prelude.{ℕ, Option, Some, None, Ok, Err, nat_lt, if◌then◌else◌, List, [], ◌∷◌, ◌++◌, length}
+use Rattle.std.specs.Prelude.{ℕ, Option, Ok, Err, nat_lt, if◌then◌else◌, List, [], ◌∷◌, ◌++◌, length}
 use Rattle.std.specs.Option.{option_map_or}
 use Rattle.sm_body.specs.Service.{Meaning}
 use Rattle.sm_desk.specs.declared.command.Command.{Command}
@@ -7,9 +7,7 @@ use Rattle.sm_desk.specs.declared.command.CommandFault.{CommandFault}
 use Rattle.sm_desk.specs.Desk.{commanded}
 use Rattle.sm_ownership.specs.declared.admit_fault.AdmitFault.{AdmitFault}
 use Rattle.sm_ownership.specs.declared.entry.Ending.TheVariants.{Nothing}
-use Rattle.sm_ownership.specs.declared.record.Record.{Record}
 use Rattle.sm_ownership.specs.declared.route.Route.{Route}
-use Rattle.sm_ownership.specs.History.{table_of}
 use Rattle.sm_ownership.specs.Routes.{is_old, routes_of}
 use Rattle.sm_ownership.specs.Rules.{forward_to}
 use Rattle.sm_table.specs.declared.hands.InHand.{InHand}

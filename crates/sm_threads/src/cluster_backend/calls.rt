@@ -1,5 +1,4 @@
 //! The calls of a script on a cluster.
-ghost use Rattle.std.specs.Prelude.{◌≡◌};
 
 use super::ClusterBackend;
 use super::requests::{learned, load_by, verdict_on};

@@ -1,4 +1,4 @@
-use Rattle.std.proofs.Common.{arith, ◌≡◌, ◌∙◌, ap, sym, Ok, Err, refl}
+use Rattle.std.proofs.Common.{arith, ◌∙◌, ap, Ok, Err, refl}
 use Rattle.std.proofs.lemmas.Result.{err_from_is_err_and}
 use Rattle.sm_lines.proofs.AnswerLemmas.{ended_counted, ended_memory, ended_reading, ended_short, ended_short_line}
 use Rattle.sm_lines.proofs.AnswerLemmas.{ended_short_memory, ended_well, none_waits, so_far_line, so_far_none}

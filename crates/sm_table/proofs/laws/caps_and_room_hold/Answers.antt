@@ -1,4 +1,4 @@
-use Rattle.std.proofs.Common.{◌≡◌, ℕ, None, List, [], ◌∷◌, refl, subst, sym}
+use Rattle.std.proofs.Common.{◌≡◌, None, List, [], ◌∷◌, refl, subst, sym}
 use Rattle.sm_desk.specs.declared.command.Command.{Command}
 use Rattle.sm_desk.specs.Desk.{DeskView, books_commanded, commanded, desk_fault}
 use Rattle.sm_place.specs.Books.{BooksView}

@@ -1,4 +1,4 @@
-use Rattle.std.proofs.Common.{◌≡◌, refl, sym, ◌∙◌, ap}
+use Rattle.std.proofs.Common.{sym, ◌∙◌, ap}
 use Rattle.std.proofs.lemmas.Bool.{false≢true}
 use Rattle.sm_lines.proofs.LineLemmas.{least_failed, no_feed, orderly_filled, reads_filled, so_far_all, so_far_filled}
 use Rattle.sm_lines.proofs.LineLemmas.{so_far_none, so_far_part, took_at_end, took_at_feed}

@@ -1,4 +1,4 @@
-use Rattle.std.proofs.Common.{◌≡◌, [], refl}
+use Rattle.std.proofs.Common.{[], refl}
 use Rattle.std.proofs.lemmas.Result.{err_from_is_err_and, on_err_weaker, on_ok_weaker}
 use Rattle.sm_lines.proofs.Writing.{passed_on, passed_short, sends_more, sends_short, short_first}
 use Rattle.sm_lines.proofs.piece_writer.PieceWriter.write.Goals as goal
