@@ -6,7 +6,6 @@ import pathlib
 import subprocess
 import sys
 
-import measure
 import runs
 import without_proof
 from profiling import Side
