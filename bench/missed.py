@@ -101,9 +101,8 @@ def serve():
         yield served(f"`serve`, `{kind}`, on one thread", kind, one, "serve", "alone", 20000, 1)
         title = f"`serve`, `{kind}`, on four threads, at their own or any shards"
         yield served(title, kind, own, "spread", "spread", 10000, 4)
-        if kind == "get":
-            title = f"`serve`, `{kind}`, on four threads at one shard"
-            yield served(title, kind, ("four threads, same",), "same", "same", 10000, 4)
+        title = f"`serve`, `{kind}`, on four threads at one shard"
+        yield served(title, kind, ("four threads, same",), "same", "same", 10000, 4)
 
 
 def admissions():
