@@ -2,6 +2,7 @@
 import collections
 import pathlib
 import re
+import textwrap
 
 import aims
 import figures
@@ -10,6 +11,8 @@ import missed
 HERE = pathlib.Path(__file__).resolve().parent
 KEPT, SENTENCES, PAGE = HERE / "hottest.tsv", HERE / "hottest.list", HERE / "hottest.md"
 HOTTEST = 5
+# How wide its prose is.
+WIDTH = 120
 # How many places are kept of a side, and the name of all others together.
 KEPT_PLACES, OTHERS = 8, "(others)"
 # What is said of a case as a whole, and of a place wherever it is met.
@@ -65,6 +68,11 @@ def short(place):
     return place
 
 
+def in_lines(prose):
+    """The same in lines of the page's width."""
+    return textwrap.fill(prose, WIDTH, break_long_words=False, break_on_hyphens=False)
+
+
 def sentence_of(said, case, place):
     return said.get((case.name, place)) or said.get((ANY, place), "")
 
@@ -113,7 +121,9 @@ class Told:
         operation = f"{self.case.operation[0].upper()}{self.case.operation[1:]}"
         told = f"{operation} takes {beside(whole, self.case.unit)}."
         told += f" It misses the first cache {beside(misses, 'times')}." if misses else ""
-        return f"## {self.case.name}\n\n{'; '.join(rows)}.\n\n{told}\n{sentence_of(self.said, self.case, WHOLE)}\n"
+        prose = f"{'; '.join(rows)}.", told, sentence_of(self.said, self.case, WHOLE)
+        missed_by, taken, sentence = map(in_lines, prose)
+        return f"## {self.case.name}\n\n{missed_by}\n\n{taken}\n{sentence}\n"
 
     def tables(self):
         for side, kept in self.kept.items():
