@@ -10,13 +10,13 @@ use Rattle.std.proofs.lemmas.List.{get_or-set_same, get_or-set_other, set-append
 use Rattle.std.proofs.lemmas.List.Sums.{sum_by-cons, sum_by-append, sum_by-set}
 use Rattle.std.proofs.lemmas.List.Folds.{sum_by-replicate}
 use Rattle.sm_arena.specs.declared.span.Span.{Span}
-use Rattle.sm_arena.specs.declared.chunk.Chunk.{Chunk}
-use Rattle.sm_arena.specs.Chunk.{written_in}
+use Rattle.sm_arena.specs.declared.arena_block.ArenaBlock.{ArenaBlock}
+use Rattle.sm_arena.specs.Memory.{made_size, joined_size, IsJoined}
 use Rattle.sm_arena.specs.declared.blocks.Blocks.{Blocks}
-use Rattle.sm_arena.specs.Blocks.{chunks_in, bytes_at, total, IsWriting, IsFilled, HasSpace}
+use Rattle.sm_arena.specs.Blocks.{written_in, chunks_in, bytes_at, total, IsWriting, IsFilled, HasSpace}
+use Rattle.sm_arena.specs.Blocks.{EndsJoined}
 use Rattle.sm_arena.specs.Chunks.{chunks_of}
-use Rattle.sm_arena.specs.Sizes.{sizes_in}
-use Rattle.sm_arena.proofs.Sizes.{written_fits}
+use Rattle.sm_arena.proofs.Sizes.{written_fits, block_fits, flat_set}
 
 pub is_nil : (xs : List ℕ) → length xs ≤ 0 → xs ≡ []
 is_nil [] le = refl
@@ -152,23 +152,21 @@ joins old piece =
     past (x ∷ xs) = past xs
 
 -- a piece is written into a block
-module _ (old : List Chunk) (place : ℕ) (piece : List ℕ) (inside : place < length old) (block block' : Chunk)
+module _ (old : List ArenaBlock) (place : ℕ) (piece : List ℕ) (inside : place < length old) (block block' : ArenaBlock)
     (at : get_or old place block ≡ block) (bytes : written_in block' ≡ written_in block ++ piece)
-    (size : block'.size ≡ block.size) where
+    (limit : block'.limit ≡ block.limit) (made : made_size block'.memory ≡ made_size block.memory)
+    (joined : joined_size block'.memory ≡ joined_size block.memory) where
   was : get_or (chunks_in old) place [] ≡ written_in block
   was = get_or-map written_in old place block [] inside
       ∙ ap written_in at
 
-  was_size : get_or (sizes_in old) place 0 ≡ block.size
-  was_size = get_or-map (λ (b : Chunk). b.size) old place block 0 inside ∙ ap (λ (b : Chunk). b.size) at
-
   room : (count : ℕ) → HasSpace old place (length piece + count) → HasSpace (set old place block') place count
   room count has =
-      let here : (d : Chunk) → get_or (set old place block') place d ≡ block' =
+      let here : (d : ArenaBlock) → get_or (set old place block') place d ≡ block' =
       λ d. get_or-set_same old place block' d inside in
-      let before : length (written_in block) + (length piece + count) ≤ block.size = rw at at (has.1 block) in
-      let after : length (written_in block') + count ≤ block'.size =
-      omega (arith, before, ap length bytes, length-append (written_in block) piece, size) in
+      let before : length (written_in block) + (length piece + count) ≤ block.limit = rw at at (has.1 block) in
+      let after : length (written_in block') + count ≤ block'.limit =
+      omega (arith, before, ap length bytes, length-append (written_in block) piece, limit) in
       (omega (arith, inside, length-set old place block'), λ d. rw (here d) after)
 
   pub fills : IsFilled old place piece (set old place block')
@@ -176,42 +174,44 @@ module _ (old : List Chunk) (place : ℕ) (piece : List ℕ) (inside : place < l
     chunks = map-set written_in old place block'
         ∙ ap (λ (l : List ℕ). set (chunks_in old) place l) (bytes ∙ ap (λ (l : List ℕ). l ++ piece) (sym was));
     room = room;
-    sizes = map-set (λ (b : Chunk). b.size) old place block'
-        ∙ (ap (λ (n : ℕ). set (sizes_in old) place n) (size ∙ sym was_size) ∙ set-get_or (sizes_in old) place 0);
+    sizes = flat_set (λ (b : ArenaBlock). made_size b.memory) old place block block' at made;
+    joined = flat_set (λ (b : ArenaBlock). joined_size b.memory) old place block block' at joined;
   }
 
 -- what lies in an earlier block
-pub reads_earlier : (blocks : List Chunk) (place : ℕ) (s : Span) → s.chunk < place
+pub reads_earlier : (blocks : List ArenaBlock) (place : ℕ) (s : Span) → s.chunk < place
     → bytes_at (chunks_in (take place blocks)) s ≡ bytes_at (chunks_in blocks) s
 reads_earlier blocks place s lt =
     ap (λ (l : List ℕ). take s.length (drop s.start l)) (ap (λ (l : List (List ℕ)). get_or l s.chunk []) (sym (take-map
     written_in place blocks)) ∙ get_or-take place (chunks_in blocks) s.chunk [] lt)
 
 -- a piece is written into the first block behind so many others
-pub fills_behind : (old front back : List Chunk) (place : ℕ) (piece : List ℕ) (block block' : Chunk)
+pub fills_behind : (old front back : List ArenaBlock) (place : ℕ) (piece : List ℕ) (block block' : ArenaBlock)
     → old ≡ front ++ back → length front ≡ place → place < length old → get_or back 0 block ≡ block → written_in block'
-    ≡ written_in block ++ piece → block'.size ≡ block.size → IsFilled old place piece (front ++ set back 0 block')
-fills_behind old front back place piece block block' split count inside at bytes size =
+    ≡ written_in block ++ piece → block'.limit ≡ block.limit → made_size block'.memory ≡ made_size block.memory
+    → joined_size block'.memory ≡ joined_size block.memory → IsFilled old place piece (front ++ set back 0 block')
+fills_behind old front back place piece block block' split count inside at bytes limit made joined =
     let none : place - place ≡ 0 = omega arith in
-    let read : get_or old place block ≡ block = ap (λ (l : List Chunk). get_or l place block) split
+    let read : get_or old place block ≡ block = ap (λ (l : List ArenaBlock). get_or l place block) split
     ∙ (get_or-append_right front back place place block count (omega arith)
     ∙ (ap (λ (n : ℕ). get_or back n block) none ∙ at)) in
     let here : set old place block' ≡ front ++ set back 0 block' =
-    ap (λ (l : List Chunk). set l place block') split ∙ (set-append_right front back place place block' count
+    ap (λ (l : List ArenaBlock). set l place block') split ∙ (set-append_right front back place place block' count
     (omega arith) ∙ ap (λ (n : ℕ). front ++ set back n block') none) in
-    subst (λ (l : List Chunk). IsFilled old place piece l) here
-    (fills old place piece inside block block' read bytes size)
+    subst (λ (l : List ArenaBlock). IsFilled old place piece l) here
+    (fills old place piece inside block block' read bytes limit made joined)
 
-pub fills_nothing : (old : List Chunk) (place : ℕ) → IsFilled old place [] old
+pub fills_nothing : (old : List ArenaBlock) (place : ℕ) → IsFilled old place [] old
 fills_nothing old place = record {
   chunks = sym (ap (λ (l : List ℕ). set (chunks_in old) place l) (append-nil (get_or (chunks_in old) place []))
       ∙ set-get_or (chunks_in old) place []);
   room = λ count has. let same : 0 + count ≡ count = omega arith in subst (λ (n : ℕ). HasSpace old place n) same has;
   sizes = refl;
+  joined = refl;
 }
 
 -- one piece after the other
-pub fills_both : (a b c : List Chunk) (place : ℕ) (p q : List ℕ) → place < length a → IsFilled a place p b
+pub fills_both : (a b c : List ArenaBlock) (place : ℕ) (p q : List ℕ) → place < length a → IsFilled a place p b
     → IsFilled b place q c → IsFilled a place (p ++ q) c
 fills_both a b c place p q inside first second =
     let within : place < length (chunks_in a) =
@@ -225,11 +225,12 @@ fills_both a b c place p q inside first second =
     record {
       chunks = second.chunks ∙ last;
       sizes = second.sizes ∙ first.sizes;
+      joined = second.joined ∙ first.joined;
       room = λ count has. second.room count (first.room (length q + count)
           (subst (λ (n : ℕ). HasSpace a place n) (omega (arith, length-append p q)) has));
     }
 
-pub writes : (old : List (List ℕ)) (middle new : List Chunk) (k place : ℕ) (piece : List ℕ)
+pub writes : (old : List (List ℕ)) (middle new : List ArenaBlock) (k place : ℕ) (piece : List ℕ)
     → chunks_in middle ≡ old ++ replicate k [] → place < length middle → IsFilled middle place piece new
     → IsWriting old piece (record {
       chunk = place;
@@ -244,7 +245,7 @@ writes old middle new k place piece grown inside filled =
     rw grown (is_writing old (chunks_in new) k place piece longer is)
 
 -- a piece more in the same block
-pub writes_next : (old new : List Chunk) (place : ℕ) (piece : List ℕ) → place < length old
+pub writes_next : (old new : List ArenaBlock) (place : ℕ) (piece : List ℕ) → place < length old
     → IsFilled old place piece new
     → IsWriting (chunks_in old) piece (record {
       chunk = place;
@@ -255,7 +256,7 @@ writes_next old new place piece inside filled =
     writes (chunks_in old) old new 0 place piece (sym (append-nil (chunks_in old))) inside filled
 
 -- what is written into a block keeps all that lay
-pub fills_keep : (old new : List Chunk) (place : ℕ) (piece : List ℕ) → place < length old
+pub fills_keep : (old new : List ArenaBlock) (place : ℕ) (piece : List ℕ) → place < length old
     → IsFilled old place piece new → (s : Span) → length (bytes_at (chunks_in old) s) ≡ s.length
     → bytes_at (chunks_in new) s ≡ bytes_at (chunks_in old) s
 fills_keep old new place piece inside filled = (writes_next old new place piece inside filled).keeps
@@ -284,7 +285,7 @@ part_inside chunks span copied count within full =
     ap length (part_lies chunks span copied count within) ∙ size
 
 -- a span is copied into a block: so many bytes stand there now, and count more come
-module _ (old now : List Chunk) (place : ℕ) (span : Span) (copied count : ℕ) (inside : place < length old)
+module _ (old now : List ArenaBlock) (place : ℕ) (span : Span) (copied count : ℕ) (inside : place < length old)
     (full : length (bytes_at (chunks_in old) span) ≡ span.length) (within : copied + count ≤ span.length)
     (filled : IsFilled old place (take copied (bytes_at (chunks_in old) span)) now) where
   abbrev part : Span
@@ -304,7 +305,7 @@ module _ (old now : List Chunk) (place : ℕ) (span : Span) (copied count : ℕ)
       (has.0, λ d. omega (arith, has.1 d, length-take copied b, full, within)) in
       filled.room count room
 
-  pub part_filled : (new : List Chunk) → IsFilled now place (bytes_at (chunks_in now) part) new
+  pub part_filled : (new : List ArenaBlock) → IsFilled now place (bytes_at (chunks_in now) part) new
       → IsFilled old place (take (copied + count) (bytes_at (chunks_in old) span)) new
   part_filled new more =
       let b : List ℕ = bytes_at (chunks_in old) span in
@@ -316,18 +317,18 @@ module _ (old now : List Chunk) (place : ℕ) (span : Span) (copied count : ℕ)
       (ap (λ (l : List ℕ). take copied b ++ l) piece ∙ sym (take-add copied count b)) both
 
 -- a new block is one empty chunk more
-pub pushed : (bs : List Chunk) (block : Chunk) → written_in block ≡ []
+pub pushed : (bs : List ArenaBlock) (block : ArenaBlock) → written_in block ≡ []
     → chunks_in (bs ++ block ∷ []) ≡ chunks_in bs ++ replicate 1 []
 pushed bs block none =
     map-append written_in bs (block ∷ []) ∙ ap (λ (l : List ℕ). chunks_in bs ++ l ∷ []) none
 
-chunk_fits : (bs : List Chunk) (i : ℕ) → length (get_or (chunks_in bs) i []) < 2 ^ 32
+chunk_fits : (bs : List ArenaBlock) (i : ℕ) → length (get_or (chunks_in bs) i []) < 2 ^ 32
 chunk_fits [] i = omega arith
-chunk_fits (b ∷ bs) zero = omega (arith, written_fits b, b.small)
+chunk_fits (b ∷ bs) zero = omega (arith, b.written, b.filled, b.small)
 chunk_fits (b ∷ bs) (suc i) = chunk_fits bs i
 
 -- a span of bytes ends where a number still says it
-pub span_fits : (bs : List Chunk) (span : Span) → length (bytes_at (chunks_in bs) span) ≡ span.length
+pub span_fits : (bs : List ArenaBlock) (span : Span) → length (bytes_at (chunks_in bs) span) ≡ span.length
     → 0 < span.length → span.start + span.length < 2 ^ 32
 span_fits bs span full some =
     let x : List ℕ = get_or (chunks_in bs) span.chunk [] in
@@ -340,14 +341,14 @@ span_fits bs span full some =
       chunk_fits bs span.chunk,
     )
 
-all_fit : (bs : List Chunk) → total (chunks_in bs) ≤ length bs * 2 ^ 63
+all_fit : (bs : List ArenaBlock) → total (chunks_in bs) ≤ length bs * 2 ^ 63
 all_fit [] = omega arith
 all_fit (b ∷ bs) = omega (
   arith,
   sum_by-cons {X = List ℕ} length (written_in b) (chunks_in bs),
   all_fit bs,
   written_fits b,
-  b.small,
+  block_fits b,
 )
 
 pub total_fits : (b : Blocks) → total (chunks_of b) < 2 ^ 127
@@ -363,3 +364,20 @@ writes_nothing old piece none = record {
   fresh = take_none 0 (drop 0 (get_or old 0 [])) (omega arith);
   total = omega (arith, none);
 }
+
+-- a block more is the last one
+last_is : (bs : List ArenaBlock) (block d : ArenaBlock)
+    → get_or (bs ++ block ∷ []) (length (bs ++ block ∷ []) - 1) d ≡ block
+last_is bs block d =
+    let at : length (bs ++ block ∷ []) - 1 ≡ length bs = omega (arith, length-append bs (block ∷ [])) in
+    let none : length bs - length bs ≡ 0 = omega arith in
+    ap (λ (n : ℕ). get_or (bs ++ block ∷ []) n d) at
+    ∙ (get_or-append_right bs (block ∷ []) (length bs) (length bs) d refl (omega arith)
+    ∙ ap (λ (n : ℕ). get_or (block ∷ []) n d) none)
+
+-- so the blocks end as that one
+pub ends_joined : (bs : List ArenaBlock) (block : ArenaBlock) → IsJoined block.memory → EndsJoined (bs ++ block ∷ [])
+ends_joined bs block is d = subst (λ (b : ArenaBlock). IsJoined b.memory) (sym (last_is bs block d)) is
+
+pub last_joined : (bs : List ArenaBlock) (block : ArenaBlock) → EndsJoined (bs ++ block ∷ []) → IsJoined block.memory
+last_joined bs block ends = subst (λ (b : ArenaBlock). IsJoined b.memory) (last_is bs block block) (ends block)

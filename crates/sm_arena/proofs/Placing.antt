@@ -171,14 +171,14 @@ pieces_grow cs more (s ∷ spans) span piece lie written =
     λ i. (s, written.keeps s full i) ∷ rest i
 
 -- a piece that was written
-module _ (cs more : List (List ℕ)) (sizes sizes' : List ℕ) (here away : ℕ) (spans gone : List Span)
-    (held : IsArena cs here away (lying cs sizes spans gone)) (span : Span) (piece : List ℕ)
+module _ (cs more : List (List ℕ)) (sizes sizes' joined joined' : List ℕ) (here away : ℕ) (spans gone : List Span)
+    (held : IsArena cs here away (lying cs sizes joined spans gone)) (span : Span) (piece : List ℕ)
     (written : IsWriting cs piece span more) where
   abbrev v : ArenaValue
-  v = lying cs sizes spans gone
+  v = lying cs sizes joined spans gone
 
   abbrev w : ArenaValue
-  w = lying more sizes' (spans ++ span ∷ []) gone
+  w = lying more sizes' joined' (spans ++ span ∷ []) gone
 
   placed : w.placed ≡ v.placed ++ (span, piece) ∷ []
   placed = pieces_grow cs more spans span piece held.lies written
@@ -194,39 +194,43 @@ module _ (cs more : List (List ℕ)) (sizes sizes' : List ℕ) (here away : ℕ)
       by (inr is) = absurd
           (omega (arith, some, written.whole, (lies_at cs v.placed span held.lies is).1, ap length written.fresh))
 
-  pub held_written : IsArena more (here + length piece) away (lying more sizes' (spans ++ span ∷ []) gone)
+  pub held_written : IsArena more (here + length piece) away (lying more sizes' joined' (spans ++ span ∷ []) gone)
   held_written = held_placed cs more here away v w held span piece placed refl moved (
     written.reads,
     sym written.whole,
   ) is_new written.total
 
   pub is_placing_written :
-      IsPlacing (lying cs sizes spans gone) piece span (lying more sizes' (spans ++ span ∷ []) gone)
+      IsPlacing (lying cs sizes joined spans gone) piece span (lying more sizes' joined' (spans ++ span ∷ []) gone)
   is_placing_written = is_placing cs more here away v w held span piece placed refl moved (
     written.reads,
     sym written.whole,
   ) is_new written.total
 
 -- two pieces that were written
-module _ (cs more : List (List ℕ)) (sizes sizes' : List ℕ) (here away : ℕ) (spans gone : List Span)
-    (held : IsArena cs here away (lying cs sizes spans gone)) (s t : Span) (first second : List ℕ)
+module _ (cs more : List (List ℕ)) (sizes sizes' joined joined' : List ℕ) (here away : ℕ) (spans gone : List Span)
+    (held : IsArena cs here away (lying cs sizes joined spans gone)) (s t : Span) (first second : List ℕ)
     (written : IsWritingPair cs first second (s, t) more) where
-  held_between : IsArena written.middle (here + length first) away (lying written.middle sizes' (spans ++ s ∷ []) gone)
-  held_between = held_written cs written.middle sizes sizes' here away spans gone held s first written.one
+  held_between :
+      IsArena written.middle (here + length first) away (lying written.middle sizes' joined' (spans ++ s ∷ []) gone)
+  held_between =
+      held_written cs written.middle sizes sizes' joined joined' here away spans gone held s first written.one
 
   pub held_pair :
-      IsArena more (here + length first + length second) away (lying more sizes' ((spans ++ s ∷ []) ++ t ∷ []) gone)
-  held_pair = held_written written.middle more sizes' sizes' (here + length first) away
+      IsArena more (here + length first + length second) away
+      (lying more sizes' joined' ((spans ++ s ∷ []) ++ t ∷ []) gone)
+  held_pair = held_written written.middle more sizes' sizes' joined' joined' (here + length first) away
       (spans ++ s ∷ []) gone held_between t second written.other
 
-  pub is_placing_pair : IsPlacingPair (lying cs sizes spans gone) first second (
+  pub is_placing_pair : IsPlacingPair (lying cs sizes joined spans gone) first second (
     s,
     t,
-  ) (lying more sizes' ((spans ++ s ∷ []) ++ t ∷ []) gone)
+  ) (lying more sizes' joined' ((spans ++ s ∷ []) ++ t ∷ []) gone)
   is_placing_pair = record {
-    middle = lying written.middle sizes' (spans ++ s ∷ []) gone;
-    one = is_placing_written cs written.middle sizes sizes' here away spans gone held s first written.one;
-    other = is_placing_written written.middle more sizes' sizes' (here + length first) away
+    middle = lying written.middle sizes' joined' (spans ++ s ∷ []) gone;
+    one = is_placing_written cs written.middle sizes sizes' joined joined' here away spans gone held s first
+        written.one;
+    other = is_placing_written written.middle more sizes' sizes' joined' joined' (here + length first) away
         (spans ++ s ∷ []) gone held_between t second written.other;
   }
 
@@ -324,7 +328,7 @@ module _ (cs : List (List ℕ)) (here away : ℕ) (v : ArenaValue) (held : IsAre
   none = kept (omega (arith, size, long))
 
   abbrev now : ArenaValue
-  now = record { placed = v.placed; forgotten = v.forgotten ++ span ∷ []; sizes = v.sizes }
+  now = record { placed = v.placed; forgotten = v.forgotten ++ span ∷ []; sizes = v.sizes; joined = v.joined }
 
   times_now : (s : Span) → times_forgotten now s ≡ times_forgotten v s + once (same_span span s)
   times_now s = sum_by_push (λ t. cond (same_span t s) 1 0) v.forgotten span

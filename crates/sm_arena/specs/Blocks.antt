@@ -1,15 +1,23 @@
 -- Chunks of bytes, which are the blocks' bytes, and the writing of a piece into one of them.
-use Rattle.std.specs.Prelude.{◌≡◌, ◌+◌, ◌<◌, ◌≤◌, ◌++◌, ℕ, List, [], map, length, take, drop, replicate, slice_index_or}
-use Rattle.std.specs.Prelude.{slice_set}
+use Rattle.std.specs.Prelude.{◌≡◌, ◌+◌, ◌<◌, ◌≤◌, ◌-◌, ◌++◌, ℕ, List, [], map, length, take, drop, replicate}
+use Rattle.std.specs.Prelude.{slice_index_or, slice_set}
 use Rattle.std.specs.List.{sum_by}
 use Rattle.sm_arena.specs.declared.span.Span.{Span}
-use Rattle.sm_arena.specs.declared.chunk.Chunk.{Chunk}
-use Rattle.sm_arena.specs.Chunk.{written_in}
-use Rattle.sm_arena.specs.Sizes.{sizes_in}
+use Rattle.sm_arena.specs.declared.arena_block.ArenaBlock.{ArenaBlock}
+use Rattle.sm_arena.specs.Memory.{bytes_in, IsJoined}
+use Rattle.sm_arena.specs.Sizes.{sizes_in, joined_in}
+
+-- the bytes that are written in a block
+abbrev pub written_in : ArenaBlock → List ℕ
+written_in block = bytes_in block.memory
 
 -- the bytes of each block
-abbrev pub chunks_in : List Chunk → List (List ℕ)
+abbrev pub chunks_in : List ArenaBlock → List (List ℕ)
 chunks_in blocks = map written_in blocks
+
+-- the last block is of a piece that joined
+abbrev pub EndsJoined : List ArenaBlock → Type 0
+EndsJoined blocks = (d : ArenaBlock) → IsJoined (slice_index_or blocks (length blocks - 1) d).memory
 
 -- what lies at a span of these chunks
 abbrev pub bytes_at : List (List ℕ) → Span → List ℕ
@@ -23,21 +31,27 @@ total chunks = sum_by length chunks
 abbrev pub IsGrown : List (List ℕ) → List (List ℕ) → Type 0
 IsGrown old new = (n : ℕ) × (new ≡ old ++ replicate n [])
 
+-- the same chunks with the same bytes
+abbrev pub IsSame : List ArenaBlock → List ArenaBlock → Type 0
+IsSame old new =
+    (chunks_in new ≡ chunks_in old) × (sizes_in new ≡ sizes_in old) × (joined_in new ≡ joined_in old)
+
 -- so many bytes can still be written into the block at that place
-abbrev pub HasSpace : List Chunk → ℕ → ℕ → Type 0
+abbrev pub HasSpace : List ArenaBlock → ℕ → ℕ → Type 0
 HasSpace blocks place count =
     (place < length blocks) ×
-    ((d : Chunk) → let block = slice_index_or blocks place d in length (written_in block) + count ≤ block.size)
+    ((d : ArenaBlock) → let block = slice_index_or blocks place d in length (written_in block) + count ≤ block.limit)
 
 -- where so many bytes more would lie in the chunk at that place
 abbrev pub next_span : List (List ℕ) → ℕ → ℕ → Span
 next_span chunks place count = record { chunk = place; start = length (slice_index_or chunks place []); length = count }
 
 -- new is old with the piece written behind the bytes of the block at that place
-pub record IsFilled (old : List Chunk) (place : ℕ) (piece : List ℕ) (new : List Chunk) : Type 0 where
+pub record IsFilled (old : List ArenaBlock) (place : ℕ) (piece : List ℕ) (new : List ArenaBlock) : Type 0 where
   pub chunks : chunks_in new ≡ slice_set (chunks_in old) place (slice_index_or (chunks_in old) place [] ++ piece)
   pub room : (count : ℕ) → HasSpace old place (length piece + count) → HasSpace new place count
   pub sizes : sizes_in new ≡ sizes_in old
+  pub joined : joined_in new ≡ joined_in old
 
 -- new is old with the piece written at the span, where nothing was written before
 pub record IsWriting (old : List (List ℕ)) (piece : List ℕ) (span : Span) (new : List (List ℕ)) : Type 0 where

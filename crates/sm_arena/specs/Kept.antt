@@ -3,7 +3,7 @@ use Rattle.std.specs.Prelude.{◌≡◌, ◌<◌, ◌≤◌, ◌+◌, ℕ, List,
 use Rattle.sm_arena.specs.declared.arena.Arena.TheInside.{Inside}
 use Rattle.sm_arena.specs.declared.span.Span.{Span}
 use Rattle.sm_arena.specs.Blocks.{bytes_at, total}
-use Rattle.sm_arena.specs.Chunks.{chunks_of, sizes_of}
+use Rattle.sm_arena.specs.Chunks.{chunks_of, sizes_of, joined_of}
 use Rattle.sm_arena.specs.Pieces.{Places, IsPlaced, same_span}
 use Rattle.sm_arena.specs.Value.{ArenaValue, dead_of, live_of, times_forgotten}
 
@@ -11,13 +11,20 @@ use Rattle.sm_arena.specs.Value.{ArenaValue, dead_of, live_of, times_forgotten}
 abbrev pub pieces_in : List (List ℕ) → List Span → Places
 pieces_in chunks spans = map (λ s. (s, bytes_at chunks s)) spans
 
--- the arena with these chunks of these sizes, in which these spans were placed, and these were forgotten
-abbrev pub lying : List (List ℕ) → List ℕ → List Span → List Span → ArenaValue
-lying chunks sizes placed forgotten = record { placed = pieces_in chunks placed; forgotten = forgotten; sizes = sizes }
+-- the arena with these chunks, made of these sizes or joined with these capacities, in which these spans were placed,
+-- and these were forgotten
+abbrev pub lying : List (List ℕ) → List ℕ → List ℕ → List Span → List Span → ArenaValue
+lying chunks sizes joined placed forgotten = record {
+  placed = pieces_in chunks placed;
+  forgotten = forgotten;
+  sizes = sizes;
+  joined = joined;
+}
 
 -- an arena as contracts see it
 abbrev pub arena_value : Inside → ArenaValue
-arena_value a = lying (chunks_of a.blocks) (sizes_of a.blocks) a.placed.items a.forgotten.items
+arena_value a =
+    lying (chunks_of a.blocks) (sizes_of a.blocks) (joined_of a.blocks) a.placed.items a.forgotten.items
 
 -- the entry's bytes lie at its span
 abbrev pub Lies : List (List ℕ) → Span × List ℕ → Type 0

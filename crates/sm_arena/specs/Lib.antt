@@ -2,7 +2,8 @@ pub mod Pieces
 pub mod Value
 pub mod Sizes
 pub mod Blocks
-pub mod Chunk
+pub mod Memory
+pub mod Ownership
 pub mod Chunks
 pub mod Kept
 pub mod lemmas

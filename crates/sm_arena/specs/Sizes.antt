@@ -1,7 +1,8 @@
--- The sizes of chunks: each is twice the largest before, from 1,024 to 65,536 bytes.
-use Rattle.std.specs.Prelude.{◌≡◌, ◌*◌, ◌<◌, ◌++◌, ◌⊎◌, ℕ, nat_le, List, [], ◌∷◌, find, fold, map, unwrap_or}
+-- The sizes of the chunks that an arena makes: each is twice the largest before, from 1,024 to 65,536 bytes.
+use Rattle.std.specs.Prelude.{◌≡◌, ◌*◌, ◌<◌, ◌++◌, ◌⊎◌, ℕ, nat_le, List, [], ◌∷◌, find, flat_map, fold, unwrap_or}
 use Rattle.std.specs.Prelude.{cond, min, max}
-use Rattle.sm_arena.specs.declared.chunk.Chunk.{Chunk}
+use Rattle.sm_arena.specs.declared.arena_block.ArenaBlock.{ArenaBlock}
+use Rattle.sm_arena.specs.Memory.{made_size, joined_size}
 
 -- the sizes of chunks for pieces that fit one of them
 abbrev pub chunk_sizes : List ℕ
@@ -28,6 +29,10 @@ size_for sizes count = size_holding (max (next_size sizes) count)
 abbrev pub HasGrown : List ℕ → ℕ → List ℕ → Type 0
 HasGrown old count new = (new ≡ old) ⊎ ((0 < count) × (new ≡ old ++ size_for old count ∷ []))
 
--- the size of each block
-abbrev pub sizes_in : List Chunk → List ℕ
-sizes_in blocks = map (λ block. block.size) blocks
+-- the size of each chunk that the arena made
+abbrev pub sizes_in : List ArenaBlock → List ℕ
+sizes_in blocks = flat_map (λ block. made_size block.memory) blocks
+
+-- the capacity of each piece that joined
+abbrev pub joined_in : List ArenaBlock → List ℕ
+joined_in blocks = flat_map (λ block. joined_size block.memory) blocks

@@ -4,12 +4,13 @@ use Rattle.std.specs.List.{sum_by}
 use Rattle.sm_arena.specs.declared.span.Span.{Span}
 use Rattle.sm_arena.specs.Pieces.{Places, same_span, piece_of, bytes_of}
 
--- the pieces with their spans, in the order of their placing, the spans that were forgotten, and the sizes of the
--- chunks
+-- the pieces with their spans, in the order of their placing, the spans that were forgotten, the sizes of the chunks
+-- that the arena made, and the capacities of the pieces that joined
 pub record ArenaValue : Type 0 where
   pub placed : Places
   pub forgotten : List Span
   pub sizes : List ℕ
+  pub joined : List ℕ
 
 -- new is old with the piece placed at the span, which is a new one unless the piece is empty
 pub record IsPlacing (old : ArenaValue) (piece : List ℕ) (span : Span) (new : ArenaValue) : Type 0 where
@@ -33,7 +34,7 @@ times_forgotten v s = count_by (λ t. same_span t s) v.forgotten
 abbrev pub forgetting : ArenaValue → Span → ArenaValue
 forgetting v s =
     cond (length (bytes_of v.placed s) == 0) v
-    (record { placed = v.placed; forgotten = v.forgotten ++ s ∷ []; sizes = v.sizes })
+    (record { placed = v.placed; forgotten = v.forgotten ++ s ∷ []; sizes = v.sizes; joined = v.joined })
 
 -- the sum of the lengths on the list
 abbrev pub dead_of : ArenaValue → ℕ

@@ -1,4 +1,5 @@
-ghost use Rattle.std.specs.Prelude.{◌≡◌, ◌+◌, ◌<◌, ◌≤◌, ◌++◌, ◌∷◌, [], length, sum, OnErr, OnOk, IfErr, IfOk};
+ghost use Rattle.std.specs.Prelude.{◌≡◌, ◌+◌, ◌<◌, ◌≤◌, ◌++◌, ◌∷◌, [], length, sum, vec_capacity};
+ghost use Rattle.std.specs.Prelude.{OnErr, OnOk, IfErr, IfOk};
 ghost use Rattle.sm_arena.specs.Pieces.{IsPlaced, bytes_of};
 ghost use Rattle.sm_arena.specs.Sizes.{HasGrown};
 ghost use Rattle.sm_arena.specs.Value.{IsPlacing, IsPlacingPair, forgetting, times_forgotten, dead_of, live_of};
@@ -12,10 +13,11 @@ use std::marker::Model;
 /// Memory for pieces of bytes: a piece stays where it was placed, and reads the same, until the arena is dropped.
 ///
 /// Contracts see an arena as the pieces that were placed, by their spans, the list of the spans that were forgotten,
-/// and the sizes of its chunks. The first chunk has 1,024 bytes, and each next one at least twice as many as any before
-/// of up to 65,536, and at most so many; a size that doesn't hold the piece, or the pair, is skipped. A piece or a pair
-/// of more than 65,536 bytes has a chunk of just its size, and one that joins has its own memory. What would need a
-/// chunk of 2^32 bytes or more, or more than 2^32 chunks, is refused as memory is.
+/// the sizes of the chunks that it made, and the capacities of the pieces that joined, in bytes. The first chunk has
+/// 1,024 bytes, and each next one at least twice as many as any before of up to 65,536, and at most so many; a size
+/// that doesn't hold the piece, or the pair, is skipped. A piece or a pair of more than 65,536 bytes has a chunk of
+/// just its size. If a piece joins, its memory is a chunk of its own, on which no size of a later one depends. A piece
+/// of 2^32 bytes or more, or more than 2^32 chunks, is refused as memory is.
 #[derive(Drop)]
 pub struct Arena {
     blocks: Blocks,
@@ -41,7 +43,7 @@ impl Arena {
     /// An arena in which nothing was placed. It has no chunk yet.
     pub fn new(alloc: Global) -> Arena
         ensures placed { (result.placed ≡ []) × (result.forgotten ≡ []) }
-        ensures sizes { result.sizes ≡ [] }
+        ensures sizes { (result.sizes ≡ []) × (result.joined ≡ []) }
     {
         Arena {
             blocks: Blocks::new(alloc),
@@ -61,6 +63,7 @@ impl Arena {
     pub fn place(&mut self, piece: &[u8]) -> Result<Span, AllocError>
         ensures placed { IfOk result (λ span. IsPlacing self.old piece.now span self.new) }
         ensures sizes { OnOk result (HasGrown self.old.sizes (length piece.now) self.new.sizes) }
+        ensures joined { OnOk result (self.new.joined ≡ self.old.joined) }
         ensures err { OnErr result (self.new ≡ self.old) }
     {
         let span = self.blocks.write(piece)?;
@@ -77,6 +80,7 @@ impl Arena {
     pub fn place_pair(&mut self, first: &[u8], second: &[u8]) -> Result<(Span, Span), AllocError>
         ensures placed { IfOk result (λ spans. IsPlacingPair self.old first.now second.now spans self.new) }
         ensures sizes { OnOk result (HasGrown self.old.sizes (length first.now + length second.now) self.new.sizes) }
+        ensures joined { OnOk result (self.new.joined ≡ self.old.joined) }
         ensures err { OnErr result (self.new ≡ self.old) }
     {
         let (first_span, second_span) = self.blocks.write_pair(first, second)?;
@@ -88,7 +92,7 @@ impl Arena {
     }
 
     /// Places the piece as [`Arena::place`] does, and makes its memory a chunk of the arena instead of a copy.
-    /// What it has room for beyond its bytes isn't counted as held.
+    /// It is held with its whole capacity, its spare room stays free, and no later chunk's size depends on it.
     ///
     /// # Errors
     ///
@@ -96,7 +100,8 @@ impl Arena {
     /// then as it was.
     pub fn join(&mut self, piece: Vec<u8>) -> Result<Span, (Vec<u8>, AllocError)>
         ensures placed { IfOk result (λ span. IsPlacing self.old piece.items span self.new) }
-        ensures sizes { OnOk result (self.new.sizes ≡ self.old.sizes ++ length piece.items ∷ []) }
+        ensures sizes { OnOk result (self.new.sizes ≡ self.old.sizes) }
+        ensures joined { OnOk result (self.new.joined ≡ self.old.joined ++ vec_capacity piece ∷ []) }
         ensures handed_back { IfErr result (λ back. back.0.items ≡ piece.items) }
         ensures err { OnErr result (self.new ≡ self.old) }
     {
@@ -120,8 +125,8 @@ impl Arena {
         placed: &[u8],
     ) -> Result<(Span, Span), (Vec<u8>, AllocError)>
         ensures placed { IfOk result (λ spans. IsPlacingPair self.old joined.items placed.now spans self.new) }
-        ensures sizes { OnOk result
-            (HasGrown (self.old.sizes ++ length joined.items ∷ []) (length placed.now) self.new.sizes) }
+        ensures sizes { OnOk result (HasGrown self.old.sizes (length placed.now) self.new.sizes) }
+        ensures joined { OnOk result (self.new.joined ≡ self.old.joined ++ vec_capacity joined ∷ []) }
         ensures handed_back { IfErr result (λ back. back.0.items ≡ joined.items) }
         ensures err { OnErr result (self.new ≡ self.old) }
     {
@@ -146,6 +151,7 @@ impl Arena {
             (λ span. IsPlacing self.old (bytes_of self.old.placed head ++ tail.now) span self.new) }
         ensures sizes { OnOk result
             (HasGrown self.old.sizes (length (bytes_of self.old.placed head ++ tail.now)) self.new.sizes) }
+        ensures joined { OnOk result (self.new.joined ≡ self.old.joined) }
         ensures err { OnErr result (self.new ≡ self.old) }
     {
         let span = self.blocks.write_joined(head, tail)?;
@@ -183,9 +189,9 @@ impl Arena {
         self.live
     }
 
-    /// The sum of the chunks' sizes in bytes.
+    /// The sum of the chunks' sizes in bytes; that of a piece that joined is its capacity.
     pub fn held(&self) -> u128
-        ensures value { result ≡ sum self.now.sizes }
+        ensures value { result ≡ sum self.now.sizes + sum self.now.joined }
         ensures covers { live_of self.now + dead_of self.now ≤ result }
     {
         self.blocks.held()

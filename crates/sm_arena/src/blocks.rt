@@ -1,10 +1,10 @@
 ghost use Rattle.std.specs.Prelude.{◌≡◌, ◌+◌, ◌<◌, ◌≤◌, ◌++◌, ◌∷◌, [], length, max, replicate, sum};
-ghost use Rattle.std.specs.Prelude.{slice_index_or, vec_capacity, vec_len, ℕ, List, IfOk, IfErr, OnOk, OnErr, IsTrue};
+ghost use Rattle.std.specs.Prelude.{slice_index_or, vec_capacity, ℕ, IfOk, IfErr, OnOk, OnErr, IsTrue};
 ghost use Rattle.sm_arena.specs.Blocks.{chunks_in, bytes_at, next_span, IsWriting, IsWritingPair, IsGrown, IsFilled};
-ghost use Rattle.sm_arena.specs.Blocks.{HasSpace};
-ghost use Rattle.sm_arena.specs.Sizes.{sizes_in, next_size, size_holding, least_after, HasGrown};
+ghost use Rattle.sm_arena.specs.Blocks.{HasSpace, EndsJoined, IsSame};
+ghost use Rattle.sm_arena.specs.Sizes.{sizes_in, joined_in, next_size, size_holding, least_after, HasGrown};
 
-use crate::chunk::Chunk;
+use crate::arena_block::ArenaBlock;
 use crate::span::Span;
 use std::alloc::{AllocError, Global};
 
@@ -12,14 +12,15 @@ use std::alloc::{AllocError, Global};
 #[derive(Drop)]
 pub(crate) struct Blocks {
     alloc: Global,
-    pub(crate) blocks: Vec<Chunk>,
+    pub(crate) blocks: Vec<ArenaBlock>,
     // The place of the block that short pieces are written into.
     filling: u32,
-    // The least size of the next block.
+    // The least size of the next block that is made.
     least: u32,
     // The sum of the blocks' sizes.
     held: u128,
-    ghost tied: { (least ≡ next_size (sizes_in blocks.items)) × (held ≡ sum (sizes_in blocks.items)) },
+    ghost tied: { (least ≡ next_size (sizes_in blocks.items))
+        × (held ≡ sum (sizes_in blocks.items) + sum (joined_in blocks.items)) },
 }
 
 const FIRST_BYTES: u32 = 1_024;
@@ -53,7 +54,7 @@ impl Blocks {
 
     /// The sum of the blocks' sizes.
     pub(crate) fn held(&self) -> u128
-        ensures { result ≡ sum (sizes_in self.now.blocks.items) }
+        ensures { result ≡ sum (sizes_in self.now.blocks.items) + sum (joined_in self.now.blocks.items) }
     {
         self.held
     }
@@ -64,8 +65,8 @@ impl Blocks {
             IsWriting (chunks_in self.old.blocks.items) piece.now span (chunks_in self.new.blocks.items)) }
         ensures sizes { OnOk result
             (HasGrown (sizes_in self.old.blocks.items) (length piece.now) (sizes_in self.new.blocks.items)) }
-        ensures err { OnErr result ((chunks_in self.new.blocks.items ≡ chunks_in self.old.blocks.items)
-            × (sizes_in self.new.blocks.items ≡ sizes_in self.old.blocks.items)) }
+        ensures joined { OnOk result (joined_in self.new.blocks.items ≡ joined_in self.old.blocks.items) }
+        ensures err { OnErr result (self.new.blocks.items ≡ self.old.blocks.items) }
     {
         if piece.is_empty() {
             return Ok(NOTHING);
@@ -87,8 +88,8 @@ impl Blocks {
         ensures sizes { OnOk result
             (HasGrown (sizes_in self.old.blocks.items) (length first.now + length second.now)
             (sizes_in self.new.blocks.items)) }
-        ensures err { OnErr result ((chunks_in self.new.blocks.items ≡ chunks_in self.old.blocks.items)
-            × (sizes_in self.new.blocks.items ≡ sizes_in self.old.blocks.items)) }
+        ensures joined { OnOk result (joined_in self.new.blocks.items ≡ joined_in self.old.blocks.items) }
+        ensures err { OnErr result (IsSame self.old.blocks.items self.new.blocks.items) }
     {
         let length = first.len() + second.len();
         if length == 0 {
@@ -111,8 +112,8 @@ impl Blocks {
             (HasGrown (sizes_in self.old.blocks.items)
             (length (bytes_at (chunks_in self.old.blocks.items) head ++ tail.now))
             (sizes_in self.new.blocks.items)) }
-        ensures err { OnErr result ((chunks_in self.new.blocks.items ≡ chunks_in self.old.blocks.items)
-            × (sizes_in self.new.blocks.items ≡ sizes_in self.old.blocks.items)) }
+        ensures joined { OnOk result (joined_in self.new.blocks.items ≡ joined_in self.old.blocks.items) }
+        ensures err { OnErr result (IsSame self.old.blocks.items self.new.blocks.items) }
     {
         if head.length == 0 {
             return self.write(tail);
@@ -138,11 +139,12 @@ impl Blocks {
             IsWriting (chunks_in self.old.blocks.items) piece.items span (chunks_in self.new.blocks.items)) }
         ensures chunks { OnOk result
             (chunks_in self.new.blocks.items ≡ chunks_in self.old.blocks.items ++ piece.items ∷ []) }
-        ensures sizes { OnOk result
-            (sizes_in self.new.blocks.items ≡ sizes_in self.old.blocks.items ++ length piece.items ∷ []) }
+        ensures sizes { OnOk result (sizes_in self.new.blocks.items ≡ sizes_in self.old.blocks.items) }
+        ensures joined { OnOk result
+            (joined_in self.new.blocks.items ≡ joined_in self.old.blocks.items ++ vec_capacity piece ∷ []) }
+        ensures ends { OnOk result (EndsJoined self.new.blocks.items) }
         ensures back { IfErr result (λ refused. refused.0.items ≡ piece.items) }
-        ensures err { OnErr result ((chunks_in self.new.blocks.items ≡ chunks_in self.old.blocks.items)
-            × (sizes_in self.new.blocks.items ≡ sizes_in self.old.blocks.items)) }
+        ensures err { OnErr result (IsSame self.old.blocks.items self.new.blocks.items) }
     {
         let Ok(place) = u32::try_from(self.blocks.len()) else {
             return Err((piece, AllocError));
@@ -150,11 +152,12 @@ impl Blocks {
         if let Err(refused) = self.blocks.reserve(1) {
             return Err((piece, refused));
         }
-        match Chunk::of(piece) {
+        match ArenaBlock::of(piece) {
             Err(piece) => Err((piece, AllocError)),
             Ok(block) => {
                 let length = block.used();
-                self.add(block);
+                self.held += block.size() as u128;
+                self.blocks.push_reserved(block);
                 Ok(Span {
                     chunk: place,
                     start: 0,
@@ -175,17 +178,16 @@ impl Blocks {
             IsWritingPair (chunks_in self.old.blocks.items) joined.items written.now spans
             (chunks_in self.new.blocks.items)) }
         ensures sizes { OnOk result
-            (HasGrown (sizes_in self.old.blocks.items ++ length joined.items ∷ []) (length written.now)
-            (sizes_in self.new.blocks.items)) }
+            (HasGrown (sizes_in self.old.blocks.items) (length written.now) (sizes_in self.new.blocks.items)) }
+        ensures joined { OnOk result
+            (joined_in self.new.blocks.items ≡ joined_in self.old.blocks.items ++ vec_capacity joined ∷ []) }
         ensures back { IfErr result (λ refused. refused.0.items ≡ joined.items) }
-        ensures err { OnErr result ((chunks_in self.new.blocks.items ≡ chunks_in self.old.blocks.items)
-            × (sizes_in self.new.blocks.items ≡ sizes_in self.old.blocks.items)) }
+        ensures err { OnErr result (IsSame self.old.blocks.items self.new.blocks.items) }
     {
-        let least = self.least;
         let first = self.join(joined)?;
         match self.write(written) {
             Ok(second) => Ok((first, second)),
-            Err(refused) => Err((self.part(least), refused)),
+            Err(refused) => Err((self.part(), refused)),
         }
     }
 
@@ -269,17 +271,32 @@ impl Blocks {
     }
 
     // The place of a block into which so many bytes can be written: the one that is being filled, or a new one.
+    // Each piece asks for it, so only a new block costs a call.
+    #[inline(always)]
     fn block_for(&mut self, count: usize) -> Result<u32, AllocError>
         requires { 0 < count }
         ensures room { IfOk result (λ place. HasSpace self.new.blocks.items place count) }
         ensures grown { IsGrown (chunks_in self.old.blocks.items) (chunks_in self.new.blocks.items) }
         ensures sizes { OnOk result (HasGrown (sizes_in self.old.blocks.items) count (sizes_in self.new.blocks.items)) }
-        ensures err { OnErr result ((chunks_in self.new.blocks.items ≡ chunks_in self.old.blocks.items)
-            × (sizes_in self.new.blocks.items ≡ sizes_in self.old.blocks.items)) }
+        ensures joined { OnOk result (joined_in self.new.blocks.items ≡ joined_in self.old.blocks.items) }
+        ensures err { OnErr result (self.new.blocks.items ≡ self.old.blocks.items) }
     {
         if self.has_room(count) {
             return Ok(self.filling);
         }
+        self.new_block(count)
+    }
+
+    // The place of a new block, into which so many bytes can be written.
+    #[inline(never)]
+    fn new_block(&mut self, count: usize) -> Result<u32, AllocError>
+        requires { 0 < count }
+        ensures room { IfOk result (λ place. HasSpace self.new.blocks.items place count) }
+        ensures grown { IsGrown (chunks_in self.old.blocks.items) (chunks_in self.new.blocks.items) }
+        ensures sizes { OnOk result (HasGrown (sizes_in self.old.blocks.items) count (sizes_in self.new.blocks.items)) }
+        ensures joined { OnOk result (joined_in self.new.blocks.items ≡ joined_in self.old.blocks.items) }
+        ensures err { OnErr result (self.new.blocks.items ≡ self.old.blocks.items) }
+    {
         let (Ok(place), Ok(count)) = (u32::try_from(self.blocks.len()), u32::try_from(count)) else {
             return Err(AllocError);
         };
@@ -298,42 +315,34 @@ impl Blocks {
         ensures chunks { OnOk result
             (chunks_in self.new.blocks.items ≡ chunks_in self.old.blocks.items ++ replicate 1 []) }
         ensures sizes { OnOk result (sizes_in self.new.blocks.items ≡ sizes_in self.old.blocks.items ++ size ∷ []) }
-        ensures err { OnErr result ((chunks_in self.new.blocks.items ≡ chunks_in self.old.blocks.items)
-            × (sizes_in self.new.blocks.items ≡ sizes_in self.old.blocks.items)) }
+        ensures joined { OnOk result (joined_in self.new.blocks.items ≡ joined_in self.old.blocks.items) }
+        ensures err { OnErr result (self.new.blocks.items ≡ self.old.blocks.items) }
     {
         self.blocks.reserve(1)?;
-        let block = Chunk::new(self.alloc, size)?;
-        self.add(block);
+        let block = ArenaBlock::new(self.alloc, size)?;
+        self.held += size as u128;
+        self.least = next_least(self.least, size);
+        self.blocks.push_reserved(block);
         Ok(())
     }
 
-    // Puts a block at the end, where there is a place for it.
-    fn add(&mut self, block: Chunk)
-        requires { vec_len self.old.blocks < vec_capacity self.old.blocks }
-        ensures blocks { self.new.blocks.items ≡ self.old.blocks.items ++ block ∷ [] }
-    {
-        self.held += block.size() as u128;
-        self.least = next_least(self.least, block.size());
-        self.blocks.push_reserved(block);
-    }
-
-    // Takes the last block's memory back, where the least size of the next block was `least` before it.
-    fn part(&mut self, least: u32) -> Vec<u8>
+    // Takes the last block's memory back.
+    fn part(&mut self) -> Vec<u8>
         requires some { 0 < length self.old.blocks.items }
-        requires least { (sizes : List ℕ) (size : ℕ) → sizes_in self.old.blocks.items ≡ sizes ++ size ∷ []
-            → least ≡ next_size sizes }
+        requires joined { EndsJoined self.old.blocks.items }
         ensures chunks { chunks_in self.old.blocks.items ≡ chunks_in self.new.blocks.items ++ result.items ∷ [] }
-        ensures sizes { (size : ℕ) × (sizes_in self.old.blocks.items ≡ sizes_in self.new.blocks.items ++ size ∷ []) }
+        ensures sizes { sizes_in self.new.blocks.items ≡ sizes_in self.old.blocks.items }
+        ensures joined { (size : ℕ)
+            × (joined_in self.old.blocks.items ≡ joined_in self.new.blocks.items ++ size ∷ []) }
     {
         let block = self.blocks.take_last();
         self.held -= block.size() as u128;
-        self.least = least;
         block.into_bytes()
     }
 }
 
 // The bytes at a span inside the blocks.
-fn piece_in(blocks: &[Chunk], span: Span) -> &[u8]
+fn piece_in(blocks: &[ArenaBlock], span: Span) -> &[u8]
     requires { length (bytes_at (chunks_in blocks.now) span) ≡ span.length }
     ensures { result.now ≡ bytes_at (chunks_in blocks.now) span }
 {
@@ -345,7 +354,7 @@ fn piece_in(blocks: &[Chunk], span: Span) -> &[u8]
 }
 
 // Writes the bytes at a span of an earlier block into a block that has room for them.
-fn copy_up(blocks: &mut [Chunk], span: Span, place: u32)
+fn copy_up(blocks: &mut [ArenaBlock], span: Span, place: u32)
     requires inside { length (bytes_at (chunks_in blocks.old) span) ≡ span.length }
     requires room { HasSpace blocks.old place span.length }
     requires earlier { span.chunk < place }
@@ -377,7 +386,7 @@ fn next_least(least: u32, size: u32) -> u32
     ensures { result ≡ least_after least size }
 {
     if size <= BLOCK_BYTES {
-        return least.max(BLOCK_BYTES.min(size.saturating_mul(2)));
+        return least.max(BLOCK_BYTES.min(size * 2));
     }
     least
 }

@@ -1,113 +1,88 @@
-ghost use Rattle.std.specs.Prelude.{◌≡◌, ◌+◌, ◌<◌, ◌≤◌, ◌^◌, [], ◌++◌, length, IfOk, IfErr};
+// The functions with pointers. Each is proved by hand, and the rest of the crate is safe code over them.
+ghost use Rattle.std.specs.Prelude.{◌≡◌, ◌+◌, ◌<◌, ◌≤◌, ◌^◌, ℕ, List, [], ◌++◌, length, IfSome};
+ghost use Rattle.sm_arena.specs.Ownership.{chunk_owns, chunk_lends};
 
-use std::alloc::{AllocError, Global};
+use std::alloc::Allocator;
+use std::marker::{Model, PhantomData};
 
-/// Memory that is filled from its start. It never grows, so what is written stays where it lies.
-#[derive(Drop)]
-pub(crate) struct Chunk {
-    bytes: Vec<u8>,
-    used: u32,
-    size: u32,
-    ghost whole: { size ≡ length bytes.items },
-    ghost filled: { used ≤ size },
-    ghost small: { size < 2 ^ 32 },
+/// Raw memory that is filled from its start and never moves. It isn't `Drop`: its owner must end it by [`Chunk::free`],
+/// with the allocator that made it.
+pub(crate) struct Chunk<A: Allocator> {
+    at: *mut u8,
+    size: usize,
+    used: usize,
+    marker: PhantomData<*const A>,
+    pub ghost alloc: { A },
+    pub ghost bytes: { List ℕ },
+    ghost fits: { (used ≡ length bytes) × (used ≤ size) × (size < 2 ^ 63) },
 }
 
-impl Chunk {
-    ghost use Rattle.sm_arena.specs.Chunk.{written_in};
+impl<A: Allocator> Model for Chunk<A> {
+    ghost also_owns = { λ c. chunk_owns (A.dealloc_token c.alloc) c.at c.size c.used c.bytes };
 
-    /// A chunk of so many bytes with nothing written.
-    pub(crate) fn new(alloc: Global, size: u32) -> Result<Chunk, AllocError>
-        ensures { IfOk result (λ chunk. (chunk.size ≡ size) × (written_in chunk ≡ [])) }
-    {
-        // Bytes that nobody wrote can't be told from others, so they are zeros.
-        let bytes = Vec::from_elem(alloc, 0, size as usize)?;
-        Ok(Chunk {
-            bytes,
-            used: 0,
-            size,
-        })
-    }
+    ghost also_shares = { λ c _ κ. chunk_lends c.at c.used c.bytes κ };
+}
 
-    /// The bytes as a chunk in which all is written; or they come back, where they are 2^32 or more.
-    pub(crate) fn of(bytes: Vec<u8>) -> Result<Chunk, Vec<u8>>
-        ensures size { IfOk result (λ chunk. chunk.size ≡ length bytes.items) }
-        ensures written { IfOk result (λ chunk. written_in chunk ≡ bytes.items) }
-        ensures err { IfErr result (λ back. back.items ≡ bytes.items) }
+unsafe impl<A: Allocator + Send> Send for Chunk<A> {}
+
+unsafe impl<A: Allocator + Sync> Sync for Chunk<A> {}
+
+impl<A: Allocator> Chunk<A> {
+    /// Makes a chunk of so many bytes, in which nothing is written. Returns `None` if memory is refused.
+    pub(crate) fn make(alloc: &A, size: usize) -> Option<Chunk<A>>
+        requires { size < 2 ^ 63 }
+        ensures { IfSome result (λ chunk. (chunk.alloc ≡ alloc.now) × (chunk.size ≡ size) × (chunk.bytes ≡ [])) }
     {
-        match u32::try_from(bytes.len()) {
-            Ok(size) => Ok(Chunk {
-                bytes,
-                used: size,
+        match alloc.allocate(size, 1) {
+            Ok(at) => Some(Chunk {
+                at,
                 size,
+                used: 0,
+                marker: PhantomData,
             }),
-            Err(_) => Err(bytes),
+            Err(_) => None,
         }
     }
 
-    /// The bytes written so far, with the chunk's memory.
-    pub(crate) fn into_bytes(self) -> Vec<u8>
-        ensures { result.items ≡ written_in self }
+    /// Writes the piece after what is written so far.
+    pub(crate) fn write(&mut self, piece: &[u8])
+        requires { length self.old.bytes + length piece.now ≤ self.old.size }
+        ensures bytes { self.new.bytes ≡ self.old.bytes ++ piece.now }
+        ensures same { (self.new.size ≡ self.old.size) × (self.new.alloc ≡ self.old.alloc) }
     {
-        let mut bytes = self.bytes;
-        bytes.truncate(self.used as usize);
-        bytes
-    }
-
-    /// How many bytes it has room for in all.
-    pub(crate) fn size(&self) -> u32
-        ensures { result ≡ self.now.size }
-    {
-        self.size
-    }
-
-    /// The bytes written so far.
-    pub(crate) fn written(&self) -> &[u8]
-        ensures { result.now ≡ written_in self.now }
-    {
-        &self.bytes[..self.used as usize]
-    }
-
-    /// How many bytes are written so far.
-    pub(crate) fn used(&self) -> u32
-        ensures { result ≡ length (written_in self.now) }
-    {
-        self.used
-    }
-
-    /// How many bytes can still be written.
-    pub(crate) fn room(&self) -> usize
-        ensures { length (written_in self.now) + result ≡ self.now.size }
-    {
-        (self.size - self.used) as usize
-    }
-
-    /// Writes the piece after what is written so far, and answers its length.
-    pub(crate) fn write(&mut self, piece: &[u8]) -> u32
-        requires { length (written_in self.old) + length piece.now ≤ self.old.size }
-        ensures bytes { written_in self.new ≡ written_in self.old ++ piece.now }
-        ensures same { self.new.size ≡ self.old.size }
-        ensures length { result ≡ length piece.now }
-    {
-        let length = piece.len() as u32;
+        let count = piece.len();
         let used = self.used;
-        write_over(
-            &mut self.bytes[used as usize..(used + length) as usize],
-            piece,
-        );
-        self.used = used + length;
-        length
+        let mut i = 0;
+        unsafe {
+            let from = piece.as_ptr();
+            let to = self.at.add(used);
+            // LLVM widens this loop to many bytes a turn. `copy_nonoverlapping` moves values out of its source, and
+            // this piece is only lent.
+            while i < count {
+                to.add(i).write(from.add(i).read());
+                i += 1;
+            }
+        }
+        self.used = used + count;
     }
-}
 
-// Writes the piece over as many bytes. For short pieces this loop is faster than a call of `memcpy`.
-fn write_over(bytes: &mut [u8], piece: &[u8])
-    requires { length bytes.old ≡ length piece.now }
-    ensures { bytes.new ≡ piece.now }
-{
-    let mut i = 0;
-    while i < piece.len() {
-        bytes[i] = piece[i];
-        i += 1;
+    /// Lends the bytes written so far.
+    pub(crate) fn bytes(&self) -> &[u8]
+        ensures { result.now ≡ self.now.bytes }
+    {
+        unsafe { std::slice::from_raw_parts(self.at, self.used) }
+    }
+
+    /// Gives the memory back to the allocator that it came from.
+    pub(crate) fn free(self, alloc: &A)
+        requires { self.alloc ≡ alloc.now }
+    {
+        let Chunk {
+            at,
+            size,
+            used: _,
+            marker: _,
+        } = self;
+        unsafe { alloc.deallocate(at, size, 1) }
     }
 }

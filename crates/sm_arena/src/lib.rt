@@ -14,8 +14,11 @@
 #![tactic(auto)]
 
 pub mod arena;
+mod arena_block;
 mod blocks;
 mod chunk;
+mod memory;
+mod owned_chunk;
 pub mod span;
 
 pub use arena::Arena;

@@ -11,7 +11,7 @@ use crate::reply::Reply;
 use crate::request::Request;
 use sm_body::logged::Logged;
 use sm_body::machine::Machine;
-use sm_map::arena_map::{ArenaMap, LONG_TEXT};
+use sm_map::arena_map::ArenaMap;
 use sm_map::val::Val;
 use std::alloc::{AllocError, Global};
 use std::marker::Model;
@@ -25,6 +25,11 @@ pub const MAX_SCANNED: usize = 100;
 /// Where more bytes than this are dead, and more than live, a request that may place bytes (`put`, `append`, `inc`)
 /// first moves the map into fresh memory, unless that is refused. No clause says so.
 pub const MAX_DEAD: u128 = 65_536;
+
+// If a request owns a text of so many bytes or more, the map keeps its memory. A shorter one is copied, because memory
+// of its own takes more than a copy beside others. A text whose memory is more than twice as long is copied too,
+// because the spare room would be held until the map moves, and counts nowhere as dead.
+const LEAST_JOINED_BYTES: usize = 4_096;
 
 /// The sample service: texts and counts by key.
 pub type CounterText = Logged<KeyMachine>;
@@ -206,7 +211,7 @@ fn put_owned(map: &mut ArenaMap, key: &[u8], text: Vec<u8>) -> Result<Reply, (Ve
     if is_too_long(text.len()) {
         return Ok(Reply::TooLong);
     }
-    if text.len() >= LONG_TEXT {
+    if text.len() >= LEAST_JOINED_BYTES && text.capacity() <= 2 * text.len() {
         map.put_owned_at(position, text)?;
         return Ok(Reply::Done);
     }

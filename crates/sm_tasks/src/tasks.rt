@@ -1,5 +1,4 @@
-ghost use Rattle.std.specs.Prelude.{◌≡◌, ◌≤◌, OnErr, OnOk};
-ghost use Rattle.sm_ranges.specs.declared.limits.TheConstants.{MAX_SERVER};
+ghost use Rattle.std.specs.Prelude.{◌≡◌, OnErr, OnOk};
 ghost use Rattle.sm_place.specs.Books.{IsKnown, with_state};
 ghost use Rattle.sm_place.specs.declared.server_state.ServerState.TheVariants.{Approved, Asked, Failed, Stopped, Up};
 ghost use Rattle.sm_tasks.specs.Approvals.{approvable, askable, failable, returnable, stoppable};
@@ -21,23 +20,18 @@ pub struct Tasks {
 }
 
 impl Model for Tasks {
-    ghost use Rattle.std.specs.Prelude.{◌≤◌};
-    ghost use Rattle.sm_ranges.specs.declared.limits.TheConstants.{MAX_SERVER};
     ghost use Rattle.sm_tasks.specs.Caps.{RestartCaps};
 
     ghost Value = { RestartCaps };
 
     ghost view = { λ tasks. record { ops = tasks.ops } };
 
-    ghost invariant = { λ tasks. tasks.ops ≤ MAX_SERVER };
-
     ghost inverse = { λ caps. record { ops = caps.ops } };
 }
 
 impl Tasks {
-    /// Steps where at most `ops` servers, 0 to 4,095, may be approved to restart, stopped or failed for an approval.
+    /// Returns steps that approve a restart only if at most `ops` servers are then approved, stopped or failed.
     pub fn new(ops: u16) -> Tasks
-        requires { ops ≤ MAX_SERVER }
         ensures { result.ops ≡ ops }
     {
         Tasks { ops }

@@ -191,6 +191,47 @@ fn memory_joins(rt: HostRuntime) {
     assert!(rt; shelf.bytes() == 3 + 5_000 + 5_000 + 3 && shelf.held() == 1_024 + 10_000);
 }
 
+// So many bytes, with room for more behind them.
+fn roomy(rt: &impl Abort, alloc: Global, count: usize, capacity: usize) -> Vec<u8> {
+    let mut roomy = Vec::with_capacity(alloc, capacity)
+        .ok()
+        .expect(rt, "memory");
+    let piece = bytes(rt, alloc, 3, count);
+    assert!(*rt; roomy.extend_from_slice(&piece).is_ok());
+    roomy
+}
+
+// What joins is held with its spare room, into which nothing is written.
+#[test]
+fn spare_room_of_joined_memory_is_held(rt: HostRuntime) {
+    let mut shelf = new_shelf(&rt, rt.alloc(), b"abc");
+    let long = bytes(&rt, rt.alloc(), 3, 5_000);
+    let piece = roomy(&rt, rt.alloc(), 5_000, 9_000);
+    assert!(rt; shelf.join(piece).is_ok() && shelf.held() == 1_024 + 9_000);
+    assert!(rt; shelf.place_further(b"short").is_ok() && shelf.held() == 1_024 + 9_000);
+    assert!(rt; shelf.place_further(&long).is_ok() && shelf.held() == 1_024 + 9_000 + 8_192);
+    assert!(rt; shelf.last() == long.as_slice() && shelf.first() == b"abc".as_slice());
+}
+
+// Joins the one piece and places the other, and tells how many bytes the arena then holds.
+fn held_with_both(arena: &mut Arena, joined: Vec<u8>, placed: &[u8]) -> Option<u128> {
+    match arena.join_and_place(joined, placed) {
+        Ok(_) => Some(arena.held()),
+        Err(_) => None,
+    }
+}
+
+// The chunks that the arena makes have the sizes that they had if nothing had joined.
+#[test]
+fn joined_memory_changes_no_size(rt: HostRuntime) {
+    let mut arena = Arena::new(rt.alloc());
+    let first = bytes(&rt, rt.alloc(), 3, 33_000);
+    let second = bytes(&rt, rt.alloc(), 5, 33_000);
+    assert!(rt; arena.join(first).is_ok() && arena.held() == 33_000);
+    assert!(rt; held_with_both(&mut arena, second, b"key") == Some(66_000 + 1_024));
+    assert!(rt; held_with(&rt, rt.alloc(), &mut arena, 1_024) == 66_000 + 1_024 + 2_048);
+}
+
 // Whether the shelf, which is dropped here, has these pieces first and last.
 fn ends_with(shelf: Shelf, first: &[u8], last: &[u8]) -> bool {
     shelf.first() == first && shelf.last() == last
@@ -206,6 +247,20 @@ fn arena_goes_to_a_thread(rt: HostRuntime) {
         &rt,
         move || ends_with(shelf, b"abc", &long),
         move || ends_with(other, b"there", b"there"),
+    );
+    assert!(rt; first && second);
+}
+
+// Two threads read one arena at once.
+#[test]
+fn threads_share_an_arena(rt: HostRuntime) {
+    let long = bytes(&rt, rt.alloc(), 3, 70_000);
+    let mut shelf = new_shelf(&rt, rt.alloc(), b"abc");
+    assert!(rt; shelf.place(&long).is_ok());
+    let (first, second) = thread::join(
+        &rt,
+        || shelf.first() == b"abc".as_slice(),
+        || shelf.last() == long.as_slice(),
     );
     assert!(rt; first && second);
 }

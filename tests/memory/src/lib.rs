@@ -1,4 +1,4 @@
-//! Tests of what proofs alone read, the arena, the key map over it, a box's parts, and the published map.
+//! Tests of what proofs alone read, the arena, the key map over it, a box's parts, and the published maps.
 #![tactic(auto)]
 
 #[cfg(test)]
@@ -11,3 +11,5 @@ mod parts;
 mod publish;
 #[cfg(test)]
 mod trace;
+#[cfg(test)]
+mod words;

@@ -105,18 +105,23 @@ fn has_blocks(map: &ArenaMap, lengths: &[usize]) -> bool {
     map.blocks() == lengths.len()
 }
 
-// A map of so many keys that came in this order.
-fn map_of(rt: &impl Abort, alloc: Global, order: Order, count: u32) -> ArenaMap {
-    filled(alloc, order, count).ok().expect(rt, "a map")
+// A map of the first so many keys.
+fn first_keys(rt: &impl Abort, alloc: Global, count: u32) -> ArenaMap {
+    filled(alloc, Order::Rising, count).ok().expect(rt, "a map")
 }
 
-// The 65th key splits the one full block: it stays in its half, or goes alone where it comes last.
+// The 65th key splits the one full block.
 #[test]
 fn blocks_split(rt: HostRuntime) {
-    let falling = map_of(&rt, rt.alloc(), Order::Falling, 65);
-    assert!(rt; has_blocks(&falling, &[33, 32]));
-    let rising = map_of(&rt, rt.alloc(), Order::Rising, 65);
-    assert!(rt; has_blocks(&rising, &[64, 1]));
+    let map = first_keys(&rt, rt.alloc(), 65);
+    assert!(rt; has_blocks(&map, &[32, 33]));
+}
+
+// The same where it comes before all others.
+#[test]
+fn blocks_split_below(rt: HostRuntime) {
+    let map = filled(rt.alloc(), Order::Falling, 65).ok();
+    assert!(rt; has_blocks(&map.expect(&rt, "a map"), &[33, 32]));
 }
 
 // Whether the one block goes with its last pair.
@@ -129,21 +134,41 @@ fn goes_empty(map: &mut ArenaMap) -> bool {
 
 #[test]
 fn empty_blocks_go(rt: HostRuntime) {
-    let mut map = map_of(&rt, rt.alloc(), Order::Rising, 1);
+    let mut map = first_keys(&rt, rt.alloc(), 1);
     assert!(rt; goes_empty(&mut map));
 }
 
 // A copy's blocks are full, but for the last one.
 #[test]
 fn copies_fill_blocks(rt: HostRuntime) {
-    let map = map_of(&rt, rt.alloc(), Order::Falling, 130);
-    assert!(rt; has_blocks(&map, &[34, 32, 32, 32]));
+    let map = first_keys(&rt, rt.alloc(), 130);
+    assert!(rt; has_blocks(&map, &[32, 32, 32, 34]));
     let copy = map.copy().ok().expect(&rt, "a copy");
     assert!(rt; has_blocks(&copy, &[64, 64, 2]));
 }
 
 // The put splits the one full block.
 fn splits_in_two(rt: &impl Abort, map: &mut ArenaMap) {
+    let (first, last) = (0u32.to_be_bytes(), 99u32.to_be_bytes());
+    let steps = [
+        Step::Put(&last, Val::Text(b"text")),
+        Step::Append(&last, b"s"),
+        Step::Remove(&first),
+    ];
+    make_all_in_two(rt, map, &steps);
+    assert!(*rt; has_blocks(map, &[31, 33]) && map.dead() == 8);
+}
+
+// Passes with each allocation refused in turn (`tools/run-tests` does it).
+#[test]
+fn blocks_keep_what_memory_refuses(rt: HostRuntime) {
+    if let Ok(mut map) = filled(rt.alloc(), Order::Rising, 64) {
+        splits_in_two(&rt, &mut map);
+    }
+}
+
+// The put splits the one full block, and what room its upper half gives back is memory's to refuse.
+fn splits_below_in_two(rt: &impl Abort, map: &mut ArenaMap) {
     let (first, last) = (0u32.to_be_bytes(), (KEYS - 1).to_be_bytes());
     let steps = [
         Step::Put(&first, Val::Text(b"text")),
@@ -154,11 +179,11 @@ fn splits_in_two(rt: &impl Abort, map: &mut ArenaMap) {
     assert!(*rt; has_blocks(map, &[33, 31]) && map.dead() == 8);
 }
 
-// Passes with each allocation refused in turn (`tools/run-tests` does it).
+// Passes with each allocation refused in turn, too.
 #[test]
-fn blocks_keep_what_memory_refuses(rt: HostRuntime) {
+fn halves_keep_what_memory_refuses(rt: HostRuntime) {
     if let Ok(mut map) = filled(rt.alloc(), Order::Falling, 64) {
-        splits_in_two(&rt, &mut map);
+        splits_below_in_two(&rt, &mut map);
     }
 }
 

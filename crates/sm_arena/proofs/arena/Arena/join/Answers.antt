@@ -1,5 +1,5 @@
 use Rattle.std.proofs.Common.{arith}
-use Rattle.sm_arena.specs.Chunks.{chunks_of, sizes_of}
+use Rattle.sm_arena.specs.Chunks.{chunks_of, sizes_of, joined_of}
 use Rattle.sm_arena.proofs.Chunks.{total_fits}
 use Rattle.sm_arena.proofs.Placing.{held_written, is_placing_written}
 use Rattle.sm_arena.proofs.arena.Arena.join.Goals as goal
@@ -13,13 +13,15 @@ pub invariant_of-self-2 : goal.invariant_of-self-2
 invariant_of-self-2 c =
     rw (c.push.ensures, c.len-count.ensures, c.args.piece.ok.0)
     (held_written (chunks_of c.self.inside.blocks) (chunks_of c.join.new.self) (sizes_of c.self.inside.blocks)
-    (sizes_of c.join.new.self) c.self.inside.live c.self.inside.gone c.self.inside.placed.items
+    (sizes_of c.join.new.self) (joined_of c.self.inside.blocks) (joined_of c.join.new.self) c.self.inside.live
+    c.self.inside.gone c.self.inside.placed.items
     c.self.inside.forgotten.items c.self.invariant c.in_ok-span.span c.args.piece.items c.in_ok-span.ensures.written)
 
 pub returns-clause-placed : goal.returns-clause-placed
 returns-clause-placed c =
     rw (← c.self.view_is, c.push.ensures) (
     is_placing_written (chunks_of c.self.inside.blocks) (chunks_of c.join.new.self) (sizes_of c.self.inside.blocks)
-    (sizes_of c.join.new.self) c.self.inside.live c.self.inside.gone c.self.inside.placed.items
+    (sizes_of c.join.new.self) (joined_of c.self.inside.blocks) (joined_of c.join.new.self) c.self.inside.live
+    c.self.inside.gone c.self.inside.placed.items
     c.self.inside.forgotten.items c.self.invariant c.in_ok-span.span c.args.piece.items c.in_ok-span.ensures.written
     )

@@ -1,5 +1,5 @@
 use Rattle.std.proofs.Common.{arith}
-use Rattle.sm_arena.specs.Chunks.{chunks_of, sizes_of}
+use Rattle.sm_arena.specs.Chunks.{chunks_of, sizes_of, joined_of}
 use Rattle.sm_arena.proofs.Chunks.{total_fits}
 use Rattle.sm_arena.proofs.Placing.{held_pair, is_placing_pair}
 use Rattle.sm_arena.proofs.arena.Arena.place_pair.Goals as goal
@@ -34,7 +34,8 @@ pub invariant_of-self-2 : goal.invariant_of-self-2
 invariant_of-self-2 c =
     rw (c.push-2.ensures, c.push.ensures) (
     held_pair (chunks_of c.self.inside.blocks) (chunks_of c.write_pair.new.self) (sizes_of c.self.inside.blocks)
-    (sizes_of c.write_pair.new.self) c.self.inside.live c.self.inside.gone c.self.inside.placed.items
+    (sizes_of c.write_pair.new.self) (joined_of c.self.inside.blocks) (joined_of c.write_pair.new.self)
+    c.self.inside.live c.self.inside.gone c.self.inside.placed.items
     c.self.inside.forgotten.items c.self.invariant c.in_ok-first_span.first_span c.in_ok-first_span.second_span
     c.args.first.now c.args.second.now c.in_ok-first_span.ensures.written
     )
@@ -43,7 +44,8 @@ pub returns-clause-placed : goal.returns-clause-placed
 returns-clause-placed c =
     rw (← c.self.view_is, c.push-2.ensures, c.push.ensures) (
     is_placing_pair (chunks_of c.self.inside.blocks) (chunks_of c.write_pair.new.self) (sizes_of c.self.inside.blocks)
-    (sizes_of c.write_pair.new.self) c.self.inside.live c.self.inside.gone c.self.inside.placed.items
+    (sizes_of c.write_pair.new.self) (joined_of c.self.inside.blocks) (joined_of c.write_pair.new.self)
+    c.self.inside.live c.self.inside.gone c.self.inside.placed.items
     c.self.inside.forgotten.items c.self.invariant c.in_ok-first_span.first_span c.in_ok-first_span.second_span
     c.args.first.now c.args.second.now c.in_ok-first_span.ensures.written
     )
