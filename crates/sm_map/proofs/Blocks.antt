@@ -3,9 +3,11 @@ use Rattle.std.proofs.Common.{◌≡◌, true, false, ℕ, zero, suc, ◌<◌, �
 use Rattle.std.proofs.Common.{get_or, set, take, drop, refl, sym, ap, ◌∙◌, arith, inl, inr, ◌⊎◌, append_assoc}
 use Rattle.std.specs.List.{between, insert, remove}
 use Rattle.std.proofs.lemmas.Bool.{cases_lt}
-use Rattle.std.proofs.lemmas.List.{length-map, length-take, length-drop, drop_all, take-append-drop, take-take}
-use Rattle.std.proofs.lemmas.List.{get_or-map, get_or_default, take-map, take_all, set_split, set-get_or}
-use Rattle.std.proofs.lemmas.List.{set-append_left, set-append_right, map-append, map-set}
+use Rattle.std.proofs.lemmas.List.{length-map, length-take, length-drop, take-append-drop, take-take}
+use Rattle.std.proofs.lemmas.List.{get_or-map, get_or_default, take-map, drop-map, take_all, set_split, set-get_or}
+use Rattle.std.proofs.lemmas.List.{set-append_left, set-append_right, map-append, map-set, length-set, length-append}
+use Rattle.std.proofs.lemmas.List.{get_or-set_other}
+use Rattle.std.proofs.lemmas.List.{get_or_append_left}
 use Rattle.std.proofs.lemmas.List.Concat.{flat_map-append, length-flat_map, get_or-flat_map}
 use Rattle.std.proofs.lemmas.List.Edits.{length-insert, length-between, get_or-between, insert-append_left}
 use Rattle.std.proofs.lemmas.List.Edits.{insert-append_right, remove-append_left, remove-append_right}
@@ -16,7 +18,8 @@ use Rattle.sm_map.specs.KeyEntry.{pair_of, pairs_of}
 use Rattle.sm_map.specs.Block.{BlockValue}
 use Rattle.std.proofs.lemmas.Bool.Decides.{nat_tests}
 use Rattle.sm_map.specs.Places.{precedes}
-use Rattle.sm_map.specs.Blocks.{entries_in, lengths_in, number_of, HasEntry, IsStop, IsSplit}
+use Rattle.sm_map.specs.Blocks.{entries_in, lengths_in, number_of, HasEntry, IsStop, IsSized, IsSplit}
+use Rattle.sm_map.specs.Blocks.{HasOneMore, IsEnd, IsPacked}
 use Rattle.sm_map.specs.declared.key_entry.KeyEntry.{KeyEntry}
 use Rattle.sm_map.specs.declared.place.Place.{Place}
 
@@ -42,6 +45,17 @@ length_there blocks b d lt = get_or-map size blocks b d 0 lt
 
 pub blocks_counted : (blocks : List BlockValue) → length (lengths_in blocks) ≡ length blocks
 blocks_counted blocks = length-map blocks size
+
+-- the lengths of the blocks with another one
+pub insert_lengths : (blocks : List BlockValue) (b : ℕ) (block : BlockValue)
+    → lengths_in (insert blocks b block) ≡ insert (lengths_in blocks) b (length block.entries)
+insert_lengths blocks b block =
+    map-append size (take b blocks) (block ∷ drop b blocks)
+    ∙ (λ i. sym (take-map size b blocks) i ++ size block ∷ sym (drop-map size b blocks) i)
+
+pub set_lengths : (blocks : List BlockValue) (b : ℕ) (block : BlockValue)
+    → lengths_in (set blocks b block) ≡ set (lengths_in blocks) b (length block.entries)
+set_lengths blocks b block = map-set size blocks b block
 
 -- the blocks with another one in the place of one
 pub with_block : (blocks : List BlockValue) (b : ℕ) (block : BlockValue) → b < length blocks → entries_in
@@ -173,9 +187,8 @@ module _ (xs : List KeyEntry) (at : ℕ) (e : KeyEntry) (lower upper : BlockValu
       record {
         joined = (λ i. low i ++ is_upper i) ∙ (sym (insert-append_left (take 32 xs) (drop 32 xs) at e (omega arith))
             ∙ ap (λ (l : List KeyEntry). insert l at e) (take-append-drop 32 xs));
-        low = (omega (arith, ap length low, longer), omega (arith, ap length low, longer));
-        high = (
-          omega (arith, ap length is_upper, length-drop 32 xs),
+        halves = inr (
+          omega (arith, ap length low, longer, front),
           omega (arith, ap length is_upper, length-drop 32 xs),
         );
       }
@@ -192,21 +205,16 @@ module _ (xs : List KeyEntry) (at : ℕ) (e : KeyEntry) (lower upper : BlockValu
         joined = (λ i. is_lower i ++ high i)
             ∙ (sym (insert-append_right (take 32 xs) (drop 32 xs) 32 at e front (omega arith))
             ∙ ap (λ (l : List KeyEntry). insert l at e) (take-append-drop 32 xs));
-        low = (omega (arith, ap length is_lower), omega (arith, ap length is_lower));
-        high = (omega (arith, ap length high, longer), omega (arith, ap length high, longer));
+        halves = inl (omega (arith, ap length is_lower, front), omega (arith, ap length high, longer, back));
       }
 
-  pub end_insert : at ≡ 64 → (cut : List KeyEntry) → cut ≡ [] → lower.entries ≡ xs → upper.entries ≡ insert cut 0 e
-      → IsSplit (insert xs at e) lower upper
-  end_insert end cut none is_lower is_upper =
-      let front : take at xs ≡ xs = take_all at xs (omega (arith, full, end)) in
-      let back : drop at xs ≡ [] = drop_all at xs (omega (arith, full, end)) in
-      let high : upper.entries ≡ e ∷ [] = is_upper ∙ ap (λ (l : List KeyEntry). insert l 0 e) none in
-      record {
-        joined = (λ i. is_lower i ++ high i) ∙ sym (λ i. front i ++ e ∷ back i);
-        low = (omega (arith, ap length is_lower, full), omega (arith, ap length is_lower, full));
-        high = (omega (arith, ap length high), omega (arith, ap length high));
-      }
+-- halves are blocks that an index may have
+pub half_sized : (entries : List KeyEntry) (lower upper : BlockValue) → IsSplit entries lower upper
+    → IsSized lower × IsSized upper
+half_sized entries lower upper cut = elim cut.halves [
+  | inl (low, high) ↦ ((omega (arith, low), omega (arith, low)), (omega (arith, high), omega (arith, high)))
+  | inr (low, high) ↦ ((omega (arith, low), omega (arith, low)), (omega (arith, high), omega (arith, high)))
+]
 
 -- ---- places
 
@@ -325,6 +333,31 @@ pub stop_has : (lengths : List ℕ) (place : Place) → IsStop lengths place →
     → HasEntry lengths place
 stop_has lengths place (inl has) less = has
 stop_has lengths place (inr end) less = absurd (omega (arith, end.0, less))
+
+-- an entry after all others leaves each block but the last full
+pub filled_more : (old new : List ℕ) (place : Place) → IsEnd old place → HasOneMore old place new → IsPacked old
+    → IsPacked new
+filled_more old new place (inl (last, room)) (inl (inside, short, is)) filled k less =
+    let long = ap (λ (l : List ℕ). length l) is ∙ length-set old place.block (get_or old place.block 0 + 1) in
+    ap (λ (l : List ℕ). get_or l k 0) is
+    ∙ (get_or-set_other old place.block k (get_or old place.block 0 + 1) 0
+    (λ same. omega (arith, same, last, less, long))
+    ∙ filled k (omega (arith, less, long)))
+filled_more old new place (inl (last, room)) (inr (inl (inside, full, is))) filled k less =
+    absurd (omega (arith, room, full))
+filled_more old new place (inl (last, room)) (inr (inr (behind, is))) filled k less =
+    absurd (omega (arith, last, behind))
+filled_more old new place (inr (past, all)) (inl (inside, short, is)) filled k less =
+    absurd (omega (arith, past, inside))
+filled_more old new place (inr (past, all)) (inr (inl (inside, full, is))) filled k less =
+    absurd (omega (arith, past, inside))
+filled_more old new place (inr (past, all)) (inr (inr (behind, is))) filled k less =
+    let long = ap (λ (l : List ℕ). length l) is ∙ length-append old (1 ∷ []) in
+    ap (λ (l : List ℕ). get_or l k 0) is
+    ∙ (get_or_append_left old (1 ∷ []) 0 k (omega (arith, less, long)) ∙ elim (cases_lt (k + 1) (length old)) [
+      | inl before ↦ filled k before
+      | inr after ↦ all k (omega (arith, less, long, after))
+    ])
 
 -- what the order of two places tells
 reads_before : (first second : Place) → precedes first second ≡ true

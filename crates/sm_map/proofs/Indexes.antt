@@ -11,12 +11,14 @@ use Rattle.std.proofs.lemmas.List.Elements.{All-set, All-take, All-drop, All-app
 use Rattle.std.proofs.lemmas.List.Sums.{sum_by-le}
 use Rattle.sm_map.specs.Block.{BlockValue}
 use Rattle.sm_map.specs.Blocks.{entries_in, lengths_in, number_of, HasEntry, IsGap, IsStop, IsSized, IsSplit}
+use Rattle.sm_map.specs.Blocks.{HasOneMore}
 use Rattle.sm_map.specs.Index.{IndexValue, IsIndex, IsReady}
 use Rattle.sm_map.specs.declared.key_entry.KeyEntry.{KeyEntry}
 use Rattle.sm_map.specs.declared.place.Place.{Place}
 use Rattle.sm_map.specs.declared.room.Room.{Room}
 use Rattle.sm_map.proofs.Blocks.{inserted, written, taken, unchanged, same_lengths, halved, dropped, number_inside}
-use Rattle.sm_map.proofs.Blocks.{past_number, blocks_counted, length_there, before_block, parts}
+use Rattle.sm_map.proofs.Blocks.{half_sized, insert_lengths, set_lengths, past_number, blocks_counted, length_there}
+use Rattle.sm_map.proofs.Blocks.{before_block, parts}
 
 -- a number of entries is far from overflow
 pub entries_bounded : (blocks : List BlockValue) → All IsSized blocks → length (entries_in blocks) ≤ length blocks * 64
@@ -109,6 +111,12 @@ module _ (blocks : List BlockValue) (len : ℕ) (kept : IsIndex blocks len) (pla
           ∙ sym (ap length set_entries ∙ length-set (entries_in blocks) (number_of (lengths_in blocks) place) e);
     }
 
+  here : get_or (lengths_in blocks) place.block 0 ≡ length old.entries
+  here = length_there blocks place.block old lt ∙ sym size
+
+  inside : place.block < length (lengths_in blocks)
+  inside = omega (arith, lt, blocks_counted blocks)
+
   gap_within : place.offset ≤ length old.entries → number_of (lengths_in blocks) place ≤ length (entries_in blocks)
   gap_within le = omega (
     arith,
@@ -130,6 +138,16 @@ module _ (blocks : List BlockValue) (len : ℕ) (kept : IsIndex blocks len) (pla
 
       longer : length new.entries ≡ length old.entries + 1
       longer = ap length is ∙ length-insert old.entries place.offset e within
+
+      pub longer_lengths : HasOneMore (lengths_in blocks) place (lengths_in (set blocks place.block new))
+      longer_lengths =
+          let more : length new.entries ≡ get_or (lengths_in blocks) place.block 0 + 1 = omega (arith, longer, here) in
+          inl (
+            inside,
+            omega (arith, here, short),
+            set_lengths blocks place.block new
+                ∙ ap (λ (n : ℕ). set (lengths_in blocks) place.block n) more,
+          )
 
       pub insert_kept : IsIndex (set blocks place.block new) (len + 1)
       insert_kept = record {
@@ -155,13 +173,34 @@ module _ (blocks : List BlockValue) (len : ℕ) (kept : IsIndex blocks len) (pla
           ∙ inserted blocks place old (record { entries = insert old.entries place.offset e; room = 0 }) lt e
           (omega (arith, within, size)) (ap (λ (x : BlockValue). insert x.entries place.offset e) read))
 
+      two_lengths : (low high : ℕ) → length new.entries ≡ low → length upper.entries ≡ high
+          → lengths_in (insert (set blocks place.block new) (place.block + 1) upper)
+          ≡ insert (set (lengths_in blocks) place.block low) (place.block + 1) high
+      two_lengths low high is_low is_high =
+          let one = set_lengths blocks place.block new
+          ∙ ap (λ (n : ℕ). set (lengths_in blocks) place.block n) is_low in
+          insert_lengths (set blocks place.block new) (place.block + 1) upper
+          ∙ (λ i. insert (one i) (place.block + 1) (is_high i))
+
+      pub half_lengths : length old.entries ≡ 64 → HasOneMore (lengths_in blocks) place
+          (lengths_in (insert (set blocks place.block new) (place.block + 1) upper))
+      half_lengths full = inr (inl (
+        inside,
+        omega (arith, here, full),
+        elim cut.halves [
+          | inl (low, high) ↦ inl (two_lengths 32 33 low high)
+          | inr (low, high) ↦ inr (two_lengths 33 32 low high)
+        ],
+      ))
+
       pub half_kept : IsIndex (insert (set blocks place.block new) (place.block + 1) upper) (len + 1)
       half_kept =
-          let one = All-set IsSized blocks place.block new cut.low kept.filled in
+          let sized = half_sized (insert old.entries place.offset e) new upper cut in
+          let one = All-set IsSized blocks place.block new sized.0 kept.filled in
           record {
             filled = All-append IsSized (take (place.block + 1) (set blocks place.block new)) _
                 (All-take IsSized (place.block + 1) (set blocks place.block new) one)
-                (All-cons IsSized upper (drop (place.block + 1) (set blocks place.block new)) cut.high
+                (All-cons IsSized upper (drop (place.block + 1) (set blocks place.block new)) sized.1
                 (All-drop IsSized (place.block + 1) (set blocks place.block new) one));
             counted = omega (
               arith,
@@ -221,6 +260,18 @@ module _ (blocks : List BlockValue) (len : ℕ) (kept : IsIndex blocks len) (pla
         counted = omega (arith, fewer, ap length gone_entries);
       }
 
+-- the last block is full
+pub last_full : (blocks : List BlockValue) (len : ℕ) → IsIndex blocks len → (b : ℕ) (block : BlockValue)
+    → b + 1 ≡ length blocks → block ≡ get_or blocks b block → 64 ≤ length block.entries → (k : ℕ)
+    → k + 1 ≡ length (lengths_in blocks) → get_or (lengths_in blocks) k 0 ≡ 64
+last_full blocks len kept b block last read most k end =
+    let lt : b < length blocks = omega (arith, last) in
+    let same : k ≡ b = omega (arith, end, last, blocks_counted blocks) in
+    let sized = subst (λ (x : BlockValue). IsSized x) (sym read) (kept.filled b block lt) in
+    let full : length (get_or blocks b block).entries ≡ 64 =
+    omega (arith, ap (λ (x : BlockValue). length x.entries) read, most, sized.1) in
+    ap (λ (n : ℕ). get_or (lengths_in blocks) n 0) same ∙ (length_there blocks b block lt ∙ full)
+
 -- a block with one entry comes behind the others
 module _ (blocks : List BlockValue) (len : ℕ) (kept : IsIndex blocks len) (place : Place) (last : BlockValue)
     (e : KeyEntry) (past : place.block ≡ length blocks) (first : place.offset ≡ 0) (one : last.entries ≡ e ∷ []) where
@@ -234,6 +285,16 @@ module _ (blocks : List BlockValue) (len : ℕ) (kept : IsIndex blocks len) (pla
       ∙ (flat_map-append (λ (b : BlockValue). b.entries) blocks (last ∷ [])
       ∙ (ap (λ (l : List KeyEntry). entries_in blocks ++ (l ++ [])) one
       ∙ sym (ap (λ (n : ℕ). insert (entries_in blocks) n e) number ∙ insert_end (entries_in blocks) e)))
+
+  pub behind_lengths : HasOneMore (lengths_in blocks) place (lengths_in (insert blocks place.block last))
+  behind_lengths =
+      let end : place.block ≡ length (lengths_in blocks) = omega (arith, past, blocks_counted blocks) in
+      let single : length last.entries ≡ 1 = ap length one in
+      inr (inr (
+        end,
+        insert_lengths blocks place.block last
+            ∙ ((λ i. insert (lengths_in blocks) (end i) (single i)) ∙ insert_end (lengths_in blocks) 1),
+      ))
 
   pub behind_kept : IsIndex (insert blocks place.block last) (len + 1)
   behind_kept = record {

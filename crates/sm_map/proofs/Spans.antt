@@ -154,7 +154,8 @@ record Forgot (v : ArenaValue) (span : Span) (w : ArenaValue) : Type 0 where
 
 forgot : (v : ArenaValue) (span : Span) → Forgot v span (forgetting v span)
 forgot v span = cond_both (eqb (length (bytes_of v.placed span)) 0) v
-    (record { placed = v.placed; forgotten = v.forgotten ++ span ∷ []; sizes = v.sizes }) (Forgot v span)
+    (record { placed = v.placed; forgotten = v.forgotten ++ span ∷ []; sizes = v.sizes; joined = v.joined })
+    (Forgot v span)
     (λ e. record {
       placed = refl;
       times = λ s. omega arith;

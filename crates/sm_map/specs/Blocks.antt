@@ -1,11 +1,12 @@
 -- Blocks of entries: all that they hold, and places in them.
-use Rattle.std.specs.Prelude.{◌≡◌, ◌+◌, ◌-◌, ◌<◌, ◌≤◌, ◌⊎◌, ◌++◌, ℕ, List, length, map, sum, take, slice_index}
-use Rattle.std.specs.List.{flat_map, AllWithin}
+use Rattle.std.specs.Prelude.{◌≡◌, ◌+◌, ◌-◌, ◌<◌, ◌≤◌, ◌⊎◌, ◌++◌, ℕ, List, [], ◌∷◌, length, map, sum, take}
+use Rattle.std.specs.Prelude.{slice_index, slice_set}
+use Rattle.std.specs.List.{flat_map, insert, AllWithin}
 use Rattle.std.specs.declared.cmp.Ordering.TheVariants.{Less, Greater}
 use Rattle.sm_ranges.specs.KeyOrder.{key_cmp}
 use Rattle.sm_map.specs.KeyMap.{KeyPair}
 use Rattle.sm_map.specs.Block.{BlockValue}
-use Rattle.sm_map.specs.declared.block.TheConstants.{MOST_ENTRIES}
+use Rattle.sm_map.specs.declared.block.TheConstants.{MOST_ENTRIES, HALF_ENTRIES}
 use Rattle.sm_map.specs.declared.key_entry.KeyEntry.{KeyEntry}
 use Rattle.sm_map.specs.declared.place.Place.{Place}
 
@@ -20,11 +21,30 @@ lengths_in blocks = map (λ block. length block.entries) blocks
 abbrev pub IsSized : BlockValue → Type 0
 IsSized block = (0 < length block.entries) × (length block.entries ≤ MOST_ENTRIES)
 
--- both blocks are filled, and hold the entries one after the other
+-- the lengths of two halves, one of which has one entry more
+abbrev pub AreHalves : ℕ → ℕ → Type 0
+AreHalves lower upper =
+    ((lower ≡ HALF_ENTRIES) × (upper ≡ HALF_ENTRIES + 1)) ⊎ ((lower ≡ HALF_ENTRIES + 1) × (upper ≡ HALF_ENTRIES))
+
+-- the blocks hold the entries one after the other, one of them 32 and the other one 33
 pub record IsSplit (entries : List KeyEntry) (lower upper : BlockValue) : Type 0 where
   pub joined : lower.entries ++ upper.entries ≡ entries
-  pub low : IsSized lower
-  pub high : IsSized upper
+  pub halves : AreHalves (length lower.entries) (length upper.entries)
+
+-- the length there, that of a full block, is now those of its two halves
+abbrev pub HasHalves : List ℕ → ℕ → List ℕ → Type 0
+HasHalves old at new =
+    (new ≡ insert (slice_set old at HALF_ENTRIES) (at + 1) (HALF_ENTRIES + 1)) ⊎
+    (new ≡ insert (slice_set old at (HALF_ENTRIES + 1)) (at + 1) HALF_ENTRIES)
+
+-- the lengths of blocks after one more entry at a place: a block that wasn't full is longer by one, or a full one was
+-- split in two, or a block of one entry came behind all others
+abbrev pub HasOneMore : List ℕ → Place → List ℕ → Type 0
+HasOneMore old place new =
+    ((place.block < length old) × (slice_index old place.block < MOST_ENTRIES) ×
+    (new ≡ slice_set old place.block (slice_index old place.block + 1))) ⊎
+    ((place.block < length old) × (slice_index old place.block ≡ MOST_ENTRIES) × HasHalves old place.block new) ⊎
+    ((place.block ≡ length old) × (new ≡ old ++ 1 ∷ []))
 
 -- how many entries stand before a place in blocks of these lengths
 abbrev pub number_of : List ℕ → Place → ℕ
@@ -39,6 +59,16 @@ abbrev pub IsGap : List ℕ → Place → Type 0
 IsGap lengths place =
     ((place.block < length lengths) × (place.offset ≤ slice_index lengths place.block)) ⊎
     ((place.block ≡ length lengths) × (place.offset ≡ 0))
+
+-- an entry goes there after all others: into the last block, or behind it if that is full
+abbrev pub IsEnd : List ℕ → Place → Type 0
+IsEnd lengths place =
+    ((place.block + 1 ≡ length lengths) × (slice_index lengths place.block < MOST_ENTRIES)) ⊎
+    ((place.block ≡ length lengths) × ((k : ℕ) → k + 1 ≡ length lengths → slice_index lengths k ≡ MOST_ENTRIES))
+
+-- each block but the last is full
+abbrev pub IsPacked : List ℕ → Type 0
+IsPacked lengths = (k : ℕ) → k + 1 < length lengths → slice_index lengths k ≡ MOST_ENTRIES
 
 -- an entry stands there, or it is the end
 abbrev pub IsStop : List ℕ → Place → Type 0

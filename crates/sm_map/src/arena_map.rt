@@ -7,7 +7,7 @@ ghost use Rattle.sm_map.specs.KeyMap.{key_of, IsKeyMap, IsText, HoldsText, IsEdg
 ghost use Rattle.sm_map.specs.KeyMap.{held_at, holding, without, within, text_of, text_at, size_at};
 ghost use Rattle.sm_map.specs.KeyMap.{Text as HeldText};
 ghost use Rattle.sm_map.specs.ArenaMap.{IsRewrite, IsRemoval, IsAddition};
-ghost use Rattle.sm_map.specs.Blocks.{number_of, HasEntry, IsGap, IsStop};
+ghost use Rattle.sm_map.specs.Blocks.{number_of, HasEntry, HasOneMore, IsEnd, IsPacked, IsGap, IsStop};
 ghost use Rattle.sm_map.specs.Places.{precedes};
 ghost use Rattle.sm_map.specs.Position.{IsPositionIn};
 ghost use Rattle.sm_map.specs.Val.{held_of, row_of};
@@ -23,9 +23,6 @@ use crate::val::Val;
 use sm_arena::arena::Arena;
 use std::alloc::{AllocError, Global};
 use std::marker::Model;
-
-/// A text of so many bytes or more lies in memory of its own, and shorter ones side by side.
-pub const LONG_TEXT: usize = 4_096;
 
 /// A map from keys to texts and counts, in the order of the keys. Keys are compared byte by byte as numbers, and a
 /// proper prefix comes first. The bytes of keys and texts lie in an arena, where those that are written over or removed
@@ -52,7 +49,8 @@ impl Model for ArenaMap {
 impl ArenaMap {
     /// The map that holds nothing.
     pub fn new(alloc: Global) -> ArenaMap
-        ensures { (result.pairs ≡ []) × (result.dead ≡ 0) }
+        ensures pairs { (result.pairs ≡ []) × (result.dead ≡ 0) }
+        ensures blocks { result.blocks ≡ [] }
     {
         ArenaMap {
             alloc,
@@ -156,15 +154,6 @@ impl ArenaMap {
             (self.new.dead ≡ self.old.dead + length (text_at self.old.pairs position.entry.key.now)) }
         ensures err { OnErr result (self.new ≡ self.old) }
     {
-        if let Val::Text(text) = value {
-            if text.len() >= LONG_TEXT {
-                let copy = Vec::from_slice(self.alloc, text)?;
-                return match self.put_owned_at(position, copy) {
-                    Ok(()) => Ok(()),
-                    Err((_, refused)) => Err(refused),
-                };
-            }
-        }
         match position.place {
             Ok(place) => self.write_at(place, value),
             Err(place) => self.insert_at(place, position.key, value),
@@ -282,7 +271,8 @@ impl ArenaMap {
     ///
     /// `AllocError` where memory is refused.
     pub fn copy(&self) -> Result<ArenaMap, AllocError>
-        ensures { IfOk result (λ map. (map.pairs ≡ self.now.pairs) × (map.dead ≡ 0)) }
+        ensures pairs { IfOk result (λ map. (map.pairs ≡ self.now.pairs) × (map.dead ≡ 0)) }
+        ensures blocks { IfOk result (λ map. IsPacked map.blocks) }
     {
         let mut map = ArenaMap::new(self.alloc);
         let mut place = self.index.first();
@@ -295,13 +285,14 @@ impl ArenaMap {
         Ok(map)
     }
 
-    /// The same pairs in fresh memory, where nothing is dead.
+    /// The same pairs in fresh memory, where nothing is dead and each block but the last is full.
     ///
     /// # Errors
     ///
     /// `AllocError` where memory is refused; the map then comes back as it was.
     pub fn rebuild(self) -> Result<ArenaMap, (ArenaMap, AllocError)>
         ensures ok { IfOk result (λ map. (map.pairs ≡ self.pairs) × (map.dead ≡ 0)) }
+        ensures blocks { IfOk result (λ map. IsPacked map.blocks) }
         ensures err { IfErr result (λ refused. refused.0 ≡ self) }
     {
         match self.copy() {
@@ -338,6 +329,7 @@ impl ArenaMap {
     fn end(&self) -> Place
         ensures gap { IsGap self.now.blocks result }
         ensures end { number_of self.now.blocks result ≡ length self.now.pairs }
+        ensures last { IsEnd self.now.blocks result }
     {
         self.index.end()
     }
@@ -443,6 +435,7 @@ impl ArenaMap {
         requires absent { IsKeyGap key_of self.old.pairs key.now (number_of self.old.blocks place) }
         ensures ok { OnOk result (IsAddition self.old (number_of self.old.blocks place)
             (record { key = key.now; value = held_of value.entry }) self.new) }
+        ensures blocks { OnOk result (HasOneMore self.old.blocks place self.new.blocks) }
         ensures err { OnErr result (self.new ≡ self.old) }
     {
         let room = self.index.reserve(place)?;
@@ -463,6 +456,7 @@ impl ArenaMap {
         requires absent { IsKeyGap key_of self.old.pairs key.now (number_of self.old.blocks place) }
         ensures ok { OnOk result (IsAddition self.old (number_of self.old.blocks place)
             (record { key = key.now; value = HeldText text.items }) self.new) }
+        ensures blocks { OnOk result (HasOneMore self.old.blocks place self.new.blocks) }
         ensures handed_back { IfErr result (λ back. back.0.items ≡ text.items) }
         ensures err { OnErr result (self.new ≡ self.old) }
     {

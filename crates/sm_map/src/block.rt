@@ -13,12 +13,17 @@ use sm_ranges::order::compare;
 use std::alloc::{AllocError, Global};
 use std::cmp::Ordering;
 use std::marker::Model;
+use std::mem::replace;
 
 // As many entries as a block may have.
 pub(crate) const MOST_ENTRIES: usize = 64;
 
-// As many as a full block keeps when it is split.
-const HALF_ENTRIES: usize = 32;
+// As many as each half of a full block has when it is split.
+pub(crate) const HALF_ENTRIES: usize = 32;
+
+// Room grows to the next multiple of this many entries, and not to twice as many, because a block is seldom full if
+// keys come in no order.
+const ROOM_STEP: usize = 8;
 
 // Entries in the order of their keys, which lie in an arena. A full block has 64.
 #[derive(Drop)]
@@ -116,7 +121,8 @@ impl Block {
         ensures entries { self.new.entries ≡ self.old.entries }
         ensures room { OnOk result (0 < self.new.room) }
     {
-        self.entries.reserve(1)
+        self.entries
+            .reserve_exact(ROOM_STEP - self.entries.len() % ROOM_STEP)
     }
 
     // Puts an entry in, beside the tag of its key.
@@ -130,52 +136,78 @@ impl Block {
         self.tags.insert(at, tag);
     }
 
-    // Puts an entry into a full block, whose upper half goes to a block without entries. An entry behind all others
-    // goes there alone, so that keys in rising order leave full blocks.
+    // The room that the lower half of a full block needs when an entry comes to this place of the whole.
+    pub(crate) fn lower_room(at: usize) -> usize
+        ensures half { HALF_ENTRIES ≤ result }
+        ensures more { at ≤ HALF_ENTRIES → HALF_ENTRIES < result }
+    {
+        if at <= HALF_ENTRIES {
+            HALF_ENTRIES + ROOM_STEP
+        } else {
+            HALF_ENTRIES
+        }
+    }
+
+    // Splits a full block in two of 32 entries, and puts an entry into one of them. The block keeps its lower half, in
+    // the memory of a block without entries. The upper half is returned, in the memory of the full block.
     pub(crate) fn insert_split(
         &mut self,
         at: usize,
         entry: KeyEntry,
         tag: u8,
-        upper: Block,
+        lower: Block,
     ) -> Block
         requires place { at ≤ length self.old.entries }
         requires full { length self.old.entries ≡ MOST_ENTRIES }
-        requires empty { upper.entries ≡ [] }
-        requires room { MOST_ENTRIES ≤ upper.room }
+        requires empty { lower.entries ≡ [] }
+        requires room { HALF_ENTRIES ≤ lower.room }
+        requires more { at ≤ HALF_ENTRIES → HALF_ENTRIES < lower.room }
         ensures { IsSplit (insert self.old.entries at entry) self.new result }
     {
-        if at == MOST_ENTRIES {
-            let mut upper = upper;
-            upper.insert(0, entry, tag);
-            return upper;
-        }
-        let mut upper = self.cut(upper);
+        let mut upper = self.cut(lower);
         if at <= HALF_ENTRIES {
             self.insert(at, entry, tag);
+            upper.shrink();
             return upper;
         }
         upper.insert(at - HALF_ENTRIES, entry, tag);
+        // Keys in rising order all come behind the last entry, and soon need the room.
+        if at < MOST_ENTRIES {
+            upper.shrink();
+        }
         upper
     }
 
-    // Moves the upper half to a block without entries.
-    fn cut(&mut self, upper: Block) -> Block
+    // Moves the lower half to a block without entries, which takes the place of the full one. The upper half stays in
+    // the memory of the full one, and is returned.
+    fn cut(&mut self, lower: Block) -> Block
         requires full { length self.old.entries ≡ MOST_ENTRIES }
-        requires empty { upper.entries ≡ [] }
-        requires room { MOST_ENTRIES ≤ upper.room }
+        requires empty { lower.entries ≡ [] }
+        requires room { HALF_ENTRIES ≤ lower.room }
         ensures lower { self.new.entries ≡ take HALF_ENTRIES self.old.entries }
         ensures upper { result.entries ≡ drop HALF_ENTRIES self.old.entries }
-        ensures room { (0 < self.new.room) × (0 < result.room) }
+        ensures lower_room { lower.room ≤ HALF_ENTRIES + self.new.room }
+        ensures upper_room { 0 < result.room }
     {
-        let mut upper = upper;
+        let mut lower = lower;
         // There is room, so this can't fail.
-        let _ = upper
+        let _ = lower
             .entries
-            .extend_from_slice(&self.entries[HALF_ENTRIES..]);
-        self.entries.truncate(HALF_ENTRIES);
-        *upper.tags = self.tags.upper();
+            .extend_from_slice(&self.entries[..HALF_ENTRIES]);
+        *lower.tags = self.tags.lower();
+        let mut upper = replace(self, lower);
+        upper.entries.copy_within(HALF_ENTRIES.., 0);
+        upper.entries.truncate(HALF_ENTRIES);
+        *upper.tags = upper.tags.upper();
         upper
+    }
+
+    // Gives back the room past the next multiple of a step. If memory is refused, the room stays.
+    fn shrink(&mut self)
+        ensures { self.new.entries ≡ self.old.entries }
+    {
+        let len = self.entries.len();
+        self.entries.shrink_to(len.next_multiple_of(ROOM_STEP));
     }
 
     pub(crate) fn remove(&mut self, at: usize) -> KeyEntry

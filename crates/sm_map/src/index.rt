@@ -6,6 +6,7 @@ ghost use Rattle.sm_ranges.specs.Keyed.{IsKeyPlace, IsKeyGap};
 ghost use Rattle.sm_map.specs.KeyMap.{key_of, IsKeyMap};
 ghost use Rattle.sm_map.specs.KeyEntry.{pairs_of, HasKeys};
 ghost use Rattle.sm_map.specs.Blocks.{entries_in, lengths_in, number_of, HasEntry, IsGap, IsStop, IsSized, IsBlockGap};
+ghost use Rattle.sm_map.specs.Blocks.{HasOneMore, IsEnd};
 ghost use Rattle.sm_map.specs.Index.{IsReady};
 
 use crate::block::{Block, MOST_ENTRIES};
@@ -196,10 +197,11 @@ impl Index {
         })
     }
 
-    // Where an entry goes after all others: into the last block, or behind it where it is full.
+    // Where an entry goes after all others: into the last block, or behind it if it is full.
     pub(crate) fn end(&self) -> Place
         ensures gap { IsGap (lengths_in self.now.blocks) result }
         ensures end { number_of (lengths_in self.now.blocks) result ≡ length (entries_in self.now.blocks) }
+        ensures last { IsEnd (lengths_in self.now.blocks) result }
     {
         let count = self.blocks.len();
         if count > 0 {
@@ -243,20 +245,22 @@ impl Index {
             return Ok(Room::Inside);
         }
         self.blocks.reserve(1)?;
-        Ok(Room::Beside(Block::with_room(self.alloc, MOST_ENTRIES)?))
+        let room = Block::lower_room(place.offset);
+        Ok(Room::Beside(Block::with_room(self.alloc, room)?))
     }
 
     // Puts an entry into the room that was made for it at the place, beside the tag of its key.
     pub(crate) fn insert(&mut self, place: Place, entry: KeyEntry, tag: u8, room: Room)
         requires { IsReady self.old place room }
-        ensures { entries_in self.new.blocks
+        ensures entries { entries_in self.new.blocks
             ≡ insert (entries_in self.old.blocks) (number_of (lengths_in self.old.blocks) place) entry }
+        ensures lengths { HasOneMore (lengths_in self.old.blocks) place (lengths_in self.new.blocks) }
     {
         self.len += 1;
         match room {
             Room::Inside => self.blocks[place.block].insert(place.offset, entry, tag),
-            Room::Beside(upper) => {
-                let upper = self.blocks[place.block].insert_split(place.offset, entry, tag, upper);
+            Room::Beside(lower) => {
+                let upper = self.blocks[place.block].insert_split(place.offset, entry, tag, lower);
                 add(&mut self.blocks, place.block + 1, upper);
             }
             Room::Behind(last) => {

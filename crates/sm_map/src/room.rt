@@ -5,7 +5,7 @@ use crate::block::Block;
 pub(crate) enum Room {
     // The block has room.
     Inside,
-    // The block is full, and this one has no entries.
+    // The block is full, and this one, which has no entries, takes in its lower half.
     Beside(Block),
     // The place is behind the last block, and this one has no entries.
     Behind(Block),

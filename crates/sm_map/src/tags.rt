@@ -49,6 +49,14 @@ impl Tags {
         }
     }
 
+    // The tags of the lower half.
+    pub(crate) fn lower(&self) -> Tags {
+        let [first, second, third, fourth, _, _, _, _] = self.words;
+        Tags {
+            words: [first, second, third, fourth, 0, 0, 0, 0],
+        }
+    }
+
     // The tags of the upper half.
     pub(crate) fn upper(&self) -> Tags {
         let [_, _, _, _, first, second, third, fourth] = self.words;

@@ -6,7 +6,7 @@ use Rattle.sm_map.specs.ArenaMap.{MapValue, IsAddition}
 use Rattle.sm_map.specs.Blocks.{number_of, HasEntry, IsStop}
 use Rattle.sm_map.specs.declared.place.Place.{Place}
 use Rattle.sm_map.specs.Val.{row_of}
-use Rattle.sm_map.proofs.Blocks.{stop_has, stop_end, has_within}
+use Rattle.sm_map.proofs.Blocks.{stop_has, stop_end, has_within, filled_more}
 use Rattle.sm_map.proofs.KeyMaps.{copy_gap, copy_more}
 use Rattle.sm_map.proofs.Entries.{seen_in_order, map_sum}
 use Rattle.sm_map.proofs.arena_map.ArenaMap.copy.Goals as goal
@@ -70,6 +70,8 @@ loop-place-preserved c =
       stop = subst (λ (x : MapValue). IsStop x.blocks c.after-place.result) c.self.view_is c.after-place.ensures.stop;
       pairs = more.0 ∙ sym (ap (λ (n : ℕ). take n c.args.self.now.pairs) next);
       dead = more.1;
+      filled = filled_more c.loop-place.map.blocks c.insert_at.new.self.blocks c.end.result c.end.ensures.last
+          c.in_ok-insert_at.ensures.blocks c.loop-place.invariant.filled;
     }
 
 pub loop-place-smaller : goal.loop-place-smaller
@@ -82,8 +84,8 @@ loop-place-smaller c =
     c.self.view_is c.after-place.ensures.next in
     omega (arith, within, next)
 
-pub returns : goal.returns
-returns c =
+pub returns-clause-pairs : goal.returns-clause-pairs
+returns-clause-pairs c =
     let all : sum c.args.self.now.blocks ≡ length c.args.self.now.pairs =
     subst (λ (x : MapValue). sum x.blocks ≡ length x.pairs) c.self.view_is
     (map_sum c.self.inside.arena c.self.inside.index.blocks) in

@@ -1,6 +1,6 @@
-use Rattle.std.proofs.Common.{refl, sym, ap, subst, ◌∙◌}
+use Rattle.std.proofs.Common.{ℕ, List, refl, sym, ap, subst, ◌∙◌}
 use Rattle.sm_map.specs.ArenaMap.{MapValue, IsAddition}
-use Rattle.sm_map.specs.Blocks.{entries_in, number_of}
+use Rattle.sm_map.specs.Blocks.{entries_in, lengths_in, number_of, HasOneMore}
 use Rattle.sm_map.specs.Index.{IndexValue}
 use Rattle.sm_map.specs.Kept.{IsMap}
 use Rattle.sm_map.specs.Val.{held_of}
@@ -14,7 +14,7 @@ note-requires-clause-keys c =
     let gap = rw (← c.self.view_is) at c.requires.absent in
     keys_placed c.place.new.arena _ (kept_by c.place.new.arena c.place.new.arena _ _ refl
     (inserted_in c.self.inside.index.blocks c.reserve.new.self.blocks c.insert.new.self.blocks c.args.place _
-    c.insert.ensures c.reserve.ensures.entries c.reserve.ensures.lengths) (addition_kept _ _ c.self.invariant _
+    c.insert.ensures.entries c.reserve.ensures.entries c.reserve.ensures.lengths) (addition_kept _ _ c.self.invariant _
     c.place.new.arena c.in_ok-entry.ensures.stored _ c.in_ok-entry.ensures.reads _ gap))
 
 pub note-requires-clause-rising : goal.note-requires-clause-rising
@@ -23,7 +23,7 @@ note-requires-clause-rising c =
     let kept : IsMap c.place.new.arena (entries_in c.insert.new.self.blocks) =
     kept_by c.place.new.arena c.place.new.arena _ _ refl
     (inserted_in c.self.inside.index.blocks c.reserve.new.self.blocks c.insert.new.self.blocks c.args.place _
-    c.insert.ensures c.reserve.ensures.entries c.reserve.ensures.lengths) (addition_kept _ _ c.self.invariant _
+    c.insert.ensures.entries c.reserve.ensures.entries c.reserve.ensures.lengths) (addition_kept _ _ c.self.invariant _
     c.place.new.arena c.in_ok-entry.ensures.stored _ c.in_ok-entry.ensures.reads _ gap) in
     kept.rising
 
@@ -33,7 +33,7 @@ invariant_of-self-2 c =
     subst (λ (x : IndexValue). IsMap c.place.new.arena (entries_in x.blocks)) (sym c.note.ensures)
     (kept_by c.place.new.arena c.place.new.arena _ _ refl
     (inserted_in c.self.inside.index.blocks c.reserve.new.self.blocks c.insert.new.self.blocks c.args.place _
-    c.insert.ensures c.reserve.ensures.entries c.reserve.ensures.lengths) (addition_kept _ _ c.self.invariant _
+    c.insert.ensures.entries c.reserve.ensures.entries c.reserve.ensures.lengths) (addition_kept _ _ c.self.invariant _
     c.place.new.arena c.in_ok-entry.ensures.stored _ c.in_ok-entry.ensures.reads _ gap))
 
 pub returns-clause-ok : goal.returns-clause-ok
@@ -43,5 +43,12 @@ returns-clause-ok c =
     (record { key = c.args.key.now; value = held_of c.args.value }) new) _ _ _ _ c.self.view_is (same_map
     c.place.new.arena c.place.new.arena _ _ _ refl (ap (λ (x : IndexValue). entries_in x.blocks) c.note.ensures
     ∙ inserted_in c.self.inside.index.blocks c.reserve.new.self.blocks c.insert.new.self.blocks c.args.place _
-    c.insert.ensures c.reserve.ensures.entries c.reserve.ensures.lengths)) (added _ _ c.self.invariant _
+    c.insert.ensures.entries c.reserve.ensures.entries c.reserve.ensures.lengths)) (added _ _ c.self.invariant _
     c.place.new.arena c.in_ok-entry.ensures.stored _ c.in_ok-entry.ensures.reads _ gap _ _)
+
+pub returns-clause-blocks : goal.returns-clause-blocks
+returns-clause-blocks c =
+    subst (λ (x : MapValue). HasOneMore x.blocks c.args.place (lengths_in c.note.new.self.blocks)) c.self.view_is
+    (subst (λ (x : IndexValue). HasOneMore (lengths_in c.self.inside.index.blocks) c.args.place (lengths_in x.blocks))
+    (sym c.note.ensures) (subst (λ (l : List ℕ). HasOneMore l c.args.place (lengths_in c.insert.new.self.blocks))
+    c.reserve.ensures.lengths c.insert.ensures.lengths))

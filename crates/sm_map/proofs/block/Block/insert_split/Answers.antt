@@ -1,11 +1,11 @@
-use Rattle.std.proofs.Common.{List, length, ap, arith, refl}
+use Rattle.std.proofs.Common.{List, length, ap, ◌∙◌, arith}
 use Rattle.std.proofs.lemmas.List.{length-take, length-drop}
 use Rattle.sm_map.specs.declared.key_entry.KeyEntry.{KeyEntry}
-use Rattle.sm_map.proofs.Blocks.{lower_insert, upper_insert, end_insert}
+use Rattle.sm_map.proofs.Blocks.{lower_insert, upper_insert}
 use Rattle.sm_map.proofs.block.Block.insert_split.Goals as goal
 
-pub insert-requires-then-at-le-HALF_ENTRIES-clause-place : goal.insert-requires-then-at-le-HALF_ENTRIES-clause-place
-insert-requires-then-at-le-HALF_ENTRIES-clause-place c =
+pub insert-requires-clause-place : goal.insert-requires-clause-place
+insert-requires-clause-place c =
     omega (
       arith,
       c.if-at-le-HALF_ENTRIES.true,
@@ -16,7 +16,7 @@ insert-requires-then-at-le-HALF_ENTRIES-clause-place c =
 
 pub returns-then-at-le-HALF_ENTRIES : goal.returns-then-at-le-HALF_ENTRIES
 returns-then-at-le-HALF_ENTRIES c = lower_insert _ _ _ _ _ c.requires.full c.if-at-le-HALF_ENTRIES.true _
-    c.cut-upper.ensures.lower c.insert-then-at-le-HALF_ENTRIES.ensures c.cut-upper.ensures.upper
+    c.cut-upper.ensures.lower c.insert.ensures (c.shrink.ensures ∙ c.cut-upper.ensures.upper)
 
 pub insert-requires-2-clause-place : goal.insert-requires-2-clause-place
 insert-requires-2-clause-place c =
@@ -28,13 +28,16 @@ insert-requires-2-clause-place c =
       c.requires.full,
     )
 
-pub returns : goal.returns
-returns c = upper_insert _ _ _ _ _ c.requires.full c.if-at-le-HALF_ENTRIES.false (omega (
+pub returns-then-at-lt-MOST_ENTRIES : goal.returns-then-at-lt-MOST_ENTRIES
+returns-then-at-lt-MOST_ENTRIES c = upper_insert _ _ _ _ _ c.requires.full c.if-at-le-HALF_ENTRIES.false (omega (
+  arith,
+  c.requires.place,
+  c.requires.full,
+)) _ c.cut-upper.ensures.upper c.cut-upper.ensures.lower (c.shrink-then-at-lt-MOST_ENTRIES.ensures ∙ c.insert-2.ensures)
+
+pub returns-else-at-lt-MOST_ENTRIES : goal.returns-else-at-lt-MOST_ENTRIES
+returns-else-at-lt-MOST_ENTRIES c = upper_insert _ _ _ _ _ c.requires.full c.if-at-le-HALF_ENTRIES.false (omega (
   arith,
   c.requires.place,
   c.requires.full,
 )) _ c.cut-upper.ensures.upper c.cut-upper.ensures.lower c.insert-2.ensures
-
-pub returns-then-at-eq-MOST_ENTRIES : goal.returns-then-at-eq-MOST_ENTRIES
-returns-then-at-eq-MOST_ENTRIES c = end_insert _ _ _ _ _ c.requires.full c.if-at-eq-MOST_ENTRIES.true _
-    c.requires.empty refl c.insert.ensures
