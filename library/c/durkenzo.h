@@ -27,8 +27,8 @@ extern "C" {
 /* The version of this header and of the library beside it. */
 #define DURKENZO_VERSION "0.1.0"
 
-/* What a caller keeps between calls: nothing, a control, a pass, a pass with an admission, a layout, a plan, or what
- * the sample service has: a map, a reply, an envelope or an answer. */
+/* What a caller keeps between calls: nothing, a control, a pass, a pass with an admission, a layout, a plan, a publisher
+ * or a router of routes, or what the sample service has: a map, a reply, an envelope or an answer. */
 typedef struct durkenzo_handle {
     bool full;
     void *owned;
@@ -72,8 +72,8 @@ enum durkenzo_code {
     DURKENZO_NO_MEMORY = 3,        /* memory was refused */
     DURKENZO_BAD_WORD = 4,         /* no record has the word */
     DURKENZO_BAD_CEILING = 5,      /* the ceiling of generations is 3 to 68,719,476,735 */
-    DURKENZO_NO_SHARD = 6,         /* a board has at least one shard */
-    DURKENZO_TOO_MANY = 7,         /* a board or a layout has at most 4,096 shards */
+    DURKENZO_NO_SHARD = 6,         /* a board, or a map of routes, has at least one shard */
+    DURKENZO_TOO_MANY = 7,         /* a board, a layout or a map of routes has at most 4,096 shards */
     DURKENZO_BAD_BOOKS = 8,        /* there are no servers */
     DURKENZO_BAD_COUNT = 9,        /* the bodies are as many as the shards of the settings */
     DURKENZO_UNKNOWN_SHARD = 10,   /* there is no such shard */
@@ -114,7 +114,8 @@ enum durkenzo_code {
     DURKENZO_FORWARD = 60,         /* the envelope goes on to the server `to` */
     DURKENZO_WRONG_SHARD = 61,     /* the request's key is of another shard */
     DURKENZO_TOO_MANY_HOPS = 62,   /* the request was forwarded too often */
-    DURKENZO_KEPT_FULL = 63        /* the shard keeps as many requests as it may: make a checkpoint */
+    DURKENZO_KEPT_FULL = 63,       /* the shard keeps as many requests as it may: make a checkpoint */
+    DURKENZO_OLD_ROUTE = 64        /* the shard's last route is as new */
     /* End of them. */
 };
 
@@ -277,6 +278,32 @@ uint32_t durkenzo_shard_of(durkenzo_handle *layout, const uint8_t *key, size_t l
 /* Writes the bound at which the shard begins into `room` bytes, and its length; 255 bytes are always enough. Errors:
  * WRONG_HANDLE, UNKNOWN_SHARD past the last, TOO_SHORT. */
 uint32_t durkenzo_bound(durkenzo_handle *layout, uint16_t shard, uint8_t *into, size_t room, size_t *length);
+
+/* A shard's route: where requests go. */
+typedef struct durkenzo_route_parts {
+    uint64_t generation; /* the shard's when the route was published; a shard's routes have rising ones */
+    uint16_t server;     /* the owner, or 0 if there is no route */
+} durkenzo_route_parts;
+
+/* Makes a publisher of routes for `count` shards (1 to 4,096), of which none has a route. The handle keeps it, in place
+ * of what it kept; the map lives until its publisher and all its routers are closed. Errors: NO_MEMORY, NO_SHARD,
+ * TOO_MANY. */
+uint32_t durkenzo_publisher(durkenzo_handle *publisher, size_t count);
+
+/* Makes a new router of the publisher's map, which has seen all that was published. The router's handle keeps it, in
+ * place of what it kept. It may go to another thread, and reads there without a lock. Errors: WRONG_HANDLE,
+ * NO_MEMORY. */
+uint32_t durkenzo_router(durkenzo_handle *publisher, durkenzo_handle *router);
+
+/* Publishes that this server owns the shard at this generation, by one store. Errors: WRONG_HANDLE, BAD_ARGUMENT (the
+ * server, or a generation above DURKENZO_MAX_GENERATION), UNKNOWN_SHARD, OLD_ROUTE unless the generation is above that
+ * of the shard's last route. */
+uint32_t durkenzo_publish(durkenzo_handle *publisher, uint16_t shard, uint16_t server, uint64_t generation);
+
+/* Writes the shard's route: the last one of the publications that the router has then seen, which begin with all that
+ * it had seen before. So no read gives an older route than an earlier read of the router. A shard beyond the map's has
+ * no route. Errors: WRONG_HANDLE, UNKNOWN_SHARD for a shard above 4,095. */
+uint32_t durkenzo_route(durkenzo_handle *router, uint16_t shard, durkenzo_route_parts *route);
 
 /* Makes an empty map of the sample service: a body of yours, as any other. The handle keeps it, in place of what it
  * kept. Error: NO_MEMORY. */

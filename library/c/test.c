@@ -1,6 +1,7 @@
 /* Sees that the header says what the library does where a compiler can't: sizes and places of fields, which
  * library/rust/durkenzo/src/raw.rs has too, and what is refused by which code. */
 #include <assert.h>
+#include <pthread.h>
 #include <stddef.h>
 #include <stdio.h>
 #include <string.h>
@@ -34,6 +35,9 @@ HAS_SIZE(durkenzo_answer_parts, 24);
 IS_AT(durkenzo_answer_parts, number, 0);
 IS_AT(durkenzo_answer_parts, place, 8);
 IS_AT(durkenzo_answer_parts, server, 16);
+HAS_SIZE(durkenzo_route_parts, 16);
+IS_AT(durkenzo_route_parts, generation, 0);
+IS_AT(durkenzo_route_parts, server, 8);
 
 static const uint8_t KEY[] = "key";
 static const char SETTINGS[] =
@@ -98,10 +102,67 @@ static void words(void) {
     assert(durkenzo_ended(admitted, &next) == DURKENZO_OK);
 }
 
+enum { READERS = 4, ROUTES = 20000 };
+static durkenzo_handle publisher = DURKENZO_HANDLE_INIT, routers[READERS];
+
+/* Reads the route of shard 1 until it is the last one: generations never fall. */
+static void *read_until_last(void *at) {
+    durkenzo_route_parts route = {0};
+    for (uint64_t newest = 0; newest < ROUTES; newest = route.generation) {
+        assert(durkenzo_route(at, 1, &route) == DURKENZO_OK);
+        assert(route.generation >= newest && route.server == (route.generation ? 1 + route.generation % 2 : 0));
+    }
+    return NULL;
+}
+
+static void routes_that_are_refused(void) {
+    durkenzo_handle none = DURKENZO_HANDLE_INIT;
+    durkenzo_route_parts route = {7, 7};
+    assert(durkenzo_publisher(&publisher, 0) == DURKENZO_NO_SHARD);
+    assert(durkenzo_publisher(&publisher, 4097) == DURKENZO_TOO_MANY);
+    assert(durkenzo_publish(&publisher, 0, 1, 1) == DURKENZO_WRONG_HANDLE);
+    assert(durkenzo_router(&publisher, &none) == DURKENZO_WRONG_HANDLE);
+    assert(durkenzo_publisher(&publisher, 2) == DURKENZO_OK);
+    assert(durkenzo_publish(&publisher, 0, 0, 1) == DURKENZO_BAD_ARGUMENT);
+    assert(durkenzo_publish(&publisher, 0, 4096, 1) == DURKENZO_BAD_ARGUMENT);
+    assert(durkenzo_publish(&publisher, 0, 1, DURKENZO_MAX_GENERATION + 1) == DURKENZO_BAD_ARGUMENT);
+    assert(durkenzo_publish(&publisher, 2, 1, 1) == DURKENZO_UNKNOWN_SHARD);
+    assert(durkenzo_publish(&publisher, 4096, 1, 1) == DURKENZO_UNKNOWN_SHARD);
+    assert(durkenzo_publish(&publisher, 0, 4095, DURKENZO_MAX_GENERATION) == DURKENZO_OK);
+    assert(durkenzo_publish(&publisher, 0, 1, DURKENZO_MAX_GENERATION) == DURKENZO_OLD_ROUTE);
+    assert(durkenzo_route(&publisher, 0, &route) == DURKENZO_WRONG_HANDLE && route.server == 7);
+    assert(durkenzo_router(&publisher, &none) == DURKENZO_OK);
+    assert(durkenzo_route(&none, 4096, &route) == DURKENZO_UNKNOWN_SHARD && route.server == 7);
+    assert(durkenzo_route(&none, 0, &route) == DURKENZO_OK && route.server == 4095);
+    assert(route.generation == DURKENZO_MAX_GENERATION);
+    assert(durkenzo_route(&none, 2, &route) == DURKENZO_OK && route.server == 0 && route.generation == 0);
+    durkenzo_close(&none);
+}
+
+/* Routers in threads of their own read beside the publisher, and after its end. */
+static void routes_rise(void) {
+    pthread_t threads[READERS];
+    durkenzo_route_parts route;
+    for (size_t it = 0; it < READERS; it++) {
+        assert(durkenzo_router(&publisher, &routers[it]) == DURKENZO_OK);
+        assert(pthread_create(&threads[it], NULL, read_until_last, &routers[it]) == 0);
+    }
+    for (uint64_t generation = 1; generation <= ROUTES; generation++)
+        assert(durkenzo_publish(&publisher, 1, 1 + generation % 2, generation) == DURKENZO_OK);
+    durkenzo_close(&publisher);
+    for (size_t it = 0; it < READERS; it++) {
+        assert(pthread_join(threads[it], NULL) == 0);
+        assert(durkenzo_route(&routers[it], 1, &route) == DURKENZO_OK && route.generation == ROUTES);
+        durkenzo_close(&routers[it]);
+    }
+}
+
 int main(void) {
     sizes_and_settings();
     full_shards();
     words();
+    routes_that_are_refused();
+    routes_rise();
     durkenzo_close(&envelope);
     durkenzo_close(&pass);
     durkenzo_close(&layout);

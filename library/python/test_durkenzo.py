@@ -232,6 +232,62 @@ class Numbers(unittest.TestCase):
         self.assertRaises(durkenzo.CountOverflow, Map().add, b"a", (1 << 64) + 1)
 
 
+class Routes(unittest.TestCase):
+    def test_routes_never_go_back(self):
+        board, publisher = Board(["zero", "one"], servers=2), durkenzo.Publisher(2)
+        router = publisher.new_router()
+        with board.new_pass(1) as one:
+            self.assertRaises(durkenzo.WrongPhase, publisher.publish, one, 0)
+            self.assertRaises(durkenzo.UnknownShard, publisher.publish, one, 2)
+            board.control.assign(0, 1)
+            first = durkenzo.Route(server=1, generation=1)
+            self.assertEqual(publisher.publish(one, 0), first)
+            self.assertRaises(durkenzo.OldRoute, publisher.publish, one, 0)
+            board.control.migrate(0, 2)
+            self.assertEqual(router.route(0), first)
+            following = publisher.publish(one, 0)
+            self.assertEqual((following.server, router.route(0)), (2, following))
+        publisher.close()
+        self.assertEqual([router.route(it) for it in (0, 1, 2)], [following, None, None])
+        for number in (4_096, 1 << 16, -1):
+            self.assertRaises(durkenzo.UnknownShard, router.route, number)
+        router.close()
+        self.assertRaises(durkenzo.WrongHandle, router.route, 0)
+        self.assertRaises(durkenzo.WrongHandle, publisher.new_router)
+
+    def test_sizes(self):
+        self.assertRaises(durkenzo.NoShard, durkenzo.Publisher, 0)
+        self.assertRaises(durkenzo.TooMany, durkenzo.Publisher, 4_097)
+        self.assertRaises(durkenzo.BadArgument, durkenzo.Publisher, -1)
+        board, publisher = Board([0] * 3, servers=1), durkenzo.Publisher(2)
+        board.control.assign(2, 1)
+        with board.new_pass(1) as one:
+            self.assertRaises(durkenzo.UnknownShard, publisher.publish, one, 2)
+
+    def test_routes_rise_beside_a_publisher(self):
+        board, publisher, rounds, failed = Board([0], servers=2), durkenzo.Publisher(1), 200, []
+        board.control.assign(0, 1)
+
+        def read():
+            router, newest = publisher.new_router(), 0
+            while newest <= 4 * rounds:
+                if route := router.route(0):
+                    self.assertLessEqual(newest, route.generation)
+                    newest = route.generation
+
+        with mock.patch("threading.excepthook", failed.append), board.new_pass(1) as one:
+            readers = [threading.Thread(target=read) for _ in range(4)]
+            for it in readers:
+                it.start()
+            for turn in range(rounds):
+                publisher.publish(one, 0)
+                board.control.migrate(0, 2 - turn % 2)
+            publisher.publish(one, 0)
+            for it in readers:
+                it.join()
+        self.assertEqual(failed, [])
+
+
 class Maps(unittest.TestCase):
     def test_what_keys_hold(self):
         held = Map()
@@ -421,7 +477,11 @@ class Shared(unittest.TestCase):
         mine, other, serving = board.new_pass(1), board.new_pass(2), service.new_pass(1)
         envelope, note = serving.envelope(1, Request.get(b"a")), mine.note()
         answer = serving.serve(serving.envelope(1, Request.get(b"a")))
+        publisher = durkenzo.Publisher(1)
+        router = publisher.new_router()
         for call, work, closed in (
+            ("route", lambda: router.route(0), router),
+            ("publish", lambda: publisher.publish(serving, 0), publisher),
             ("shard_of", lambda: layout.shard_of(b"z"), layout),
             ("change", lambda: board.control.assign(0, 1), board),
             ("plan", board.control.plan_assign, board),

@@ -35,10 +35,10 @@ pub(crate) const BAD_WORD: u32 = 4;
 /// The ceiling of generations is 3 to 68,719,476,735.
 pub(crate) const BAD_CEILING: u32 = 5;
 
-/// A board has at least one shard.
+/// A board, or a map of routes, has at least one shard.
 pub(crate) const NO_SHARD: u32 = 6;
 
-/// A board or a layout has at most 4,096 shards.
+/// A board, a layout or a map of routes has at most 4,096 shards.
 pub(crate) const TOO_MANY: u32 = 7;
 
 /// There are no servers.
@@ -163,6 +163,9 @@ pub(crate) const TOO_MANY_HOPS: u32 = 62;
 
 /// The shard keeps as many requests as it may: make a checkpoint.
 pub(crate) const KEPT_FULL: u32 = 63;
+
+/// The shard's last route is as new.
+pub(crate) const OLD_ROUTE: u32 = 64;
 // End of them.
 
 /// The code of what forbids a step of a word.

@@ -5,4 +5,5 @@ pub mod Maps
 pub mod Notes
 pub mod Opening
 pub mod Plans
+pub mod Routes
 pub mod Serving

@@ -1,6 +1,7 @@
 use sm_envelope::envelope::Envelope;
 use sm_foreign::{Chief, Foreign, ForeignPass, FreePass};
 use sm_place::Plan;
+use sm_publish::{WordPublisher, WordRouter};
 use sm_ranges::layout::Layout;
 use sm_rule::note::Note;
 use sm_server::Answer;
@@ -31,4 +32,8 @@ pub enum HandleState {
     Map(Box<KeyMachine>),
     /// What a map replied.
     Reply(Reply),
+    /// What publishes routes.
+    Publisher(WordPublisher),
+    /// What reads published routes.
+    Router(WordRouter),
 }

@@ -12,8 +12,15 @@
 
 pub mod publisher;
 mod route_map;
+mod route_word;
 pub mod router;
 mod rule;
+pub mod word_publisher;
+pub mod word_router;
+pub mod word_rule;
+pub mod word_view;
 
 pub use publisher::Publisher;
 pub use router::Router;
+pub use word_publisher::WordPublisher;
+pub use word_router::WordRouter;

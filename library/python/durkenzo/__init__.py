@@ -28,12 +28,14 @@ from .errors import *
 from .errors import BadArgument, Busy, IsAdmitted, NotAdmitted, Raced
 from ._map import Map
 from ._reply import ReplyKind, RequestKind, Value
+from ._routes import Publisher, Route, Router
 from ._service import Answer, BadSettings, Envelope, Forward, KeptFull, Reply, Request, Sent, ServicePass
 from ._service import TooManyHops, WrongShard, _RULES
 from .record import Phase, Record
 
 __all__ = ["Board", "Control", "Layout", "MAX_GENERATION", "Map", "Note", "Pass", "Permit", "Phase", "Plan", "Record"]
 __all__ += ["Answer", "Envelope", "Forward", "Reply", "ReplyKind", "Request", "RequestKind", "Sent", "Service"]
+__all__ += ["Publisher", "Route", "Router"]
 __all__ += ["ServicePass", "Value", "BadSettings", "KeptFull", "TooManyHops", "WrongShard"]
 __all__ += errors.__all__
 

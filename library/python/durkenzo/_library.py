@@ -58,6 +58,12 @@ class AnswerParts(ctypes.Structure):
     _fields_ = [("number", u64), ("place", u64), ("server", u16)]
 
 
+class RouteParts(ctypes.Structure):
+    """A shard's route."""
+
+    _fields_ = [("generation", u64), ("server", u16)]
+
+
 class SentParts(ctypes.Structure):
     """An envelope but for its request and its note."""
 
@@ -107,6 +113,10 @@ def calls() -> dict[str, list[Any]]:
         "layout": [handle, text, size, ctypes.POINTER(Part), size],
         "shard_of": [handle, text, size, into],
         "bound": [handle, shard, text, size, length],
+        "publisher": [handle, size],
+        "router": [handle, handle],
+        "publish": [handle, shard, server, Number(u64)],
+        "route": [handle, shard, ctypes.POINTER(RouteParts)],
         "map": [handle],
         "map_length": [handle, number],
         "ask": [handle, handle, kind, text, size, text, size, amount, parts],

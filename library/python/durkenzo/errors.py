@@ -40,13 +40,13 @@ class BadCeiling(DurkenzoError):
 
 
 class NoShard(DurkenzoError):
-    """A board has at least one shard."""
+    """A board, or a map of routes, has at least one shard."""
 
     code = 6
 
 
 class TooMany(DurkenzoError):
-    """A board or a layout has at most 4,096 shards."""
+    """A board, a layout or a map of routes has at most 4,096 shards."""
 
     code = 7
 
@@ -261,6 +261,12 @@ class KeyTooLong(DurkenzoError):
     code = 58
 
 
+class OldRoute(DurkenzoError):
+    """The shard's last route is as new."""
+
+    code = 64
+
+
 class WrongKind(DurkenzoError):
     """The key holds a count where the request is for a text, or a text where it is for a count."""
 
@@ -331,6 +337,7 @@ __all__ = [
     "BoundTooLong",
     "KeyEmpty",
     "KeyTooLong",
+    "OldRoute",
     "WrongKind",
     "CountOverflow",
     "TextTooLong",

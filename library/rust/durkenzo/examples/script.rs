@@ -6,7 +6,9 @@
 //!
 //! The settings line is passed over: the board has servers 1 to SERVERS, each in a domain of its own and with room for
 //! all shards, which may all be down. `load` isn't answered.
-use durkenzo::{Board, Control, Layout, Mode, Pass, Plan, Record, RestartFault, Routes, Stand};
+use durkenzo::{
+    Board, Control, Layout, Mode, Pass, Plan, Record, RestartFault, Router, Routes, Stand,
+};
 use std::collections::{BTreeMap, HashMap};
 use std::error::Error;
 use std::io::{stdin, stdout, Read, Write};
@@ -115,6 +117,7 @@ fn split(line: &[u8]) -> (&[u8], &[u8]) {
 struct Session {
     board: Board<Body>,
     routes: Routes,
+    router: Router,
     /// Passes that hold a shard, until they are dropped.
     held: HashMap<u16, Pass<Body>>,
     layout: Layout,
@@ -194,9 +197,9 @@ impl Session {
         }
     }
 
-    fn route(&self, key: &[u8]) -> Vec<u8> {
+    fn route(&mut self, key: &[u8]) -> Vec<u8> {
         let shard = self.layout.shard_of(key);
-        match self.routes.route(shard) {
+        match self.router.route(shard) {
             Some(it) => format!("route {shard} {} {}", it.server, it.generation).into_bytes(),
             None => b"none".to_vec(),
         }
@@ -204,7 +207,7 @@ impl Session {
 
     fn by_route(&mut self, request: &[u8]) -> Answer {
         let (key, _) = split(split(request).1);
-        let route = self.routes.route(self.layout.shard_of(key));
+        let route = self.router.route(self.layout.shard_of(key));
         self.request(Some(route.ok_or("NoRoute")?.server), request)
     }
 
@@ -337,8 +340,10 @@ fn main() -> Result<(), Box<dyn Error>> {
         .restarts(restarts.parse()?)
         .ceiling(ceiling.parse()?)
         .build(bounds.iter().map(|_| Body::default()))?;
+    let routes = Routes::new(board.count())?;
     let mut session = Session {
-        routes: Routes::new(board.count()),
+        router: routes.router()?,
+        routes,
         held: HashMap::new(),
         layout: Layout::new(bounds)?,
         control: board.control(),

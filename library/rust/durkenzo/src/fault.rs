@@ -441,7 +441,7 @@ impl Error for MapFault {}
 #[derive(Clone, Copy, Debug, PartialEq, Eq)]
 #[non_exhaustive]
 pub enum SendFault {
-    /// No envelope comes so.
+    /// No envelope has this mode with this many hops.
     NotSent,
     /// Out of memory.
     NoMemory,
@@ -469,7 +469,7 @@ impl SendFault {
 impl fmt::Display for SendFault {
     fn fmt(&self, f: &mut fmt::Formatter<'_>) -> fmt::Result {
         f.write_str(match self {
-            SendFault::NotSent => "no envelope comes so",
+            SendFault::NotSent => "no envelope has this mode with this many hops",
             SendFault::NoMemory => "out of memory",
             SendFault::EmptyKey => "a key has at least one byte",
             SendFault::KeyTooLong => "a key has at most 255 bytes",
@@ -644,24 +644,77 @@ impl fmt::Display for NoteFault {
 
 impl Error for NoteFault {}
 
+/// Why there is no map of routes, or no router of one.
+#[derive(Clone, Copy, Debug, PartialEq, Eq)]
+#[non_exhaustive]
+pub enum RoutesFault {
+    /// Out of memory.
+    NoMemory,
+    /// A map of routes has at least one shard.
+    NoShard,
+    /// A map of routes has at most 4,096 shards.
+    TooMany,
+    /// The library answered this code, which this version doesn't know.
+    Other(u32),
+}
+
+impl RoutesFault {
+    #[inline]
+    pub(crate) fn of(code: u32) -> RoutesFault {
+        match code {
+            3 => RoutesFault::NoMemory,
+            6 => RoutesFault::NoShard,
+            7 => RoutesFault::TooMany,
+            code => RoutesFault::Other(code),
+        }
+    }
+}
+
+impl fmt::Display for RoutesFault {
+    fn fmt(&self, f: &mut fmt::Formatter<'_>) -> fmt::Result {
+        f.write_str(match self {
+            RoutesFault::NoMemory => "out of memory",
+            RoutesFault::NoShard => "a map of routes has at least one shard",
+            RoutesFault::TooMany => "a map of routes has at most 4,096 shards",
+            RoutesFault::Other(code) => return write!(f, "the library answered code {code}"),
+        })
+    }
+}
+
+impl Error for RoutesFault {}
+
 /// Why a route isn't published.
 #[derive(Clone, Copy, Debug, PartialEq, Eq)]
 #[non_exhaustive]
 pub enum PublishFault {
     /// There is no such shard.
     UnknownShard,
-    /// Nobody owns the shard.
-    WrongPhase,
     /// The shard's last route is as new.
     OldRoute,
+    /// Nobody owns the shard.
+    WrongPhase,
+    /// The library answered this code, which this version doesn't know.
+    Other(u32),
+}
+
+impl PublishFault {
+    #[inline]
+    pub(crate) fn of(code: u32) -> PublishFault {
+        match code {
+            10 => PublishFault::UnknownShard,
+            64 => PublishFault::OldRoute,
+            code => PublishFault::Other(code),
+        }
+    }
 }
 
 impl fmt::Display for PublishFault {
     fn fmt(&self, f: &mut fmt::Formatter<'_>) -> fmt::Result {
         f.write_str(match self {
             PublishFault::UnknownShard => "there is no such shard",
-            PublishFault::WrongPhase => "nobody owns the shard",
             PublishFault::OldRoute => "the shard's last route is as new",
+            PublishFault::WrongPhase => "nobody owns the shard",
+            PublishFault::Other(code) => return write!(f, "the library answered code {code}"),
         })
     }
 }

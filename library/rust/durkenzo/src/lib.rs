@@ -99,7 +99,8 @@ pub use control::Control;
 pub use envelope::{Answer, Envelope};
 pub use fault::{
     AdmitFault, BuildFault, ChangeFault, CheckpointFault, LayoutFault, MapFault, NoteFault,
-    PassFault, PlanFault, PublishFault, RestartFault, SendFault, ServeFault, UnknownShard,
+    PassFault, PlanFault, PublishFault, RestartFault, RoutesFault, SendFault, ServeFault,
+    UnknownShard,
 };
 pub use layout::Layout;
 pub use map::Map;
@@ -110,7 +111,7 @@ pub use record::{Record, Stand};
 pub use reply::{Held, LentReply, LentText, Measure, Reply, Value, MAX_KEY};
 pub use request::Request;
 pub use restore_fault::RestoreFault;
-pub use routes::{Route, Routes};
+pub use routes::{Route, Router, Routes};
 pub use sent::{Sent, SentFault};
 pub use service::{Service, ServiceBuilder, Texts};
 pub use service_pass::{ServeRefused, Served, ServicePass};

@@ -19,8 +19,8 @@ impl Handle {
     }
 }
 
-// SAFETY: what a handle owns isn't tied to a thread (an `Arc` of the board with a pass, a permit, or the control), and
-// whoever has the handle uses it alone.
+// SAFETY: what a handle owns isn't tied to a thread (an `Arc` of the board with a pass, a permit, or the control, or one
+// of a map with its publisher or a router), and whoever has the handle uses it alone.
 unsafe impl Send for Handle {}
 
 impl Drop for Handle {
@@ -68,6 +68,14 @@ pub(crate) struct SentParts {
     pub(crate) hops: u8,
 }
 
+/// A shard's route, with server 0 where there is none.
+#[repr(C)]
+#[derive(Clone, Copy, Default)]
+pub(crate) struct RouteParts {
+    pub(crate) generation: u64,
+    pub(crate) server: u16,
+}
+
 /// An answer but for its reply.
 #[repr(C)]
 #[derive(Clone, Copy, Default)]
@@ -104,6 +112,9 @@ const _: () = {
     assert!(offset_of!(AnswerParts, number) == 0);
     assert!(offset_of!(AnswerParts, place) == 8);
     assert!(offset_of!(AnswerParts, server) == 16);
+    assert!(size_of::<RouteParts>() == 16);
+    assert!(offset_of!(RouteParts, generation) == 0);
+    assert!(offset_of!(RouteParts, server) == 8);
 };
 
 /// What a call answers where a server is out of bounds.
@@ -169,6 +180,15 @@ extern "C" {
         room: usize,
         length: *mut usize,
     ) -> u32;
+    pub(crate) fn durkenzo_publisher(publisher: *mut Handle, count: usize) -> u32;
+    pub(crate) fn durkenzo_router(publisher: *mut Handle, router: *mut Handle) -> u32;
+    pub(crate) fn durkenzo_publish(
+        publisher: *mut Handle,
+        shard: u16,
+        server: u16,
+        generation: u64,
+    ) -> u32;
+    pub(crate) fn durkenzo_route(router: *mut Handle, shard: u16, parts: *mut RouteParts) -> u32;
     pub(crate) fn durkenzo_map(map: *mut Handle) -> u32;
     pub(crate) fn durkenzo_map_length(map: *mut Handle, length: *mut u64) -> u32;
     pub(crate) fn durkenzo_get(

@@ -1,7 +1,8 @@
 use durkenzo::word::{Change, WordFault};
 use durkenzo::{
     word, AdmitFault, Board, BuildFault, ChangeFault, Layout, LayoutFault, Mode, Move, NoteFault,
-    PlanFault, PublishFault, Record, RestartFault, Route, Routes, Stand, MAX_GENERATION, MAX_KEY,
+    PlanFault, PublishFault, Record, RestartFault, Route, Router, Routes, RoutesFault, Stand,
+    MAX_GENERATION, MAX_KEY,
 };
 use std::error::Error;
 use std::panic::{catch_unwind, AssertUnwindSafe};
@@ -105,23 +106,69 @@ fn plans_move_nothing() {
 #[test]
 fn routes_never_go_back() {
     let board = board(2);
-    let (control, routes) = (board.control(), Routes::new(board.count()));
-    let mut one = board.pass(1).unwrap();
+    let (control, routes) = (board.control(), Routes::new(board.count()).unwrap());
+    let (mut router, mut one) = (routes.router().unwrap(), board.pass(1).unwrap());
     assert_eq!(routes.publish(&mut one, 0), Err(PublishFault::WrongPhase));
     assert_eq!(routes.publish(&mut one, 2), Err(PublishFault::UnknownShard));
     control.assign(0, 1).unwrap();
     let (server, generation) = (1, 1);
-    assert_eq!(
-        routes.publish(&mut one, 0),
-        Ok(Route { server, generation })
-    );
+    let first = Route { server, generation };
+    assert_eq!(routes.publish(&mut one, 0), Ok(first));
     assert_eq!(routes.publish(&mut one, 0), Err(PublishFault::OldRoute));
-    let old = routes.load();
     control.migrate(0, 2).unwrap();
-    assert_eq!(routes.route(0), Some(Route { server, generation }));
-    assert_eq!(routes.publish(&mut one, 0).unwrap().server, 2);
-    assert_eq!(old[0], Some(Route { server, generation }));
-    assert_eq!((routes.route(1), routes.route(2)), (None, None));
+    assert_eq!(router.route(0), Some(first));
+    let next = routes.publish(&mut one, 0).unwrap();
+    assert_eq!(next.server, 2);
+    assert_eq!(router.route(0), Some(next));
+    assert_eq!([1, 2, 4096].map(|it| router.route(it)), [None; 3]);
+}
+
+#[test]
+fn maps_of_routes_have_sizes() {
+    assert_eq!(Routes::new(0).err(), Some(RoutesFault::NoShard));
+    assert_eq!(Routes::new(4097).err(), Some(RoutesFault::TooMany));
+    let board = board(3);
+    board.control().assign(2, 1).unwrap();
+    let (routes, mut one) = (Routes::new(2).unwrap(), board.pass(1).unwrap());
+    assert_eq!(routes.publish(&mut one, 2), Err(PublishFault::UnknownShard));
+    let routes = Routes::new(4096).unwrap();
+    routes.publish(&mut one, 2).unwrap();
+    let mut late = routes.router().unwrap();
+    drop(routes);
+    assert_eq!(late.route(2).map(|it| it.server), Some(1));
+}
+
+/// Reads the shard's route until it has this generation, and none before is older than one that was read.
+fn reads_until(mut router: Router, last: u64) -> Router {
+    let mut newest = 0;
+    while newest < last {
+        let Some(route) = router.route(0) else {
+            continue;
+        };
+        assert!(newest <= route.generation);
+        newest = route.generation;
+    }
+    router
+}
+
+#[test]
+fn routes_rise_beside_a_publisher() {
+    let board = board(1);
+    let (control, routes) = (board.control(), Routes::new(1).unwrap());
+    control.assign(0, 1).unwrap();
+    let mut one = board.pass(1).unwrap();
+    let last = 1 + 4 * 500;
+    let routers = [(); 4].map(|()| routes.router().unwrap());
+    let readers = routers.map(|it| std::thread::spawn(move || reads_until(it, last)));
+    for round in 0..500 {
+        routes.publish(&mut one, 0).unwrap();
+        control.migrate(0, 2 - round % 2).unwrap();
+    }
+    let newest = routes.publish(&mut one, 0).unwrap();
+    assert_eq!(newest.generation, last);
+    for reader in readers {
+        assert_eq!(reader.join().unwrap().route(0), Some(newest));
+    }
 }
 
 #[test]
