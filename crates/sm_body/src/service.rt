@@ -3,28 +3,18 @@ ghost use Rattle.std.specs.Prelude.{◌<◌};
 
 use sm_ranges::server_id::ServerId;
 use std::alloc::AllocError;
-use std::error::Error;
-use std::fmt;
+use thiserror::Error;
 
 /// Why a request was not applied.
-#[derive(Clone, Copy, Debug, PartialEq, Eq, Drop)]
+#[derive(Clone, Copy, Debug, PartialEq, Eq, Drop, Error)]
 pub enum ApplyFault {
     /// The body keeps as many requests as its limit allows.
+    #[error("the shard keeps as many requests as it may")]
     KeptFull,
     /// There is room for the request, and memory for it was refused.
+    #[error("out of memory")]
     NoMemory,
 }
-
-impl fmt::Display for ApplyFault {
-    fn fmt<W: fmt::Write>(&self, f: &mut fmt::Formatter<W>) -> fmt::Result {
-        f.write_str(match self {
-            ApplyFault::KeptFull => "the shard keeps as many requests as it may",
-            ApplyFault::NoMemory => "out of memory",
-        })
-    }
-}
-
-impl Error for ApplyFault {}
 
 /// The body of a shard: a state machine with the list of the requests that it applied since a state, its base. Bodies,
 /// requests and replies pass between threads. `Logged` makes one of any `Machine`.

@@ -1,5 +1,6 @@
 use sm_inbox::SendFault;
 use sm_server::Refusal;
+use std::fmt;
 use thiserror::Error;
 
 /// Why a call was not answered.
@@ -36,8 +37,18 @@ impl From<SendFault> for CallFault {
 }
 
 /// A call that was not answered, and its request, but where the message was let go.
-#[derive(Drop)]
+#[derive(Drop, Error)]
+#[error("{fault}")]
 pub struct CallRefused<Q: Drop> {
     pub fault: CallFault,
     pub back: Option<Q>,
+}
+
+// Requests need not show themselves.
+impl<Q: Drop> fmt::Debug for CallRefused<Q> {
+    fn fmt<W: fmt::Write>(&self, f: &mut fmt::Formatter<W>) -> fmt::Result {
+        f.debug_struct("CallRefused")
+            .field("fault", &self.fault)
+            .finish_non_exhaustive()
+    }
 }

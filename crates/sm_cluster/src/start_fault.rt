@@ -1,29 +1,19 @@
 use std::alloc::AllocError;
-use std::error::Error;
-use std::fmt;
+use thiserror::Error;
 
 /// Why a cluster was not started: the first reason that applies, in this order.
-#[derive(Clone, Copy, Debug, PartialEq, Eq, Drop)]
+#[derive(Clone, Copy, Debug, PartialEq, Eq, Drop, Error)]
 pub enum StartFault {
     /// All servers together would have more than [`MAX_WORKERS`](crate::MAX_WORKERS) workers.
+    #[error("a cluster has at most 64 workers")]
     TooManyWorkers,
     /// Memory was refused.
+    #[error("out of memory")]
     NoMemory,
     /// A thread was refused.
+    #[error("no thread was to be had")]
     NoThread,
 }
-
-impl fmt::Display for StartFault {
-    fn fmt<W: fmt::Write>(&self, f: &mut fmt::Formatter<W>) -> fmt::Result {
-        f.write_str(match self {
-            StartFault::TooManyWorkers => "a cluster has at most 64 workers",
-            StartFault::NoMemory => "out of memory",
-            StartFault::NoThread => "no thread was to be had",
-        })
-    }
-}
-
-impl Error for StartFault {}
 
 impl From<AllocError> for StartFault {
     ghost use Rattle.std.specs.Prelude.{◌≡◌};

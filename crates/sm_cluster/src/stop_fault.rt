@@ -1,19 +1,9 @@
-use std::error::Error;
-use std::fmt;
+use thiserror::Error;
 
 /// Why a cluster gave nothing at its stop.
-#[derive(Clone, Copy, Debug, PartialEq, Eq, Drop)]
+#[derive(Clone, Copy, Debug, PartialEq, Eq, Drop, Error)]
 pub enum StopFault {
     /// A client neither came back nor was dropped. All workers were stopped.
+    #[error("a client is out")]
     ClientOut,
 }
-
-impl fmt::Display for StopFault {
-    fn fmt<W: fmt::Write>(&self, f: &mut fmt::Formatter<W>) -> fmt::Result {
-        f.write_str(match self {
-            StopFault::ClientOut => "a client is out",
-        })
-    }
-}
-
-impl Error for StopFault {}

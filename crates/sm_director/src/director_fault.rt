@@ -2,27 +2,37 @@ use sm_codec::ReadError;
 use sm_desk::CommandFault;
 use sm_lead::LoadFault;
 use std::alloc::{AllocError, AllocFailed};
+use thiserror::Error;
 
 /// Why a call on a director did nothing.
-#[derive(Clone, Copy, Debug, PartialEq, Eq, Drop)]
+#[derive(Clone, Copy, Debug, PartialEq, Eq, Drop, Error)]
 pub enum DirectorFault {
     /// Memory was refused.
+    #[error("out of memory")]
     Memory,
     /// What lies at a key is wrong.
+    #[error("what lies at a key is wrong")]
     Bytes,
     /// No control can be made of what was read.
+    #[error(transparent)]
     Load(LoadFault),
     /// The command is refused; or there is no such shard or server.
+    #[error(transparent)]
     Command(CommandFault),
     /// Nothing was read yet, or all is to be read again.
+    #[error("nothing was read yet, or all is to be read again")]
     Unread,
-    /// A command was sent, of which the outcome wasn't told.
+    /// A command was sent, and its outcome isn't known yet.
+    #[error("a command was sent, and its outcome isn't known yet")]
     UnderWay,
     /// A follower hasn't read that the shard is taken.
+    #[error("a follower hasn't read that the shard is taken")]
     NotFollowed,
     /// No command was sent.
+    #[error("no command was sent")]
     NotSent,
     /// What would be written is longer than the room for it.
+    #[error("what would be written is longer than the room for it")]
     TooShort,
 }
 

@@ -1,21 +1,28 @@
 use sm_codec::Fault;
 use sm_shard::ReplayFault;
 use std::alloc::{AllocError, AllocFailed};
+use thiserror::Error;
 
 /// Why a call on a server did nothing, or the server has forgotten what it read.
-#[derive(Clone, Copy, Drop)]
+#[derive(Clone, Copy, Debug, Drop, Error)]
 pub enum DriverFault {
     /// Memory was refused.
+    #[error("out of memory")]
     Memory,
     /// What lies at a key is wrong.
+    #[error("what lies at a key is wrong: {0}")]
     Bytes(Fault),
     /// A last request in a part of a base has no reply.
+    #[error("a last request in a part of a base has no reply")]
     Reply,
     /// The log can't be followed.
+    #[error(transparent)]
     Replay(ReplayFault),
     /// The server has read nothing yet.
+    #[error("the server has read nothing yet")]
     Unread,
     /// A request or a batch has too many bytes.
+    #[error("a request or a batch has too many bytes")]
     TooLarge,
 }
 

@@ -1,3 +1,4 @@
+use std::fmt;
 use thiserror::Error;
 
 /// Why a message was not sent.
@@ -12,8 +13,18 @@ pub enum SendFault {
 }
 
 /// A message that was not sent, and why.
-#[derive(Drop)]
+#[derive(Drop, Error)]
+#[error("{fault}")]
 pub struct Unsent<M: Drop> {
     pub fault: SendFault,
     pub message: M,
+}
+
+// Messages need not show themselves.
+impl<M: Drop> fmt::Debug for Unsent<M> {
+    fn fmt<W: fmt::Write>(&self, f: &mut fmt::Formatter<W>) -> fmt::Result {
+        f.debug_struct("Unsent")
+            .field("fault", &self.fault)
+            .finish_non_exhaustive()
+    }
 }

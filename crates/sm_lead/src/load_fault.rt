@@ -1,13 +1,14 @@
 use sm_desk::CommandFault;
-use std::error::Error;
-use std::fmt;
+use thiserror::Error;
 
 /// Why no control can be made of what was read. No store to which controls alone write their commands has that.
-#[derive(Clone, Copy, Debug, PartialEq, Eq, Drop)]
+#[derive(Clone, Copy, Debug, PartialEq, Eq, Drop, Error)]
 pub enum LoadFault {
     /// No commands lead to these stands and states: this is the first reason for which one is refused.
+    #[error("no commands lead to what was read: {0}")]
     Unreached(CommandFault),
     /// There are records or states of another number, or others than commands lead to.
+    #[error("the records or states are others than commands lead to")]
     Different,
 }
 
@@ -21,16 +22,3 @@ impl From<CommandFault> for LoadFault {
         LoadFault::Unreached(fault)
     }
 }
-
-impl fmt::Display for LoadFault {
-    fn fmt<W: fmt::Write>(&self, f: &mut fmt::Formatter<W>) -> fmt::Result {
-        match self {
-            LoadFault::Unreached(fault) => write!(f, "no commands lead to what was read: {fault}"),
-            LoadFault::Different => f.write_str(
-                "the records or states are others than commands lead to",
-            ),
-        }
-    }
-}
-
-impl Error for LoadFault {}

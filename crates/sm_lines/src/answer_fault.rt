@@ -1,30 +1,20 @@
 use crate::WriteFault;
 use std::alloc::AllocError;
-use std::error::Error;
-use std::fmt;
+use thiserror::Error;
 
 /// Why answering stopped before the end of the input.
-#[derive(Clone, Copy, Debug, PartialEq, Eq, Drop)]
+#[derive(Clone, Copy, Debug, PartialEq, Eq, Drop, Error)]
 pub enum AnswerFault {
     /// The reader failed, or [`COUNT_LIMIT`](crate::COUNT_LIMIT) of its calls or of the lines were counted.
+    #[error("Read")]
     Read,
     /// The writer failed, or took none of the bytes that it was given.
+    #[error("Write")]
     Write,
     /// Memory was refused.
+    #[error("NoMemory")]
     NoMemory,
 }
-
-impl fmt::Display for AnswerFault {
-    fn fmt<W: fmt::Write>(&self, f: &mut fmt::Formatter<W>) -> fmt::Result {
-        f.write_str(match self {
-            AnswerFault::Read => "Read",
-            AnswerFault::Write => "Write",
-            AnswerFault::NoMemory => "NoMemory",
-        })
-    }
-}
-
-impl Error for AnswerFault {}
 
 impl From<AllocError> for AnswerFault {
     ghost use Rattle.std.specs.Prelude.{◌≡◌};

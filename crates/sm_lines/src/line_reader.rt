@@ -8,6 +8,7 @@ use memchr::memchr;
 use std::alloc::{AllocError, Global};
 use std::io::Read;
 use std::marker::Model;
+use thiserror::Error;
 
 const LINE_FEED: u8 = b'\n';
 
@@ -58,11 +59,13 @@ pub enum Next {
 }
 
 /// Why no line was read.
-#[derive(Clone, Copy, PartialEq, Eq)]
+#[derive(Clone, Copy, Debug, PartialEq, Eq, Drop, Error)]
 pub enum ReadFault {
     /// The reader failed, or was called [`COUNT_LIMIT`] times.
+    #[error("the reader failed, or was called as often as it may be")]
     Read,
     /// No memory was left to keep the line.
+    #[error("out of memory")]
     NoMemory,
 }
 

@@ -6,9 +6,11 @@ use crate::{PIECE, Watched};
 use std::alloc::{AllocError, Global};
 use std::io::Write;
 use std::marker::Model;
+use thiserror::Error;
 
 /// The writer failed, or took none of the bytes that it was given.
-#[derive(Clone, Copy, PartialEq, Eq)]
+#[derive(Clone, Copy, Debug, PartialEq, Eq, Drop, Error)]
+#[error("the writer failed, or took none of the bytes")]
 pub struct WriteFault;
 
 /// Writes all of the bytes; after a fault the writer has taken a front of them.

@@ -5,37 +5,27 @@ use sm_rows::{
     DomainRow, GroupRow, ServerRow, ShardRow, are_domains, are_groups, are_servers, are_shards,
 };
 use std::alloc::AllocError;
-use std::error::Error;
-use std::fmt;
+use thiserror::Error;
 
 /// Why rows make no books: the first reason that applies, in this order.
-#[derive(Clone, Copy, Debug, PartialEq, Eq, Drop)]
+#[derive(Clone, Copy, Debug, PartialEq, Eq, Drop, Error)]
 pub enum BooksFault {
     /// There are not 1 to 4,095 servers, their numbers do not rise, or a domain is above 4,095.
+    #[error("the servers break their rules")]
     BadServers,
     /// There are not 1 to 4,096 groups, or a limit or `down` is above 4,096.
+    #[error("the groups break their rules")]
     BadGroups,
     /// There are not 1 to 4,096 shards, or a shard's group has no row or its cap is above 1.
+    #[error("the shards break their rules")]
     BadShards,
     /// The domains are not those of the servers, each once by rising numbers, or a `down` is above 4,095.
+    #[error("the domains break their rules")]
     BadDomains,
     /// The rows keep their rules, and memory for the books was refused.
+    #[error("out of memory")]
     NoMemory,
 }
-
-impl fmt::Display for BooksFault {
-    fn fmt<W: fmt::Write>(&self, f: &mut fmt::Formatter<W>) -> fmt::Result {
-        f.write_str(match self {
-            BooksFault::BadServers => "the servers break their rules",
-            BooksFault::BadGroups => "the groups break their rules",
-            BooksFault::BadShards => "the shards break their rules",
-            BooksFault::BadDomains => "the domains break their rules",
-            BooksFault::NoMemory => "out of memory",
-        })
-    }
-}
-
-impl Error for BooksFault {}
 
 impl BooksFault {
     /// The first fault of the rows, memory aside.

@@ -1,25 +1,15 @@
-use std::error::Error;
-use std::fmt;
+use thiserror::Error;
 
 /// Why a shard does not fit a server: the first reason that applies, in this order.
-#[derive(Clone, Copy, Debug, PartialEq, Eq, Drop)]
+#[derive(Clone, Copy, Debug, PartialEq, Eq, Drop, Error)]
 pub enum PlaceFault {
     /// The server was approved to restart, is stopped or failed.
+    #[error("the server is leaving")]
     Leaving,
     /// With the shard's load, the server's shards would exceed its capacity.
+    #[error("the server has no capacity for the shard")]
     NoCapacity,
     /// With the shard, its group would exceed its limit in the server's domain.
+    #[error("the shard's group is at its limit in the server's domain")]
     DomainLimit,
 }
-
-impl fmt::Display for PlaceFault {
-    fn fmt<W: fmt::Write>(&self, f: &mut fmt::Formatter<W>) -> fmt::Result {
-        f.write_str(match self {
-            PlaceFault::Leaving => "the server is leaving",
-            PlaceFault::NoCapacity => "the server has no capacity for the shard",
-            PlaceFault::DomainLimit => "the shard's group is at its limit in the server's domain",
-        })
-    }
-}
-
-impl Error for PlaceFault {}

@@ -3,9 +3,8 @@ ghost use Rattle.sm_ranges.specs.declared.key.KeyFault.TheVariants.{Empty, TooLo
 
 use crate::limits::MAX_KEY;
 use std::alloc::{AllocError, Global};
-use std::error::Error;
-use std::fmt;
 use std::marker::Model;
+use thiserror::Error;
 
 /// A key of the application's key space: 1 to 255 bytes.
 #[derive(Drop)]
@@ -25,27 +24,18 @@ impl Model for Key {
 }
 
 /// Why bytes are not a key.
-#[derive(Clone, Copy, Debug, PartialEq, Eq, Drop)]
+#[derive(Clone, Copy, Debug, PartialEq, Eq, Drop, Error)]
 pub enum KeyFault {
     /// There are no bytes.
+    #[error("a key has at least one byte")]
     Empty,
     /// There are more than 255 bytes.
+    #[error("a key has at most 255 bytes")]
     TooLong,
     /// The bytes are a key, and memory for it was refused.
+    #[error("out of memory")]
     NoMemory,
 }
-
-impl fmt::Display for KeyFault {
-    fn fmt<W: fmt::Write>(&self, f: &mut fmt::Formatter<W>) -> fmt::Result {
-        f.write_str(match self {
-            KeyFault::Empty => "a key has at least one byte",
-            KeyFault::TooLong => "a key has at most 255 bytes",
-            KeyFault::NoMemory => "out of memory",
-        })
-    }
-}
-
-impl Error for KeyFault {}
 
 impl From<AllocError> for KeyFault {
     ghost use Rattle.sm_ranges.specs.declared.key.KeyFault.TheVariants.{NoMemory};

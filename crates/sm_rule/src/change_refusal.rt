@@ -1,26 +1,16 @@
 use sm_ownership::record::Record;
-use std::error::Error;
-use std::fmt;
+use thiserror::Error;
 
 /// Why a change that the shard's stand allows was not made.
-#[derive(Clone, Copy, Debug, PartialEq, Eq, Drop)]
+#[derive(Clone, Copy, Debug, PartialEq, Eq, Drop, Error)]
 pub enum ChangeRefusal {
     /// The shard's generation has reached the ceiling.
+    #[error("the shard's generations are spent")]
     Spent(Record),
     /// The shard is admitted.
+    #[error("the shard is admitted")]
     Busy(Record),
     /// The record read allows the change, but another one was found when it was to be made.
+    #[error("another thread was first")]
     Raced { read: Record, found: Record },
 }
-
-impl fmt::Display for ChangeRefusal {
-    fn fmt<W: fmt::Write>(&self, f: &mut fmt::Formatter<W>) -> fmt::Result {
-        f.write_str(match self {
-            ChangeRefusal::Spent(_) => "the shard's generations are spent",
-            ChangeRefusal::Busy(_) => "the shard is admitted",
-            ChangeRefusal::Raced { .. } => "another thread was first",
-        })
-    }
-}
-
-impl Error for ChangeRefusal {}

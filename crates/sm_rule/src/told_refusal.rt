@@ -7,11 +7,14 @@ use crate::admit_refusal::AdmitRefusal;
 use sm_ownership::admit_fault::AdmitFault;
 use sm_ownership::record::Record;
 use sm_word::word::record_of_word;
+use std::fmt;
 use std::marker::Model;
 use std::snapshot::Snapshot;
+use thiserror::Error;
 
 /// Why a pass was not admitted, by the words that were read: who asks for no record pays for none.
-#[derive(Drop)]
+#[derive(Drop, Error)]
+#[error("{}", self.refusal())]
 pub struct ToldRefusal {
     // The refusal as proofs see it. It takes no memory.
     told: Snapshot<AdmitRefusal>,
@@ -93,5 +96,12 @@ impl ToldRefusal {
         ensures { IsWordOf (record_told self.now) result }
     {
         self.found
+    }
+}
+
+// As the refusal with records, since nothing shows a snapshot.
+impl fmt::Debug for ToldRefusal {
+    fn fmt<W: fmt::Write>(&self, f: &mut fmt::Formatter<W>) -> fmt::Result {
+        fmt::Debug::fmt(&self.refusal(), f)
     }
 }

@@ -1,14 +1,18 @@
 use sm_settings::SettingsFault;
 use std::alloc::AllocError;
+use thiserror::Error;
 
 /// Why an engine began no session.
-#[derive(Clone, Copy, PartialEq, Eq, Drop)]
+#[derive(Clone, Copy, Debug, PartialEq, Eq, Drop, Error)]
 pub enum BeginFault {
     /// The first line is no settings, or the engine can't run them, for this reason.
+    #[error("the settings are refused: {0}")]
     Settings(SettingsFault),
     /// Memory was refused.
+    #[error("out of memory")]
     NoMemory,
     /// A thread was refused.
+    #[error("no thread was to be had")]
     NoThread,
 }
 

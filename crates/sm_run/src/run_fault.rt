@@ -1,34 +1,24 @@
 use sm_lines::AnswerFault;
 use std::alloc::AllocError;
-use std::error::Error;
-use std::fmt;
+use thiserror::Error;
 
 /// Why a run ended early. The answers to all lines before the one at which it did were written whole; of that line's
 /// answer a front may have been written where writing failed, and nothing otherwise.
-#[derive(Clone, Copy, Debug, PartialEq, Eq, Drop)]
+#[derive(Clone, Copy, Debug, PartialEq, Eq, Drop, Error)]
 pub enum RunFault {
     /// The reader failed, or [`COUNT_LIMIT`](sm_lines::COUNT_LIMIT) of its calls or of the lines were counted.
+    #[error("Read")]
     Read,
     /// The writer failed, or took none of the bytes that it was given.
+    #[error("Write")]
     Write,
     /// Memory was refused.
+    #[error("NoMemory")]
     NoMemory,
     /// A thread was refused, and no session was begun.
+    #[error("NoThread")]
     NoThread,
 }
-
-impl fmt::Display for RunFault {
-    fn fmt<W: fmt::Write>(&self, f: &mut fmt::Formatter<W>) -> fmt::Result {
-        f.write_str(match self {
-            RunFault::Read => "Read",
-            RunFault::Write => "Write",
-            RunFault::NoMemory => "NoMemory",
-            RunFault::NoThread => "NoThread",
-        })
-    }
-}
-
-impl Error for RunFault {}
 
 impl From<AllocError> for RunFault {
     ghost use Rattle.std.specs.Prelude.{◌≡◌};

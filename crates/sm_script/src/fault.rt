@@ -2,12 +2,12 @@ ghost use Rattle.std.specs.Prelude.{◌≡◌};
 ghost use Rattle.sm_script.specs.declared.fault.ParseFault.TheVariants.{Line, NoMemory};
 
 use std::alloc::AllocError;
-use std::error::Error;
 use std::fmt;
+use thiserror::Error;
 
 /// Why a line of a script makes no call. Of several faults the first in this order is the answer, but
 /// of `BadNumber` and `BadKey` that of the leftmost word.
-#[derive(Clone, Copy, Debug, PartialEq, Eq, Drop)]
+#[derive(Clone, Copy, Debug, PartialEq, Eq, Drop, Error)]
 pub enum LineFault {
     /// The line has more than 70,000 bytes, and is no comment.
     LineTooLong,
@@ -34,8 +34,6 @@ impl fmt::Display for LineFault {
     }
 }
 
-impl Error for LineFault {}
-
 impl LineFault {
     ghost use Rattle.sm_script.specs.Answers.{line_fault_name};
 
@@ -55,7 +53,7 @@ impl LineFault {
 }
 
 /// Why a line makes no call, or can't.
-#[derive(Clone, Copy, Debug, PartialEq, Eq, Drop)]
+#[derive(Clone, Copy, Debug, PartialEq, Eq, Drop, Error)]
 pub enum ParseFault {
     /// The line makes no call.
     Line(LineFault),
@@ -76,8 +74,6 @@ impl fmt::Display for ParseFault {
         }
     }
 }
-
-impl Error for ParseFault {}
 
 impl From<LineFault> for ParseFault {
     ghost from_gives = { λ fault made. made ≡ Line fault };

@@ -5,37 +5,52 @@ use sm_desk::command::CommandFault;
 use sm_ownership::admit_fault::AdmitFault;
 use sm_ownership::change_fault::ChangeFault;
 use sm_place::PlaceFault;
+use thiserror::Error;
 
 /// Why a call of a script was refused.
-#[derive(Clone, Copy, PartialEq, Eq, Drop)]
+#[derive(Clone, Copy, Debug, PartialEq, Eq, Drop, Error)]
 pub enum Refused {
     /// There is no such shard.
+    #[error("there is no such shard")]
     UnknownShard,
     /// There is no such server.
+    #[error("there is no such server")]
     UnknownServer,
     /// The server isn't reached: it is stopped, or has failed.
+    #[error("the server isn't reached")]
     Unreachable,
     /// No server holds the shard without a request.
+    #[error("no server holds the shard without a request")]
     NotHeld,
     /// The shard's generation is not above that of its last published route.
+    #[error("the route is not newer than the published one")]
     OldRoute,
     /// The shard is vacant, so it has no route.
+    #[error("the shard is vacant")]
     WrongPhase,
     /// A client goes by the published route of its key's shard, and there is none.
+    #[error("no route is known")]
     NoRoute,
     /// The key is no key of the shard to which its request came.
+    #[error("the request is not for this shard")]
     WrongShard,
     /// Another thread changed the shard's record first.
+    #[error("another thread was first")]
     Raced,
     /// The request was let go with no reply.
+    #[error("no reply will come")]
     Closed,
     /// Why a command of the control was refused.
+    #[error(transparent)]
     Command(CommandFault),
     /// Why a server was not admitted to a shard.
+    #[error(transparent)]
     Admit(AdmitFault),
     /// The server forwards requests on the shard, and this one was forwarded as often as it may be.
+    #[error("the request was forwarded too often")]
     TooManyHops,
     /// The shard keeps as many requests as it may.
+    #[error("the shard keeps as many requests as it may")]
     KeptFull,
 }
 

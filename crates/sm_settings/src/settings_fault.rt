@@ -1,10 +1,10 @@
 use std::alloc::AllocError;
-use std::error::Error;
 use std::fmt;
+use thiserror::Error;
 
 /// Why a settings line is refused, in the order of the checks. `NoMemory` may come in place of any answer but
 /// `TooLong`.
-#[derive(Clone, Copy, Debug, PartialEq, Eq, Drop)]
+#[derive(Clone, Copy, Debug, PartialEq, Eq, Drop, Error)]
 pub enum SettingsFault {
     /// The line has more than 1,048,576 bytes.
     TooLong,
@@ -77,8 +77,6 @@ impl fmt::Display for SettingsFault {
         f.write_str(self.as_str())
     }
 }
-
-impl Error for SettingsFault {}
 
 impl From<AllocError> for SettingsFault {
     ghost use Rattle.std.specs.Prelude.{◌≡◌};

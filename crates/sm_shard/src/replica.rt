@@ -10,21 +10,28 @@ use crate::store_machine::StoreMachine;
 use sm_store::item::Item;
 use std::alloc::{AllocError, AllocFailed, Global};
 use std::collections::BTreeMap;
+use thiserror::Error;
 
 /// Why a shard's requests can't be followed.
-#[derive(Clone, Copy, Debug, PartialEq, Eq, Drop)]
+#[derive(Clone, Copy, Debug, PartialEq, Eq, Drop, Error)]
 pub enum ReplayFault {
     /// Memory was refused.
+    #[error("out of memory")]
     Memory,
     /// The number of a request isn't above those of its client before it, or the client is forgotten.
+    #[error("a request's number isn't above those of its client, or the client is forgotten")]
     OutOfOrder,
     /// There are as many batches as a head can count.
+    #[error("there are as many batches as a head can count")]
     TooMany,
     /// A batch, or a part of the base, isn't there. The log is to be read again.
+    #[error("a batch, or a part of the base, isn't there")]
     Missing,
     /// The bytes of a base stand for no machine.
+    #[error("the bytes of a base stand for no machine")]
     Unreadable,
     /// The store hasn't so many shards.
+    #[error("there is no such shard")]
     UnknownShard,
 }
 

@@ -1,7 +1,8 @@
 use crate::answer::{Answer, answer_of};
 use crate::ask::Ask;
 use sm_ranges::ServerId;
-use sm_service::{ApplyFault, CounterText, Reply, Request, Service};
+use sm_ranges::key::Key;
+use sm_service::{ApplyFault, Bytes, CounterText, Reply, Request, Service};
 use std::alloc::Global;
 use std::process::Abort;
 
@@ -33,6 +34,17 @@ impl Counter {
     pub(crate) fn answers_all<R: Abort>(&mut self, rt: &R, cases: &[(Ask<'_>, Answer<'_>)]) {
         for (ask, answer) in cases {
             assert!(rt; self.answers(*ask, *answer), "{ask:?}");
+        }
+    }
+
+    /// Whether the text is put at the key with its memory.
+    pub(crate) fn puts(&mut self, key: &[u8], text: Bytes) -> bool {
+        match Key::new(self.alloc, key) {
+            Ok(key) => matches!(
+                applied(&mut self.body, Request::Put(key, text)),
+                Ok(Reply::Done)
+            ),
+            Err(_) => false,
         }
     }
 

@@ -123,6 +123,30 @@ fn keeps_up_to_the_limit(rt: HostRuntime) {
     assert!(rt; counter.kept() == 2);
 }
 
+// A text of 4,096 bytes with room for so many.
+fn roomy<R: Abort>(rt: &R, alloc: Global, capacity: usize) -> Bytes {
+    let mut roomy = Vec::with_capacity(alloc, capacity)
+        .ok()
+        .expect(rt, "memory");
+    let text = text_of(rt, alloc, b'x', 4_096);
+    assert!(*rt; roomy.extend_from_slice(&text).is_ok());
+    Bytes::from(roomy)
+}
+
+// A text with much spare room is copied, and one with less keeps its memory: both read the same.
+#[test]
+fn holds_texts_with_spare_room(rt: HostRuntime) {
+    let alloc = rt.alloc();
+    let mut counter = Counter::new(alloc, 10);
+    let text = text_of(&rt, alloc, b'x', 4_096);
+    let cases: [(&[u8], usize); 4] = [(b"a", 4_096), (b"b", 8_192), (b"c", 8_193), (b"b", 8_193)];
+    for (key, capacity) in cases {
+        assert!(rt; counter.puts(key, roomy(&rt, alloc, capacity)));
+        assert!(rt; counter.answers(Ask::Get(key), Answer::Text(&text)));
+    }
+    assert!(rt; counter.dead() == 4_096);
+}
+
 #[test]
 fn holds_texts_up_to_the_longest(rt: HostRuntime) {
     let alloc = rt.alloc();
@@ -306,4 +330,25 @@ fn hands_back_what_memory_refuses(rt: HostRuntime) {
     assert!(rt; counter.answers_in_two(&rt, Ask::Del(b"a"), Answer::Done));
     assert!(rt; counter.answers_in_two(&rt, Ask::Get(b"b"), Answer::Text(b"three")));
     assert!(rt; counter.kept() == 9);
+}
+
+// With each allocation refused in turn (`tools/run-tests` does it). A body whose move is refused keeps its old memory, the
+// bytes that are dead there, and its answers. The next settling moves it.
+#[test]
+fn adoption_that_memory_refuses(rt: HostRuntime) {
+    let mut counter = Counter::new(rt.alloc(), 9);
+    counter.settle(ServerId::of(1));
+    for text in [b"x".as_slice(), b"yy".as_slice()] {
+        assert!(rt; counter.answers_in_two(&rt, Ask::Put(b"a", text), Answer::Done));
+    }
+    let dead = counter.dead();
+    assert!(rt; dead >= 1);
+    counter.settle(ServerId::of(1));
+    assert!(rt; counter.dead() == dead);
+    counter.settle(ServerId::of(2));
+    assert!(rt; counter.dead() == 0 || counter.dead() == dead);
+    assert!(rt; counter.answers_in_two(&rt, Ask::Get(b"a"), Answer::Text(b"yy")));
+    assert!(rt; counter.kept() == 3);
+    counter.settle(ServerId::of(2));
+    assert!(rt; counter.dead() == 0);
 }

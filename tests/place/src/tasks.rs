@@ -45,7 +45,7 @@ fn make_all(rt: &impl Abort, books: &mut Books, steps: &[(u16, Step)]) {
 
 // Makes the steps in turn, with at most so many servers leaving.
 fn make_each(rt: &impl Abort, books: &mut Books, ops: u16, steps: &[(u16, Step)]) {
-    let tasks = Tasks::new(ops.min(MAX_SERVER));
+    let tasks = Tasks::new(ops);
     for (a, step) in steps {
         let a = server(rt, books, *a);
         assert!(rt; is_answered(&tasks, books, a, *step));
