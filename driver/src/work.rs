@@ -134,7 +134,10 @@ pub enum NotDone {
     /// It is larger than the store takes at once, so nothing of it is made.
     #[error("{0}")]
     TooLarge(String),
-    /// The store didn't make it, and won't, or never gave the shard.
+    /// The server that executes the shard hasn't read it yet, as soon after a start or a move.
+    #[error("the store hasn't given the shard so far")]
+    Unread,
+    /// The store didn't make it, and won't, or said why it doesn't give the shard.
     #[error("the store didn't make it: {0}")]
     NotMade(String),
     /// It may have been made.

@@ -77,8 +77,13 @@ fn client(nodes: &[Node], number: u64, end: Instant, tolerates: bool) -> (Vec<i6
             _ => add(&node.durable, shard, b"count", 1).map(|_| counts[usize::from(shard)] += 1),
         };
         match told {
-            Err(NotDone::Unknown(_) | NotDone::Stopped | NotDone::Busy | NotDone::NotMade(_))
-                if tolerates => {}
+            Err(
+                NotDone::Unknown(_)
+                | NotDone::Stopped
+                | NotDone::Busy
+                | NotDone::Unread
+                | NotDone::NotMade(_),
+            ) if tolerates => {}
             Err(why) => panic!("it wasn't done: {why}"),
             Ok(()) => {}
         }

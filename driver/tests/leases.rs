@@ -139,7 +139,10 @@ fn a_server_past_its_lease_tells_nothing() {
     assert!(is_count(add(&nodes[1].durable, 0, b"a", 1), 4));
     let told = held(&nodes[0].durable, 0, b"a");
     assert!(
-        matches!(told, Err(NotDone::NotMade(_) | NotDone::Unknown(_))),
+        matches!(
+            told,
+            Err(NotDone::NotMade(_) | NotDone::Unread | NotDone::Unknown(_))
+        ),
         "{told:?}"
     );
 }

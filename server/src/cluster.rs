@@ -1,8 +1,10 @@
 //! What all threads share: the board, who is present, and what is known of each shard.
 use crate::body::{Shard, Storage};
 use crate::command::Cursors;
+use crate::descriptors::{Descriptors, MOST_OF_PAGE};
 use crate::domains::Domains;
-use crate::dump::{restore, DumpFault, ShardHead};
+use crate::dump::{restore, DumpFault, ShardHead, USUAL_FOLDER};
+use crate::guesses::Guesses;
 use crate::io::Inlet;
 use crate::keyspace::Rule;
 use crate::open_fault::OpenFault;
@@ -21,6 +23,8 @@ use std::time::{Duration, Instant};
 
 /// How many clients may always come at once before they have shown who they are.
 const LEAST_STRANGERS: usize = 64;
+/// Of the descriptors for clients, one of so many is for those who haven't shown who they are, where there are few.
+const STRANGERS: usize = 5;
 
 /// How a server is to run.
 #[derive(Clone, Debug)]
@@ -35,8 +39,12 @@ pub struct Configuration {
     pub ceiling: u64,
     /// The servers that fail together.
     pub domains: Domains,
-    /// How many connections there may be.
+    /// How many connections there may be of clients that have shown who they are, or needn't.
     pub most_clients: usize,
+    /// How many there may be beside these of clients that haven't.
+    pub most_strangers: usize,
+    /// How many connections to the page there may be.
+    pub most_of_page: usize,
     /// How long a command waits for a shard that nobody executes.
     pub wait: Duration,
     /// How often a thread tries a shard that another one has before it goes on with other connections.
@@ -69,6 +77,8 @@ impl Configuration {
             ceiling: MAX_CEILING,
             domains: Domains::default(),
             most_clients: 20_000,
+            most_strangers: 20_000 / 4,
+            most_of_page: MOST_OF_PAGE,
             wait: Duration::from_secs(1),
             spins: 64,
             busy_poll: Duration::ZERO,
@@ -76,7 +86,7 @@ impl Configuration {
             grace: Duration::from_secs(2),
             log_batches: Tuning::default().most_batches,
             reads: Reads::Exact,
-            folder: PathBuf::from("."),
+            folder: PathBuf::from(USUAL_FOLDER),
             safety: Safety::default(),
             settings: None,
         }
@@ -84,11 +94,25 @@ impl Configuration {
 }
 
 impl Configuration {
-    /// Whether one more client may come, where so many haven't shown yet who they are: with a quarter of all
-    /// connections they leave room for others.
-    pub fn takes_stranger(&self, strangers: usize) -> bool {
-        let most = (self.most_clients / 4).max(LEAST_STRANGERS);
-        !self.safety.is_guarded() || strangers < most
+    /// Has no more connections than there are descriptors for.
+    pub fn fit(&mut self, descriptors: Descriptors) {
+        let wanted = self.most_clients;
+        let strangers = match self.safety.is_guarded() {
+            true => (wanted / 4).max(LEAST_STRANGERS),
+            false => 0,
+        };
+        let least = strangers.min(descriptors.of_clients / STRANGERS);
+        let most = descriptors.of_clients - least;
+        self.most_clients = wanted.min(most);
+        self.most_strangers = strangers.min(descriptors.of_clients - self.most_clients);
+        self.most_of_page = descriptors.of_page;
+        if most < wanted {
+            tracing::warn!(
+                "there are at most {most} clients at a time, not {wanted}: the system lets this process have {} files \
+                 open; `ulimit -Hn`, or LimitNOFILE of its unit, lets it have more",
+                descriptors.most
+            );
+        }
     }
 
     /// What binds plans and restarts.
@@ -110,6 +134,8 @@ pub struct Cluster {
     pub progress: Progress,
     /// How often each change of a shard was made.
     pub changes_made: ChangesMade,
+    /// From where wrong passwords came lately.
+    pub guesses: Guesses,
     /// Where SCAN's cursors stand.
     pub cursors: Cursors,
     /// Where data lies.
@@ -142,13 +168,18 @@ impl Cluster {
         let keys = bodies.iter_mut().map(|it| AtomicU64::new(it.keys() as u64));
         let keys = keys.collect();
         let board = opened(&configuration, bodies)?;
+        let cursors = match storage.peers() {
+            Some(_) => Cursors::among_others(),
+            None => Cursors::default(),
+        };
         Ok(Cluster {
             board: RwLock::new(board),
             board_version: AtomicU64::new(0),
             presence: Presence::new(configuration.servers),
             progress: Progress::default(),
             changes_made: ChangesMade::default(),
-            cursors: Cursors::default(),
+            guesses: Guesses::default(),
+            cursors,
             storage,
             started: Instant::now(),
             keys,
@@ -210,6 +241,21 @@ impl Cluster {
     /// The number of shards.
     pub fn shards(&self) -> u16 {
         self.configuration.rule.shards()
+    }
+
+    /// Whether one more client may come: where each has to show who it is first, there is a place as long as those who
+    /// have leave one, and else while all together do.
+    pub fn takes_client(&self) -> bool {
+        let open: u64 = self.inlets().iter().map(|it| it.stats().open.get()).sum();
+        match self.configuration.safety.is_guarded() {
+            true => self.known_clients() < self.configuration.most_clients,
+            false => (open as usize) < self.configuration.most_clients,
+        }
+    }
+
+    /// How many clients have shown who they are, or needn't.
+    pub fn known_clients(&self) -> usize {
+        self.inlets().iter().map(|it| it.known()).sum()
     }
 
     /// Whether keys are counted, and what each server does: not where data outlives the process.
@@ -288,7 +334,7 @@ impl Cluster {
     /// Has all threads come to their end.
     pub fn stop(&self) {
         self.stops.store(true, Ordering::Release);
-        self.wake();
+        self.inlets().iter().for_each(|it| it.wake_for_stop());
     }
 
     /// Whether threads are to end.
@@ -341,5 +387,37 @@ impl fmt::Debug for Cluster {
         f.debug_struct("Cluster")
             .field("configuration", &self.configuration)
             .finish_non_exhaustive()
+    }
+}
+
+#[cfg(test)]
+mod tests {
+    use super::*;
+    use crate::secret::Secret;
+
+    /// How many clients and strangers there may be of so many that are wanted, with so many descriptors for them.
+    fn fitted(wanted: usize, of_clients: usize, is_guarded: bool) -> (usize, usize) {
+        let mut configuration = Configuration {
+            most_clients: wanted,
+            ..Configuration::new(Rule::Hash(1))
+        };
+        configuration.safety.password = Secret::of(b"secret").filter(|_| is_guarded);
+        configuration.fit(Descriptors {
+            most: of_clients,
+            of_clients,
+            of_page: 9,
+        });
+        assert_eq!(configuration.most_of_page, 9);
+        (configuration.most_clients, configuration.most_strangers)
+    }
+
+    #[test]
+    fn clients_and_strangers_have_no_more_places_than_descriptors() {
+        assert_eq!(fitted(1_000, 5_000, false), (1_000, 0));
+        assert_eq!(fitted(1_000, 500, false), (500, 0));
+        assert_eq!(fitted(1_000, 5_000, true), (1_000, 250));
+        assert_eq!(fitted(100, 5_000, true), (100, 64));
+        assert_eq!(fitted(1_000, 500, true), (400, 100));
+        assert_eq!(fitted(1_000, 1_100, true), (880, 220));
     }
 }

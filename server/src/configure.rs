@@ -1,5 +1,6 @@
 //! What the command line, and the files that it names, come to.
 use crate::cluster::Configuration;
+use crate::descriptors::MOST_OF_PAGE;
 use crate::domains::Domains;
 use crate::keyspace::{Keyspace, Rule};
 use crate::options::Options;
@@ -23,7 +24,9 @@ pub fn configuration(options: &Options) -> Result<Configuration, Fault> {
         restarts,
         ceiling,
         domains: domains(options, settings.as_ref())?,
-        most_clients: options.max_clients,
+        most_clients: options.max_clients as usize,
+        most_strangers: 0,
+        most_of_page: MOST_OF_PAGE,
         wait: Duration::from_millis(options.wait),
         spins: options.spins,
         busy_poll: Duration::from_micros(options.busy_poll),

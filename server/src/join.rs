@@ -1,6 +1,7 @@
 //! How a process becomes a server of a cluster of several.
 use crate::body::OnEtcd;
 use crate::cluster::{Cluster, Configuration};
+use crate::command::TABLE;
 use crate::control::Asked;
 use crate::joining::JoinOptions;
 use crate::peers::{checksum, may_listen, Identity, Peers, Terms};
@@ -120,6 +121,7 @@ fn terms(member: &Member, settings: u64, safety: &Safety) -> Terms {
             server: member.server(),
             settings,
             process: member.process(),
+            table: TABLE,
         },
         secret: safety.peer_secret.clone(),
         tls: safety.peer_tls.clone(),

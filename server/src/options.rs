@@ -1,4 +1,5 @@
 //! The command line.
+use crate::dump::USUAL_FOLDER as DUMPS;
 use crate::joining::JoinOptions;
 use crate::safety::SafetyOptions;
 use crate::{NAME, VERSION};
@@ -43,9 +44,15 @@ pub struct Options {
     #[arg(long, value_name = "PORT", default_value_t = 7380, help_heading = NETWORK)]
     pub http_port: u16,
 
-    /// Most connections at a time
-    #[arg(long, value_name = "COUNT", default_value_t = 20_000, help_heading = NETWORK)]
-    pub max_clients: usize,
+    /// Most connections at a time, 1 or more; fewer where the system lets the process have fewer files open
+    #[arg(
+        long,
+        value_name = "COUNT",
+        default_value_t = 20_000,
+        value_parser = clap::value_parser!(u32).range(1..),
+        help_heading = NETWORK
+    )]
+    pub max_clients: u32,
 
     /// Who may reach it, and what they may do
     #[command(flatten)]
@@ -144,8 +151,8 @@ pub struct Options {
     )]
     pub log_batches: u64,
 
-    /// Folder of the files of SM DUMP and SM LOAD
-    #[arg(long, value_name = "FOLDER", default_value = ".", help_heading = DATA)]
+    /// Folder of the files of SM DUMP and SM LOAD; the first dump makes it
+    #[arg(long, value_name = "FOLDER", default_value = DUMPS, help_heading = DATA)]
     pub folder: PathBuf,
 
     /// Which server of several processes this is

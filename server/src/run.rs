@@ -6,7 +6,8 @@ use crate::cluster::{Cluster, Configuration};
 use crate::command::Executor;
 use crate::configure::configuration;
 use crate::control::{Asked, Campaigner, Controller, StoredController};
-use crate::io::{Acceptor, Inlet, Worker};
+use crate::descriptors::{Descriptors, Needs};
+use crate::io::{Acceptor, Handshaker, Inlet, Worker};
 use crate::join::Joined;
 use crate::keyspace::Keyspace;
 use crate::options::{LogFormat, Options};
@@ -33,7 +34,7 @@ const MOST_USUAL_THREADS: usize = 4;
 pub fn run(options: &Options) -> Result<(), Fault> {
     begin_log(options)?;
     let mut attendant = Attendant::new()?;
-    let configuration = configuration(options)?;
+    let configuration = fitted(options)?;
     let address = SocketAddr::new(options.bind, options.port);
     let told = |error| format!("{address}: {error}; --port takes another port");
     let listener = Acceptor::bind(address).map_err(told)?;
@@ -51,8 +52,8 @@ pub fn run(options: &Options) -> Result<(), Fault> {
     announce(options, &cluster, acceptor.address()?);
     let waker = acceptor.waker();
     let mut threads = workers(&cluster, polls, &control)?;
-    let between = joined.map(|it| it.begin(&cluster, control.clone()));
-    let between = between.transpose()?;
+    let begin = |it: Joined| it.begin(&cluster, control.clone());
+    let between = joined.map(begin).transpose()?;
     drop(control);
     threads.push(spawn(&cluster, "acceptor", move || {
         acceptor.run();
@@ -68,6 +69,13 @@ pub fn run(options: &Options) -> Result<(), Fault> {
     let ended = end(&cluster, threads, between);
     tracing::info!("stopped");
     ended.and(attended)
+}
+
+/// What the options come to, with no more connections than there are descriptors for.
+fn fitted(options: &Options) -> Result<Configuration, Fault> {
+    let mut configuration = configuration(options)?;
+    configuration.fit(Descriptors::raised(needs(options, &configuration)));
+    Ok(configuration)
 }
 
 /// Waits until each thread has come to its end, and then leaves the store, and the other processes.
@@ -164,22 +172,43 @@ fn begin_log(options: &Options) -> Result<(), Fault> {
     }
 }
 
-/// Makes what each thread for clients polls, and has the cluster know what reaches them.
-fn polls(options: &Options, cluster: &Cluster) -> Result<Vec<Poll>, Fault> {
+/// How many threads there are for clients.
+fn threads(options: &Options) -> usize {
     let processors = thread::available_parallelism().map_or(1, usize::from);
     // One is left to clients, who often run on the same machine.
     let usual = processors.saturating_sub(1).clamp(1, MOST_USUAL_THREADS);
-    let count = options.threads.map_or(usual, usize::from);
-    let polls = (0..count)
+    options.threads.map_or(usual, usize::from)
+}
+
+/// What descriptors are kept for, beside clients.
+fn needs(options: &Options, configuration: &Configuration) -> Needs {
+    let others = usize::from(configuration.servers).saturating_sub(1);
+    // If clients speak TLS, each thread has one beside it that does their handshakes.
+    let each = 1 + usize::from(configuration.safety.tls.is_some());
+    Needs {
+        threads: each * threads(options),
+        has_page: options.http_port > 0,
+        peers: options.join.server().map(|_| others),
+    }
+}
+
+/// Makes what each thread for clients polls, and has the cluster know what reaches them.
+fn polls(options: &Options, cluster: &Cluster) -> Result<Vec<Poll>, Fault> {
+    let polls = (0..threads(options))
         .map(|_| Poll::new())
         .collect::<Result<Vec<_>, _>>()?;
+    let configuration = &cluster.configuration;
+    let is_guarded = configuration.safety.is_guarded();
+    let of_each = is_guarded.then(|| configuration.most_strangers / polls.len());
     let inlets = polls
         .iter()
-        .map(|it| Inlet::new(it, cluster.configuration.servers).map(Arc::new));
+        .map(|it| Inlet::new(it, configuration.servers).map(|it| it.with_most_strangers(of_each)))
+        .map(|it| it.map(Arc::new));
     cluster.set_inlets(inlets.collect::<Result<_, _>>()?);
     Ok(polls)
 }
 
+/// Begins the threads for clients, each of which polls one of these.
 fn workers(
     cluster: &Arc<Cluster>,
     polls: Vec<Poll>,
@@ -195,7 +224,22 @@ fn workers(
         let run = move || worker.run().map_err(Into::into);
         threads.push(spawn(cluster, &format!("clients-{number}"), run)?);
     }
+    threads.extend(handshakers(cluster)?);
     Ok(threads)
+}
+
+/// Has each thread for clients have one beside it that does their handshakes, if they are met by TLS.
+fn handshakers(cluster: &Arc<Cluster>) -> Result<Vec<Running>, Fault> {
+    let inlets = cluster.inlets().iter().enumerate();
+    let begin = |(number, inlet): (usize, &Arc<Inlet>)| {
+        let handshaker = Handshaker::new(cluster.clone(), inlet.clone())?;
+        let run = move || handshaker.run().map_err(Into::into);
+        spawn(cluster, &format!("handshakes-{number}"), run)
+    };
+    match cluster.configuration.safety.tls {
+        Some(_) => inlets.map(begin).collect(),
+        None => Ok(Vec::new()),
+    }
 }
 
 /// Stops the cluster when a thread ends, however it does.
@@ -225,7 +269,8 @@ fn spawn(
 fn announce(options: &Options, cluster: &Cluster, address: SocketAddr) {
     let (servers, shards) = (cluster.configuration.servers, cluster.shards());
     let by = cluster.configuration.rule.name();
-    tracing::info!(%address, servers, shards, by, "serving Redis clients");
+    let most_clients = cluster.configuration.most_clients;
+    tracing::info!(%address, servers, shards, by, most_clients, "serving Redis clients");
     match cluster.storage.durable() {
         Some(_) => tracing::info!("data lies {}", cluster.storage.description()),
         None => tracing::warn!("data lies {}", cluster.storage.description()),

@@ -354,6 +354,25 @@ def processes_speak_tls_and_know_a_secret(program):
                 assert client.ask("SET", "key:1", 1) == "OK"
 
 
+def who_ends_within_a_handshake_holds_no_thread(program):
+    """An alert in place of a handshake between processes, or within one, ends the connection, and nobody waits."""
+    with tempfile.TemporaryDirectory(prefix="sm-peers-") as folder, contextlib.ExitStack() as stack:
+        certify(folder)
+        tls = ["--peer-ca", f"{folder}/ca.pem", "--peer-cert", f"{folder}/peer.pem", "--peer-key", f"{folder}/peer.key"]
+        several, told = stack.enter_context(cluster(program, *tls)), []
+        process, clients = several.processes[1], [stack.enter_context(several.client(1)) for _ in range(8)]
+        port = int(rows(clients[0])[0][8].rpartition(":")[2])
+        for how in ("alert", "hello"):
+            took = served.slowest_beside(clients, port, how, 8)
+            told.append(f"{how} {took * 1000:.1f} ms")
+            eventually(lambda: not process.threads("from"))
+        used = process.processor_seconds()
+        time.sleep(1)
+        used = process.processor_seconds() - used
+        assert used < 0.5, f"{used} processor seconds in one"
+        return f"one of a hundred took {', '.join(told)}"
+
+
 def certify(folder):
     """Writes two secrets, an authority, and a certificate of it for peers."""
     for name in ("secret", "other"):
@@ -545,11 +564,66 @@ def who_does_not_wait_is_told(program):
             del several.processes[gone]
             time.sleep(LEASE + 1)
         names = {it.split()[0] for it in load.errors}
-        known = {"UNKNOWN", "PEERDOWN", "SHARDPAUSED", "SERVERDOWN", "SHARDBUSY", "STOREDOWN"}
+        known = {"UNKNOWN", "PEERDOWN", "SHARDPAUSED", "SERVERDOWN", "SHARDBUSY", "STOREDOWN", "LOADING"}
         assert {"UNKNOWN", "PEERDOWN"} <= names <= known, names
         with several.any() as client:
             total = load.checked(client)
     return f"{total} additions, {', '.join(sorted(names))}"
+
+
+def without_command(program, name, room):
+    """A copy of the program that doesn't know this command: in its table that has another name."""
+    code = pathlib.Path(program).read_bytes()
+    own, other = (it.encode().ljust(16, b"\0") for it in (name, f"{name[:-1]}~"))
+    assert code.count(own) == 1, f"{code.count(own)} places of {name}"
+    copy = pathlib.Path(room) / "without"
+    copy.write_bytes(code.replace(own, other))
+    copy.chmod(0o700)
+    return str(copy)
+
+
+def one_process_knows_a_command_more(program):
+    """As while processes are upgraded: what the other ones don't know is refused alone, and nothing else is."""
+    with tempfile.TemporaryDirectory() as room, cluster(program) as several:
+        older = without_command(program, "strlen", room)
+        with served.served(older) as alone, alone.client() as client:
+            client.send("STRLEN", "a")
+            assert str(client.read()).startswith("ERR unknown command 'STRLEN'")
+        several.processes[1].kill(signal.SIGTERM)
+        several.program = older
+        several.begin(1)
+        with several.any() as client:
+            eventually(lambda: rows(client)[0][1] == "up")
+            for shard in range(SHARDS):
+                with contextlib.suppress(Refused):
+                    client.ask("SM", "MIGRATE", shard, 1 + shard % 3)
+        several.settled()
+        with several.client(2) as client:
+            owners = [it[1] for it in shards(client)]
+            names = [f"k{it}" for it in range(60)]
+            there = [it for it in names if owners[client.ask("SM", "KEY", it)] == "1"]
+            here = next(it for it in names if owners[client.ask("SM", "KEY", it)] == "2")
+            assert len(there) > 3, owners
+            with Load(several, 18) as load:
+                for turn in range(300):
+                    key = there[turn % len(there)]
+                    # The first three are of one shard, and go together.
+                    asked = [("INCR", f"{{{key}}}n"), ("STRLEN", key), ("GET", f"{{{key}}}n")]
+                    answers = client.piped([*asked, ("STRLEN", here), ("INCR", here)])
+                    count = turn // len(there) + 1
+                    assert [answers[it] for it in (0, 2)] == [count, b"%d" % count], answers
+                    assert answers[3:] == [turn and len(str(turn)), turn + 1], answers
+                    told = str(answers[1])
+                    assert told.startswith("OTHERVERSION nothing has changed: the process of server 1"), told
+                key = f"{{{there[0]}}}y"
+                client.piped([("MULTI",), ("SET", key, 1), ("STRLEN", key)])
+                client.send("EXEC")
+                assert str(client.read()).startswith("OTHERVERSION") and client.ask("GET", key) is None
+            assert not load.errors, load.errors[:3]
+            total = load.checked(client)
+        log = "".join(several.processes[1].log)
+        assert "a connection of a process ended" not in log, log[-500:]
+        return f"{total} additions meanwhile"
 
 
 def who_takes_the_place_of_a_process_is_asked(program):
@@ -741,6 +815,7 @@ TESTS = [
     shards_spread_over_servers_again,
     kills_of_a_process_lose_nothing,
     who_does_not_wait_is_told,
+    one_process_knows_a_command_more,
     who_takes_the_place_of_a_process_is_asked,
     who_is_not_reached_is_told_in_time,
     kills_of_the_leader_let_migrations_go_on,
@@ -750,7 +825,9 @@ TESTS = [
     restarts_wait_for_no_process_that_has_failed,
 ]
 
+BY_TLS = [processes_speak_tls_and_know_a_secret, who_ends_within_a_handshake_holds_no_thread]
+
 if __name__ == "__main__":
     if not shutil.which("etcd"):
         sys.exit("etcd isn't installed: tools/setup installs it")
-    main([*TESTS, *([processes_speak_tls_and_know_a_secret] if shutil.which("openssl") else [])])
+    main([*TESTS, *(BY_TLS if shutil.which("openssl") else [])])

@@ -116,6 +116,28 @@ SET {m}a text
 INCR {m}a
 GET {m}a
 EXEC
+MULTI
+SET {m}a 1
+EXEC x
+EXEC
+EXEC x
+MULTI
+CLIENT NOSUCH
+EXEC
+MULTI
+CONFIG GET
+EXEC
+MULTI
+ACL WHOAMI x
+EXEC
+MULTI
+COMMAND COUNT x
+EXEC
+MULTI
+ACL WHOAMI
+CLIENT GETNAME
+EXEC
+CLIENT HELP x
 AUTH secret
 AUTH other secret
 CLIENT SETNAME me
@@ -150,6 +172,11 @@ HELLO 2 setname
 HELLO 3 AUTH default
 HELLO abc NOSUCH
 """
+# The same of what is no text, or has a zero.
+ALIKE_BYTES = [
+    (b"\xff\xfe", "a", b"\xc3("), (b"no\x00such", b"a\x00b", b"\xff\n"), (b"x" * 200, b"y" * 100, b"z" * 100),
+    (b"\xff" * 200,), ("CLIENT", b"N\xff"), ("CONFIG", b"\r\n\xe4"), ("HELLO", 3, b"N\xff"), ("GET", b"\xff", b"\xfe"),
+]  # fmt: skip
 # What only one of them has; each is answered by what begins so.
 OWN = [
     ("SET a b EX 10", "NOEXPIRY"),
@@ -209,6 +236,11 @@ def answers_are_those_of_redis(program):
                     if wanted != found:
                         differences.append(f"{line} in version {version}: Redis {wanted!r}, and we {found!r}")
                     count += 1
+                for words in ALIKE_BYTES:
+                    wanted, found = theirs.raw(*words), ours.raw(*words)
+                    if wanted != found:
+                        differences.append(f"{words} in version {version}: Redis {wanted!r}, and we {found!r}")
+                    count += 1
                 for key in ("a", "fresh", "{m}a", "{m}b", "none"):
                     ours.raw("DEL", key)
     assert not differences, "\n".join(differences)
@@ -256,6 +288,26 @@ def other_answers_are_named(program):
         client.send("SET", "a", b"v" * 65536)
         assert str(client.read()).startswith("TOOLONG")
         assert client.ask("SET", b"k" * 255, b"v" * 65535) == "OK"
+
+
+def hints_lead_somewhere(program):
+    """Where an error says HELP, that is answered."""
+    with served(program) as server, server.client() as client:
+        for name in ("ACL", "CLIENT", "COMMAND", "CONFIG"):
+            client.send(name, "NOSUCH")
+            assert str(client.read()) == f"ERR unknown subcommand 'NOSUCH'. Try {name} HELP."
+            told = client.ask(name, "help")
+            title = f"{name} <subcommand> [<arg> [value] [opt] ...]. Subcommands are:"
+            assert told[0] == title and told[-2:] == ["HELP", "    Prints this help."], told
+            words = [it.split()[0] for it in told[1:] if it[0] not in " ("]
+            for word in words:
+                # Each is there; some lack arguments.
+                client.send(name, word)
+                answer = client.read()
+                assert "unknown" not in str(answer), (name, word, answer)
+        for cursor in (99, 2**63, 2**64 - 1):
+            client.ask("SET", "a", 1)
+            assert client.ask("SCAN", cursor, "COUNT", 1_000) == [b"0", [b"a"]]
 
 
 def redis_py_does_all(program):
@@ -388,6 +440,7 @@ TESTS = [
     texts_for_people_are_told_as_by_redis,
     who_quits_is_answered_and_cut_off,
     other_answers_are_named,
+    hints_lead_somewhere,
     redis_py_does_all,
     scans_give_each_key_once_in_order,
     passwords_are_asked_for,

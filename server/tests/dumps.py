@@ -1,5 +1,6 @@
 #!/usr/bin/env python3
 """Files with all shards: dumps.py PROGRAM."""
+import os
 import pathlib
 import tempfile
 import threading
@@ -91,6 +92,37 @@ def other_files_are_refused(program):
             assert pathlib.Path(room, "one").read_bytes() == whole, "a dump that wasn't written changed the one before"
 
 
+def dumps_replace_nothing_but_dumps(program):
+    """The folder is made for them, and what isn't a dump stays as it is."""
+    with tempfile.TemporaryDirectory() as room:
+        folder = pathlib.Path(room, "made", "dumps")
+        with served(program, "--folder", folder, "--shards", 4) as server, server.client() as client:
+            assert refused(client, "SM", "LOAD", "one") == "BadFile" and not folder.exists()
+            assert client.ask("SM", "DUMP", "one") and folder.stat().st_mode & 0o777 == 0o700
+            other = pathlib.Path(room, "other")
+            other.write_text("durkenzo-dump 1\n")
+            for name, text in {"main.rs": "fn main() {}\n", "tool": "#!/bin/sh\n", "empty": ""}.items():
+                (folder / name).write_text(text)
+                assert refused(client, "SM", "DUMP", name) == "NameTaken", name
+                assert (folder / name).read_text() == text
+            (folder / "link").symlink_to(other)
+            (folder / "folder").mkdir()
+            os.mkfifo(folder / "fifo")
+            for name in ("link", "folder", "fifo"):
+                assert refused(client, "SM", "DUMP", name) == "NameTaken", name
+            assert refused(client, "SM", "LOAD", "fifo") == refused(client, "SM", "LOAD", "folder") == "ForeignFile"
+            # One that an earlier process left isn't written over.
+            left = [folder / f"one.{it}.part" for it in range(9)]
+            for it in left:
+                it.write_text("left")
+            (folder / "one").write_text("durkenzo-dump 0\n")
+            client.ask("SET", "kept", 1)
+            assert client.ask("SM", "DUMP", "one") and b"kept" in (folder / "one").read_bytes()
+            assert all(it.read_text() == "left" for it in left) and other.read_text() == "durkenzo-dump 1\n"
+        with served(program, "--shards", 4, cwd=room) as server, server.client() as client:
+            assert client.ask("SM", "DUMP", "one") and pathlib.Path(room, "durkenzo-dumps", "one").is_file()
+
+
 def loads_under_load_answer_all(program):
     """Commands that come while a dump is loaded wait for it."""
     with tempfile.TemporaryDirectory() as room, served(program, "--folder", room) as server:
@@ -114,7 +146,7 @@ def loads_under_load_answer_all(program):
             return f"20 loads, {len(answers)} answers"
 
 
-TESTS = [dumps_are_loaded, other_files_are_refused, loads_under_load_answer_all]
+TESTS = [dumps_are_loaded, other_files_are_refused, dumps_replace_nothing_but_dumps, loads_under_load_answer_all]
 
 if __name__ == "__main__":
     main(TESTS)

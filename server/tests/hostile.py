@@ -7,8 +7,9 @@ import select
 import socket
 import subprocess
 import time
+import urllib.request
 
-from served import Client, Refused, main, packed, served
+from served import Client, Refused, free_port, main, packed, served
 
 SEED = 20_251_126
 SPOILT_BYTES = 1_000_000
@@ -18,8 +19,11 @@ IDLE = min(10_000, resource.getrlimit(resource.RLIMIT_NOFILE)[1] - 500)
 MOST_IDLE_BYTES = 2_000
 MEBIBYTE = 1 << 20
 # What is said of bounds behind Redis' words.
-BYTES = b": a command has at most 1048576 bytes"
-ARGUMENTS = b": a command has at most 1024 arguments, its name among them"
+BYTES = b": at most 536870912 bytes of a command are read"
+ARGUMENTS = b": at most 1048576 arguments of a command are read"
+# What is said of a command that is read to its end, and refused.
+MANY = "TOOLARGE a command has at most 1024 arguments, its name among them: send it in parts"
+LARGE = "TOOLARGE a command has at most 1048576 bytes: send it in parts"
 # How many bytes a client reads that always waits for more, and for how many answers.
 READ, OUTSTANDING = 100_000_000, 100
 PIECES = [
@@ -85,25 +89,50 @@ def each_bound_is_told(program):
     with served(program) as server:
         for bytes_, wanted in [
             (b"*1\r\n$9223372036854775808\r\n", b"-ERR Protocol error: invalid bulk length"),
-            (b"*1\r\n$1048577\r\n", b"-ERR Protocol error: invalid bulk length" + BYTES),
+            (b"*1\r\n$536870913\r\n", b"-ERR Protocol error: invalid bulk length" + BYTES),
             (b"*9223372036854775808\r\n", b"-ERR Protocol error: invalid multibulk length"),
             (b"*9223372036854775807\r\n", b"-ERR Protocol error: invalid multibulk length" + ARGUMENTS),
-            (b"*1025\r\n", b"-ERR Protocol error: invalid multibulk length" + ARGUMENTS),
+            (b"*1048577\r\n", b"-ERR Protocol error: invalid multibulk length" + ARGUMENTS),
+            (b"*1025\r\n$1\r\nabc", b"-ERR Protocol error: expected CRLF behind an argument"),
             (b"*1\r\nGET\r\n", b"-ERR Protocol error: expected '$', got 'G'"),
             (b"x" * 70_000, b"-ERR Protocol error: too big inline request: it has at most 65536 bytes"),
             (b'SET a "b\r\n', b"-ERR Protocol error: unbalanced quotes in request"),
-            (b"*9\r\n" + b"$200000\r\n" + b"v" * 200_000 + b"\r\n", None),
         ]:
             with socket.create_connection(("127.0.0.1", server.port), 10) as one:
                 one.sendall(bytes_)
-                if wanted is None:
-                    continue
                 answer = b""
                 with contextlib.suppress(ConnectionError):
                     while more := one.recv(4096):
                         answer += more
                 # Unread bytes may have the system drop the answer with the connection.
                 assert answer == wanted + b"\r\n" or not answer and len(bytes_) > 65536, (bytes_[:30], answer)
+
+
+def too_large_commands_are_refused_alone(program):
+    """They are read to their end, of which nothing is kept, and what is behind them is done."""
+    with served(program) as server, server.client() as client:
+        client.ask("SET", "a", 1)
+        many, long = ("MGET", *["a"] * 1_100), ("SET", "a", b"v" * 2 * MEBIBYTE)
+        answers = client.piped([many, ("GET", "a"), long, ("GET", "a"), ("DEL", *["a"] * 1_024), ("GET", "a")])
+        told = [str(it) if isinstance(it, Refused) else it for it in answers]
+        assert told == [MANY, b"1", LARGE, b"1", MANY, b"1"], told
+        answers = client.piped([("MULTI",), ("INCR", "a"), many, ("INCR", "a"), ("EXEC",), ("GET", "a")])
+        assert str(answers[4]).startswith("EXECABORT") and answers[5] == b"1", answers
+        client.socket.sendall(b"DEL" + b" a" * 1_100 + b"\r\nGET a\r\n")
+        assert str(client.read()) == MANY and client.read() == b"1"
+        before, most, value = server.memory(), 0, b"v" * MEBIBYTE
+        client.socket.sendall(b"*3\r\n$3\r\nSET\r\n$1\r\na\r\n$%d\r\n" % (200 * MEBIBYTE))
+        with server.client() as other:
+            for _ in range(200):
+                client.socket.sendall(value)
+                assert other.ask("PING") == "PONG"
+                most = max(most, server.memory() - before)
+        client.socket.sendall(b"\r\n")
+        assert str(client.read()) == LARGE and client.ask("GET", "a") == b"1"
+        assert most < 8 * MEBIBYTE, f"{most} bytes more"
+        client.socket.sendall(b"*1048576\r\n" + b"$0\r\n\r\n" * (1 << 20))
+        assert str(client.read()) == MANY and client.ask("GET", "a") == b"1"
+        return f"{max(most, 0) >> 10} KiB more memory for 200 MiB"
 
 
 def slow_senders_are_served(program):
@@ -256,6 +285,25 @@ def more_clients_than_allowed_are_told(program):
             assert isinstance(answer, Refused) and "max number of clients" in str(answer), answer
 
 
+def few_open_files_are_shared_out(program):
+    """The soft limit is raised to the hard one, and what is kept of that has the page answer however many come."""
+    port = free_port()
+    limited = ["prlimit", "--nofile=256:1024"]
+    with served(program, "--http-port", port, before=limited) as server, contextlib.ExitStack() as stack:
+        with server.client() as client:
+            most = int(client.ask("CONFIG", "GET", "maxclients")[1])
+            assert f"maxclients:{most}\r\n" in client.ask("INFO", "clients").decode()
+        assert 512 < most < 1_024 - 256, most
+        clients = [stack.enter_context(server.client()) for _ in range(1_100)]
+        assert all(it.ask("PING") == "PONG" for it in clients[:most])
+        told = {str(it.read()) for it in clients[most:]}
+        assert told == {"ERR max number of clients reached"}, told
+        for path in ("healthz", "metrics"):
+            with urllib.request.urlopen(f"http://127.0.0.1:{port}/{path}", timeout=5) as answer:
+                assert answer.status == 200
+        return f"{most} clients of 1024 open files"
+
+
 def quick_ends_leave_nothing(program):
     with served(program) as server:
         before = server.at_rest()
@@ -272,6 +320,7 @@ def quick_ends_leave_nothing(program):
 TESTS = [
     spoilt_bytes_crash_and_leak_nothing,
     each_bound_is_told,
+    too_large_commands_are_refused_alone,
     slow_senders_are_served,
     who_never_reads_takes_no_memory,
     who_always_waits_for_more_takes_no_memory,
@@ -280,6 +329,7 @@ TESTS = [
     transactions_are_bounded,
     idle_connections_cost_little,
     more_clients_than_allowed_are_told,
+    few_open_files_are_shared_out,
     quick_ends_leave_nothing,
 ]
 

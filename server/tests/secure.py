@@ -17,7 +17,7 @@ import urllib.error
 import urllib.request
 
 import redis
-from served import SECONDS, Client, Refused, main, packed, served
+from served import SECONDS, Client, Refused, assailed, main, packed, served, slowest_beside
 
 SM = pathlib.Path(__file__).resolve().parent.parent.parent / "sm"
 HOST = "127.0.0.1"
@@ -30,8 +30,11 @@ STRANGERS = 60
 MOST_OF_A_STRANGER = 192 << 10
 # Of a value, and of how many in a pipeline.
 LONG, PIPED = 60_000, 200
-# For how long nobody may be held up by others.
-SOON = 5
+# For how long nobody may be held up by others, and how often one may try to be let in.
+SOON, TRIES = 5, 4
+# Who means no good, and the others; how many certificates of authorities each of the former shows.
+ASSAILANTS = OTHERS = 8
+AUTHORITIES = 24
 
 
 @functools.cache
@@ -52,6 +55,36 @@ def certificates():
         by = ["-CA", "ca.pem", "-CAkey", "ca.key", "-CAcreateserial", "-extfile", "names"]
         openssl("x509", "-req", "-in", f"{name}.csr", "-out", f"{name}.pem", *by)
     return folder
+
+
+@functools.cache
+def hostile_chains():
+    """Files with a key, its certificate, and more of authorities than anybody has, by a name of how they hang together:
+    all of one name with keys of their own, that of nobody or of the authority that is trusted, or each vouched for by
+    the one behind it."""
+    folder = certificates()
+
+    def openssl(*words):
+        key = ["-newkey", "ec", "-pkeyopt", "ec_paramgen_curve:P-256", "-nodes"] if words[0] == "req" else []
+        subprocess.run(["openssl", words[0], *key, *words[1:]], cwd=folder, check=True, capture_output=True)
+
+    def certify(name, by, may_certify):
+        openssl("req", "-keyout", f"{name}.key", "-out", f"{name}.csr", "-subj", f"/CN={name}")
+        (folder / "role").write_text(f"basicConstraints=CA:{may_certify}\n")
+        words = ["-CA", f"{by}.pem", "-CAkey", f"{by}.key", "-CAcreateserial", "-extfile", "role"]
+        openssl("x509", "-req", "-in", f"{name}.csr", "-out", f"{name}.pem", *words)
+
+    for shape, subject in (("crowd", "crowd"), ("namesakes", "ca"), ("ladder", "ladder")):
+        for at in range(AUTHORITIES):
+            name = f"{shape}-{at}"
+            if shape == "ladder" and at:
+                certify(name, f"{shape}-{at - 1}", "TRUE")
+            else:
+                openssl("req", "-x509", "-keyout", f"{name}.key", "-out", f"{name}.pem", "-subj", f"/CN={subject}")
+        certify(shape, f"{shape}-{AUTHORITIES - 1}", "FALSE")
+        parts = [f"{shape}.key", f"{shape}.pem", *(f"{shape}-{it}.pem" for it in reversed(range(AUTHORITIES)))]
+        (folder / f"{shape}-all.pem").write_text("".join((folder / it).read_text() for it in parts))
+    return {it: file(f"{it}-all.pem") for it in ("crowd", "namesakes", "ladder")}
 
 
 def file(name):
@@ -209,6 +242,108 @@ def who_stalls_holds_nobody_up(program):
         return f"at most {longest * 1000:.0f} ms for others"
 
 
+def hostile_chains_hold_nobody_up(program):
+    """Whoever shows no certificate, or many of authorities that nobody knows, costs others no time, and leaves
+    nothing."""
+    options = with_tls("--tls-ca", file("ca.pem"))
+    with served(program, *options) as server, contextlib.ExitStack() as stack:
+        clients = [stack.enter_context(TlsClient(server.port, context("client"))) for _ in range(OTHERS)]
+        before, told = server.at_rest(), []
+        for name, chain in {"none": None, **hostile_chains()}.items():
+            words = ["chain", ASSAILANTS, chain] if chain else ["bare", ASSAILANTS]
+            told.append(f"{name} {slowest_beside(clients, server.port, *words) * 1000:.1f} ms")
+        assert server.settle(before) <= before
+        # A processor may take a moment for what came last.
+        time.sleep(0.5)
+        used = server.processor_seconds()
+        time.sleep(1)
+        assert server.processor_seconds() - used < 0.5
+        with TlsClient(server.port, context("client")) as client:
+            assert f"connected_clients:{OTHERS + 1}\r" in client.ask("INFO").decode()
+        return f"one of a hundred took {', '.join(told)}"
+
+
+def who_is_in_a_handshake_is_a_stranger(program):
+    """As many as there are places for strangers say nothing, and as many send half a handshake: neither keeps out who
+    shows a certificate and gives the password, or holds up others. The first gives way, wherever it is."""
+    most, places = 300, 75
+    options = with_tls("--tls-ca", file("ca.pem"), "--max-clients", most, "--login-time", 60_000)
+    with environment(DURKENZO_PASSWORD="secret"), served(program, *options) as server, contextlib.ExitStack() as stack:
+
+        def met():
+            return stack.enter_context(TlsClient(server.port, context("client")))
+
+        def known():
+            began = time.monotonic()
+            # Where a machine has other work, so many others may come meanwhile that one gives way.
+            for _ in range(TRIES):
+                with contextlib.suppress(OSError):
+                    client = met()
+                    assert client.ask("AUTH", "secret") == "OK"
+                    took.append(time.monotonic() - began)
+                    return client
+            raise AssertionError(f"nobody was let in within {time.monotonic() - began:.1f} s")
+
+        took = []
+        clients = [known() for _ in range(OTHERS)]
+        before = server.at_rest()
+        silent = [stack.enter_context(socket.create_connection((HOST, server.port), 10)) for _ in range(3)]
+        first = met()
+        assert refused(first, "PING") == "NOAUTH"
+        with assailed(server.port, "stall", 2 * places):
+            # Those that came first, before and behind their handshakes, have given way by now.
+            assert all(is_ended(it) for it in silent) and str(first.read()) == "ERR max number of clients reached"
+            del took[:]
+            for _ in range(20):
+                clients.append(known())
+                assert server.descriptors() <= before + places + len(took), server.descriptors() - before
+        slowest = slowest_beside(clients, server.port, "stall", 2 * places)
+        assert max(took) < SOON and server.settle(before + len(took)) == before + len(took)
+        told = f"{max(took) * 1000:.0f} ms until one was let in"
+        return f"{2 * places} strangers, {told}, and one of a hundred took {slowest * 1000:.1f} ms"
+
+
+def half_handshakes_take_little(program):
+    """Each says that its first message is as long as one may be, and sends as much of it as is taken."""
+    begun = b"\x16\x03\x01\x3f\xfc" + b"\x01\x02\x00\x00" + bytes(0x3FF8)
+    begun += b"\x16\x03\x01\x3f\x00" + bytes(0x3F00)
+    with served(program, *with_tls()) as server, contextlib.ExitStack() as stack:
+        with TlsClient(server.port) as client:
+            assert client.ask("PING") == "PONG"
+        descriptors, before = server.at_rest(), server.memory()
+        stalled = [stack.enter_context(socket.create_connection((HOST, server.port), 10)) for _ in range(STRANGERS)]
+        for one in stalled:
+            one.sendall(begun)
+        with TlsClient(server.port) as client:
+            assert client.ask("PING") == "PONG"
+        each = (server.memory() - before) / STRANGERS
+        assert each < MOST_OF_A_STRANGER, f"{each:.0f} bytes each"
+        # More isn't taken.
+        for one in stalled:
+            one.sendall(begun[-0x3F05:])
+        assert all(is_ended(it) for it in stalled) and server.settle(descriptors) <= descriptors
+        return f"{STRANGERS} strangers, {each:.0f} bytes each"
+
+
+def no_session_is_taken_up_again(program):
+    """Nor does a client have a second handshake over the same connection."""
+    with served(program, *with_tls()) as server:
+        for version in (ssl.TLSVersion.TLSv1_2, ssl.TLSVersion.TLSv1_3):
+            tls = context()
+            tls.maximum_version = version
+            with TlsClient(server.port, tls) as client:
+                assert client.ask("PING") == "PONG" and client.socket.version() == version.name.replace("_", ".")
+                session = client.socket.session
+            with socket.create_connection((HOST, server.port), 10) as plain:
+                with tls.wrap_socket(plain, server_hostname=HOST, session=session) as one:
+                    one.sendall(b"PING\r\n")
+                    assert one.recv(99) == b"+PONG\r\n" and not one.session_reused
+        command = ["openssl", "s_client", "-tls1_2", "-connect", f"{HOST}:{server.port}", "-CAfile", file("ca.pem")]
+        # This asks for a second handshake.
+        ran = subprocess.run(command, input="R\n", capture_output=True, text=True, timeout=20)
+        assert "RENEGOTIATING" in ran.stdout + ran.stderr and "no renegotiation" in ran.stderr, ran
+
+
 def strangers_leave_room_for_others(program):
     options = ["--max-clients", "300", "--login-time", "1000"]
     with environment(DURKENZO_PASSWORD="secret"), served(program, *options) as server, contextlib.ExitStack() as stack:
@@ -219,14 +354,63 @@ def strangers_leave_room_for_others(program):
             return client
 
         clients = [known() for _ in range(100)]
-        for _ in range(75):
-            one = stack.enter_context(server.client())
-            assert refused(one, "PING") == "NOAUTH"
+        before = server.at_rest()
+        first = stack.enter_context(server.client())
+        assert refused(first, "PING") == "NOAUTH"
+        # Of many that say nothing the first give way: there are no more than a quarter, beside the others.
+        silent = [stack.enter_context(socket.create_connection((HOST, server.port), 10)) for _ in range(2_000)]
+        assert str(first.read()) == "ERR max number of clients reached" and is_ended(first.socket)
+        assert server.settle(before + 75) <= before + 75, server.descriptors()
+        took = []
+        for _ in range(100):
+            silent += [stack.enter_context(socket.create_connection((HOST, server.port), 10)) for _ in range(10)]
+            began = time.monotonic()
+            clients.append(known())
+            took.append(time.monotonic() - began)
+        assert max(took) < 0.5 and all(it.ask("PING") == "PONG" for it in clients), max(took)
+        clients += [known() for _ in range(100)]
         with server.client() as one:
             assert "max number of clients" in str(one.read())
-        assert all(it.ask("PING") == "PONG" for it in clients)
-        time.sleep(1.6)
-        assert known().ask("PING") == "PONG"
+        assert all(is_ended(it) for it in silent)
+        # A place behind the password isn't one before it.
+        clients.pop().socket.shutdown(socket.SHUT_RDWR)
+        assert server.settle(before + 199) == before + 199 and known().ask("PING") == "PONG"
+        return f"{len(silent)} strangers, at most {max(took) * 1000:.0f} ms"
+
+
+def wrong_passwords_take_time(program):
+    """Guesses wait ever longer, of a connection and of an address, and nobody else does."""
+    passwords = {"DURKENZO_CONTROL_PASSWORD": "master", "DURKENZO_PASSWORD": "secret"}
+    with environment(**passwords), served(program, "--threads", 1) as server, contextlib.ExitStack() as stack:
+        other, guesser = stack.enter_context(server.client()), stack.enter_context(server.client())
+        assert other.ask("AUTH", "secret") == "OK"
+        began, longest = time.monotonic(), 0
+        guesser.socket.sendall(packed("AUTH", "wrong") * 9 + packed("AUTH", "secret") + packed("PING"))
+        while not select.select([guesser.socket], [], [], 0)[0] or time.monotonic() - began < 0.5:
+            asked = time.monotonic()
+            assert other.ask("PING") == "PONG"
+            longest = max(longest, time.monotonic() - asked)
+        answers = [guesser.read() for _ in range(11)]
+        took = time.monotonic() - began
+        assert {str(it).split()[0] for it in answers[:9]} == {"WRONGPASS"} and answers[9:] == ["OK", "PONG"], answers
+        assert 10 * (1 + 2 + 4 + 8 + 16 + 32 + 64) / 1000 <= took < 10 and longest < 0.5, (took, longest)
+        # Who connects anew waits as well, and is let in.
+        began, count = time.monotonic(), 0
+        while time.monotonic() - began < 2:
+            with server.client() as one, contextlib.suppress(TimeoutError):
+                one.socket.settimeout(0.01)
+                one.send("AUTH", "wrong")
+                count += isinstance(one.read(), Refused)
+        assert count == 0, f"{count} guesses were answered at once"
+        with server.client() as one:
+            began = time.monotonic()
+            assert one.ask("AUTH", "secret") == "OK" and time.monotonic() - began < 3
+        # No transaction is a way round.
+        other.ask("MULTI")
+        assert set(other.piped([("AUTH", "control", "wrong")] * 500)) == {"QUEUED"}
+        assert {str(it)[:20] for it in other.ask("EXEC")} == {"ERR wrong passwords "}
+        assert other.ask("AUTH", "control", "master") == "OK"
+        return f"10 took {took:.1f} s, and another client at most {longest * 1000:.0f} ms"
 
 
 def little_is_taken_before_a_password(program):
@@ -385,6 +569,7 @@ def what_gives_no_safety_is_told(program):
 
 TESTS = [
     strangers_leave_room_for_others,
+    wrong_passwords_take_time,
     little_is_taken_before_a_password,
     strangers_who_read_nothing_take_little,
     roles_are_kept_apart,
@@ -397,6 +582,10 @@ BY_TLS = [
     who_shows_no_certificate_gets_nothing,
     what_is_no_tls_gets_nothing,
     who_stalls_holds_nobody_up,
+    hostile_chains_hold_nobody_up,
+    who_is_in_a_handshake_is_a_stranger,
+    half_handshakes_take_little,
+    no_session_is_taken_up_again,
     many_connections_by_tls,
     large_values_go_both_ways,
     a_stop_answers_what_came,

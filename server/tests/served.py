@@ -13,6 +13,9 @@ import time
 SECONDS = 20
 # How many lines of its log are kept.
 LAST_LINES = 100
+# How long the slowest of a hundred answers may take beside those who mean no good, for how long it is looked at, how
+# long these have before that, and how often it is tried where a machine has other work.
+SLOWEST, BESIDE, BEGUN, TRIES = 0.01, 1.0, 0.5, 8
 
 
 class Refused(Exception):
@@ -90,6 +93,41 @@ class Client:
         return line + b"".join(self.bytes_of_one() for _ in range(count))
 
 
+def slowest(clients, seconds):
+    """How long the slowest of a hundred PINGs takes that these clients send one after another, for so long."""
+    took, end = [], time.monotonic() + seconds
+    while time.monotonic() < end:
+        for client in clients:
+            began = time.monotonic()
+            assert client.ask("PING") == "PONG"
+            took.append(time.monotonic() - began)
+    return sorted(took)[len(took) * 99 // 100]
+
+
+@contextlib.contextmanager
+def assailed(*assailants):
+    """Has those connect, while the body runs, of whom these words tell assailants.py."""
+    command = [sys.executable, pathlib.Path(__file__).parent / "assailants.py", *map(str, assailants)]
+    with subprocess.Popen(command, stdin=subprocess.PIPE) as process:
+        try:
+            time.sleep(BEGUN)
+            yield
+        finally:
+            process.kill()
+
+
+def slowest_beside(clients, *assailants):
+    """The same, beside who connects as these words tell assailants.py; where the machine has other work it is tried
+    again."""
+    found = []
+    for _ in range(TRIES):
+        with assailed(*assailants):
+            found.append(slowest(clients, BESIDE))
+        if found[-1] < SLOWEST:
+            return found[-1]
+    raise AssertionError(f"{assailants[1:]}: of a hundred PINGs one took {[round(it * 1000, 1) for it in found]} ms")
+
+
 def packed(*words):
     """A command as clients write it."""
     words = [it if isinstance(it, bytes) else str(it).encode() for it in words]
@@ -101,9 +139,18 @@ class Server:
 
     def __init__(self, process, port):
         self.process, self.port = process, port
+        # The last lines of its log.
+        self.said = collections.deque(maxlen=LAST_LINES)
 
     def client(self):
         return Client(self.port)
+
+    def says(self, *words):
+        """Waits until a line of its log has all these words."""
+        end = time.monotonic() + SECONDS
+        while not any(all(it in line for it in words) for line in list(self.said)):
+            assert time.monotonic() < end, f"{words} aren't said: {''.join(self.said)}"
+            time.sleep(0.02)
 
     def is_alive(self):
         return self.process.poll() is None
@@ -114,6 +161,20 @@ class Server:
     def memory(self):
         """Its bytes of memory."""
         return int(pathlib.Path(f"/proc/{self.process.pid}/statm").read_text().split()[1]) * 4096
+
+    def processor_seconds(self):
+        """What all its threads took of processors so far."""
+        fields = pathlib.Path(f"/proc/{self.process.pid}/stat").read_text().rpartition(")")[2].split()
+        return (int(fields[11]) + int(fields[12])) / os.sysconf("SC_CLK_TCK")
+
+    def threads(self, name):
+        """How many threads of this name it has."""
+        count = 0
+        for task in pathlib.Path(f"/proc/{self.process.pid}/task").iterdir():
+            # One may end meanwhile.
+            with contextlib.suppress(OSError):
+                count += (task / "comm").read_text().strip() == name
+        return count
 
     def at_rest(self):
         """How many descriptors it has once that number hasn't changed for a while."""
@@ -133,12 +194,15 @@ class Server:
 
 
 @contextlib.contextmanager
-def served(program, *options):
-    """Runs the server with these options while the body runs, and sees that it ends well when it is told to."""
-    command = [program, "--port", "0", "--http-port", "0", "--log-format", "json", *map(str, options)]
-    with subprocess.Popen(command, stderr=subprocess.PIPE, stdin=subprocess.DEVNULL, text=True) as process:
+def served(program, *options, before=(), **how):
+    """Runs the server with these options, by what stands before it and as is said, while the body runs, and sees that
+    it ends well when it is told to."""
+    command = [*before, program, "--port", "0", "--http-port", "0", "--log-format", "json", *map(str, options)]
+    how |= {"stderr": subprocess.PIPE, "stdin": subprocess.DEVNULL, "text": True}
+    with subprocess.Popen(command, **how) as process:
         try:
-            server, said = Server(process, port_of(process)), collections.deque(maxlen=LAST_LINES)
+            server = Server(process, port_of(process))
+            said = server.said
             # All is read at once: where nobody reads, a server that says much would wait.
             reading = threading.Thread(target=said.extend, args=(process.stderr,), daemon=True)
             reading.start()
@@ -146,11 +210,23 @@ def served(program, *options):
             is_alive = server.is_alive()
         finally:
             process.terminate()
-            process.wait(SECONDS)
+            try:
+                process.wait(SECONDS)
+            except subprocess.TimeoutExpired:
+                # One that doesn't end would be waited for without an end.
+                process.kill()
+                raise
         reading.join(SECONDS)
         if not is_alive or process.returncode != 0:
             when = "at its stop " if is_alive else ""
             raise AssertionError(f"{when}the server ended with {process.returncode}: {''.join(said)[-2000:]}")
+
+
+def free_port():
+    """A port at which nobody listens."""
+    with socket.socket() as one:
+        one.bind(("127.0.0.1", 0))
+        return one.getsockname()[1]
 
 
 def port_of(process):

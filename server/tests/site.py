@@ -1,26 +1,26 @@
 #!/usr/bin/env python3
 """The page, /metrics and /healthz, and other ways to begin: site.py PROGRAM."""
 import contextlib
+import importlib.machinery
+import importlib.util
 import json
+import os
 import pathlib
 import re
 import shutil
 import socket
 import subprocess
+import sys
 import tempfile
 import time
 import urllib.error
 import urllib.request
 
-from served import Refused, main, served
+from served import Refused, free_port, main, served
 
+TOOL = pathlib.Path(__file__).resolve().parents[2] / "tools/serve"
+FAKETIME = pathlib.Path("/usr/lib/x86_64-linux-gnu/faketime/libfaketime.so.1")
 SAMPLE = re.compile(r'^durkenzo_\w+(\{\w+="[\w.+]+"(,\w+="\w+")*\})? \d+(\.\d+)?$')
-
-
-def free_port():
-    with socket.socket() as one:
-        one.bind(("127.0.0.1", 0))
-        return one.getsockname()[1]
 
 
 def got(port, path):
@@ -177,6 +177,60 @@ def loads_stay_within_settings(program):
         assert client.ask("SM", "MIGRATE", 0, 1) == "OK"
 
 
+def the_page_has_no_dates_before_1970(program):
+    """Its library has no such dates: /healthz is answered, all else refused, and clients are served."""
+    if not FAKETIME.is_file():
+        return "faketime isn't installed"
+    port = free_port()
+    # What measures times isn't the clock.
+    turned = {"LD_PRELOAD": str(FAKETIME), "FAKETIME": "@1960-01-01 00:00:00"}
+    env = {**os.environ, **turned, "DONT_FAKE_MONOTONIC": "1", "FAKETIME_DONT_FAKE_MONOTONIC": "1"}
+    with served(program, "--http-port", port, env=env) as server, server.client() as client:
+        for _ in range(3):
+            assert got(port, "/healthz") == "ok\n"
+            try:
+                urllib.request.urlopen(f"http://127.0.0.1:{port}/metrics", timeout=5).close()
+                raise AssertionError("metrics were told")
+            except urllib.error.HTTPError as refused:
+                assert refused.code == 503 and b"before 1970" in refused.read()
+            assert client.ask("INCR", "a")
+        server.says("clock is before 1970")
+        assert not any("panicked" in it for it in server.said), list(server.said)
+
+
+def who_asks_the_control_is_in_the_log(program):
+    with served(program, "--servers", 2, "--shards", 4) as server, server.client() as client:
+        address = "{}:{}".format(*client.socket.getsockname())
+        assert client.ask("SM", "MIGRATE", 0, 2) == "OK" and client.ask("SM", "PAUSE", 1) == "OK"
+        client.send("SM", "PAUSE", b"9\n\xff" + b"9" * 200)
+        assert isinstance(client.read(), Refused)
+        server.says('"SM MIGRATE 0 2"', address, "asks")
+        server.says('"SM MIGRATE 0 2"', "+OK", "answered")
+        server.says('"SM PAUSE 1"', "+OK", "answered")
+        server.says("SM PAUSE 9", "99", "-REFUSED BadLine")
+        client.ask("SM", "SHARDS")
+        assert not any("SHARDS" in it for it in server.said)
+
+
+def wrong_options_are_told_before_a_build(program):
+    """By ./sm serve, which knows all options of the program from its sources."""
+    # There a build would end by what it lacks.
+    with tempfile.TemporaryDirectory() as empty:
+        (pathlib.Path(empty) / "python3").symlink_to(sys.executable)
+        env = {**os.environ, "PATH": empty}
+        for words, wanted in [(["--http", "1"], "--http-port"), (["--prot=1"], "--port"), (["--nosuch"], "--help")]:
+            command = [TOOL, *words]
+            ran = subprocess.run(command, env=env, capture_output=True, text=True, timeout=20)
+            assert ran.returncode == 2 and words[0].partition("=")[0] in ran.stderr and wanted in ran.stderr, ran
+    told = subprocess.run([program, "--help"], capture_output=True, text=True, check=True).stdout
+    named = set(re.findall(r"(?m)^ +(?:-\w, )?(--[\w-]+)", told))
+    loader = importlib.machinery.SourceFileLoader("serve", str(TOOL))
+    sys.path.insert(0, str(TOOL.parent))
+    serve = importlib.util.module_from_spec(importlib.util.spec_from_loader("serve", loader))
+    loader.exec_module(serve)
+    assert named == serve.known_options() - {"--proved"}, named ^ serve.known_options()
+
+
 def what_is_not_accepted_is_told(program):
     taken = socket.socket()
     taken.bind(("127.0.0.1", 0))
@@ -188,6 +242,7 @@ def what_is_not_accepted_is_told(program):
         (["--port", port], "--port takes another port"),
         (["--port", 0, "--http-port", port], "--http-port takes another port"),
         (["--servers", 0], "0 is not in 1..=4095"),
+        (["--max-clients", 0], "0 is not in 1.."),
         (["--shards", 3, "--ranges", 2], "cannot be used with"),
         (["--bounds", "m", "--shards", 3], "cannot be used with"),
         (["--settings", "/nowhere"], "/nowhere: No such file"),
@@ -211,6 +266,9 @@ TESTS = [
     settings_of_scripts_are_taken,
     limits_of_settings_bind,
     loads_stay_within_settings,
+    the_page_has_no_dates_before_1970,
+    who_asks_the_control_is_in_the_log,
+    wrong_options_are_told_before_a_build,
     what_is_not_accepted_is_told,
 ]
 

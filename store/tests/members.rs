@@ -37,12 +37,10 @@ fn nobody() -> String {
 fn reads_addresses() {
     let of = |it: &str| Etcd::new(Access::new([it])).map(drop);
     assert!(of("http://127.0.0.1:2379").is_ok() && of("http://etcd.example:2379/").is_ok());
-    assert!(matches!(
-        of("https://127.0.0.1:2379"),
-        Err(StartError::NoName(_))
-    ));
+    assert!(of("https://127.0.0.1:2379").is_ok() && of("https://[::1]:2379").is_ok());
     for wrong in [
         "127.0.0.1:2379",
+        "https://:2379",
         "unix:///tmp/it",
         "http://",
         "http://a:1/v3",
@@ -349,6 +347,48 @@ fn vouch(folder: &Path) -> bool {
         .is_ok_and(|it| it.status.success())
 }
 
+/// Sees that something is written within some time.
+fn writes(store: &Etcd) {
+    let end = Instant::now() + ASIDE;
+    while let Err(error) = store.make(Transaction::new().put("a", "1")) {
+        assert!(Instant::now() < end, "{error}");
+        thread::sleep(Duration::from_millis(100));
+    }
+}
+
+/// A member is whom its certificate says, by a name or by an address.
+#[test]
+fn knows_a_member_by_its_address() {
+    let folder = Folder::new();
+    let file = |name: &str| folder.path().join(name);
+    if !vouch(folder.path()) {
+        eprintln!("openssl isn't installed: nobody speaks TLS");
+        return;
+    }
+    let text = |name: &str| file(name).to_string_lossy().into_owned();
+    // This certificate has the address, and another name.
+    let options = [
+        "--cert-file",
+        &text("client.pem"),
+        "--key-file",
+        &text("client.key"),
+    ];
+    let Some(member) = Member::start_with_tls(&options) else {
+        return;
+    };
+    let of = |endpoint: &str| {
+        let roots = Some(file("ca.pem"));
+        Etcd::new(Access {
+            roots,
+            ..Access::new([endpoint])
+        })
+        .expect("a file")
+    };
+    writes(&of(&member.endpoint.replace("localhost", "127.0.0.1")));
+    let made = of(&member.endpoint).make(Transaction::new().put("a", "2"));
+    assert!(matches!(made, Err(WriteError::Unavailable(_))), "{made:?}");
+}
+
 #[test]
 fn speaks_tls() {
     let folder = Folder::new();
@@ -377,12 +417,7 @@ fn speaks_tls() {
             ..Access::new([member.endpoint.as_str()])
         })
     };
-    let ours = of(Some("ca.pem"), Some(("client.pem", "client.key"))).expect("files");
-    let end = Instant::now() + ASIDE;
-    while let Err(error) = ours.make(Transaction::new().put("a", "1")) {
-        assert!(Instant::now() < end, "{error}");
-        thread::sleep(Duration::from_millis(100));
-    }
+    writes(&of(Some("ca.pem"), Some(("client.pem", "client.key"))).expect("files"));
     let stranger = of(Some("client.pem"), None)
         .expect("a file")
         .make(Transaction::new().put("a", "2"));

@@ -123,8 +123,6 @@ pub(crate) struct Shard {
 
 /// How long a shard isn't read again after that failed.
 const READ_AGAIN: Duration = Duration::from_millis(100);
-/// What is told where the store doesn't answer at all.
-const UNREAD: &str = "the store hasn't given the shard so far";
 /// How many times longer work waits while its shard is read.
 const READING_WAITS: u32 = 4;
 /// How long steps wait that came back before they are handed over again.
@@ -387,7 +385,7 @@ impl Shard {
         }
         let is_reading = self.seats.values().any(|it| matches!(it, Seat::Reading(_)));
         let why = self.why_not();
-        let may_soon = matches!(why, NotDone::Busy | NotDone::NotMade(_));
+        let may_soon = matches!(why, NotDone::Busy | NotDone::Unread | NotDone::NotMade(_));
         // Whoever reads the shard will soon execute.
         let wait = match is_reading && may_soon {
             true => READING_WAITS * wait,
@@ -427,10 +425,10 @@ impl Shard {
             Some(durkenzo::Stand::Vacant) => NotDone::Vacant,
             Some(_) => match owner.filter(|it| !self.is_reached(*it)) {
                 Some(owner) => NotDone::Away(owner),
-                None if self.is_unread() => {
-                    let told = self.unanswered.as_deref().unwrap_or(UNREAD);
-                    NotDone::NotMade(told.to_owned())
-                }
+                None if self.is_unread() => match &self.unanswered {
+                    Some(told) => NotDone::NotMade(told.clone()),
+                    None => NotDone::Unread,
+                },
                 None => NotDone::Busy,
             },
             None => NotDone::Damaged(format!("the record of shard {}", self.number)),

@@ -12,7 +12,7 @@ pub struct Greetings;
 
 impl Target for Greetings {
     fn check(&mut self, input: &[u8]) -> Result<(), String> {
-        let Ok(Some((greeting, end))) = Greeting::read(input) else {
+        let Ok(Some((greeting, version, end))) = Greeting::read(input) else {
             return Ok(());
         };
         holds(HEAD < end && end <= input.len(), || {
@@ -23,11 +23,11 @@ impl Target for Greetings {
             format!("without its last byte it is {short:?}")
         })?;
         let mut spelled = Vec::new();
-        greeting.write(&mut spelled);
+        greeting.write(version, &mut spelled);
         let again = Greeting::read(&spelled);
         let is_same = match (&greeting, &again) {
             // Why is a text for people, which is cut, and in which other bytes are marked.
-            (Greeting::Refusal(_), Ok(Some((Greeting::Refusal(_), length)))) => {
+            (Greeting::Refusal(_), Ok(Some((Greeting::Refusal(_), _, length)))) => {
                 *length == spelled.len()
             }
             _ => spelled == input[..end],
@@ -43,15 +43,21 @@ impl Target for Greetings {
 
     fn seeds(&mut self) -> Vec<Vec<u8>> {
         let identity = [0, 3, 1, 2, 3, 4, 5, 6, 7, 8, 0, 0, 0, 0, 0, 0, 0, 9];
-        vec![
-            greeted(
-                1,
-                &[&identity[..], &[0, 2, 0, 0, 0, 8], b"a secret"].concat(),
-            ),
-            greeted(1, &[&identity[..], &[0, 2, 0, 0, 0, 0]].concat()),
-            greeted(2, &identity),
-            greeted(3, b"its secret is another one"),
-        ]
+        // From the second version on the table of commands stands behind it.
+        let newer = [&identity[..], &[0, 7]].concat();
+        let seeds = [(1, &identity[..]), (2, &newer[..])].map(|(version, identity)| {
+            [
+                greeted(
+                    version,
+                    1,
+                    &[identity, &[0, 2, 0, 0, 0, 8], b"a secret"].concat(),
+                ),
+                greeted(version, 1, &[identity, &[0, 2, 0, 0, 0, 0]].concat()),
+                greeted(version, 2, identity),
+                greeted(version, 3, b"its secret is another one"),
+            ]
+        });
+        seeds.concat()
     }
 
     /// Else all ends at the length.
@@ -64,8 +70,15 @@ impl Target for Greetings {
     }
 }
 
-/// A greeting of this kind.
-fn greeted(kind: u8, rest: &[u8]) -> Vec<u8> {
+/// A greeting of this version and kind.
+fn greeted(version: u8, kind: u8, rest: &[u8]) -> Vec<u8> {
     let length = (1 + rest.len()) as u32;
-    [b"SMP\0\x01", &length.to_be_bytes()[..], &[kind], rest].concat()
+    [
+        b"SMP\0",
+        &[version][..],
+        &length.to_be_bytes()[..],
+        &[kind],
+        rest,
+    ]
+    .concat()
 }

@@ -1,5 +1,5 @@
 use crate::target::{holds, Target};
-use durkenzo_server::resp::{number, parse, Arguments, OwnedCommand, Unparsed};
+use durkenzo_server::resp::{number, parse, Arguments, OwnedCommand, ReadAway, Unparsed};
 
 /// What clients send: commands as arrays and as lines, and numbers in them.
 #[derive(Default)]
@@ -23,6 +23,7 @@ impl Target for Resp {
                     return holds(needs > rest.len(), || format!("{needs} bytes are there"));
                 }
                 Err(Unparsed::Malformed(_)) => return Ok(()),
+                Err(Unparsed::Oversized(_)) => return read_away(rest),
             }
         }
         Ok(())
@@ -36,6 +37,7 @@ impl Target for Resp {
             b"*-1\r\n",
             b"$0\r\n\r\n",
             b"$1048576\r\n",
+            b"*1025\r\n",
             b"\"\\x41\"",
             b"'a'",
             b"GET a\n",
@@ -75,6 +77,24 @@ impl Resp {
         let command = self.arguments.command(bytes);
         command.iter().map(<[u8]>::to_vec).collect()
     }
+}
+
+/// Of a command that is too large: in two pieces as much of it is forgotten as in one.
+fn read_away(input: &[u8]) -> Result<(), String> {
+    let whole = ReadAway::default().take(input);
+    let (mut away, half) = (ReadAway::default(), input.len() / 2);
+    let parts = away.take(&input[..half]).and_then(|first| {
+        if first.is_over {
+            return Ok(first);
+        }
+        let mut rest = away.take(&input[first.bytes..])?;
+        rest.bytes += first.bytes;
+        Ok(rest)
+    });
+    let is_within = whole.is_ok_and(|it| it.bytes <= input.len()) || whole.is_err();
+    holds(is_within && whole == parts, || {
+        format!("{whole:?} is forgotten at once, {parts:?} in two pieces")
+    })
 }
 
 fn spelled(words: &[Vec<u8>]) -> Vec<u8> {

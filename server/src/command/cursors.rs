@@ -14,10 +14,14 @@ const MOST_FIRST: u64 = 1 << 52;
 #[derive(Debug)]
 pub struct Cursors {
     known: Mutex<Known>,
+    /// Whether others give cursors too, so that one that wasn't given here is perhaps known there.
+    has_others: bool,
 }
 
 #[derive(Debug)]
 struct Known {
+    /// The first cursor is the next one.
+    first: u64,
     last: u64,
     latest: Latest,
 }
@@ -27,9 +31,15 @@ impl Default for Cursors {
     /// earlier one of this server, is hardly ever taken for one of these.
     fn default() -> Cursors {
         let by_chance = RandomState::new().build_hasher().finish();
-        let (last, latest) = (by_chance % MOST_FIRST, Latest::default());
+        let (first, latest) = (by_chance % MOST_FIRST, Latest::default());
+        let last = first;
         Cursors {
-            known: Mutex::new(Known { last, latest }),
+            known: Mutex::new(Known {
+                first,
+                last,
+                latest,
+            }),
+            has_others: false,
         }
     }
 }
@@ -39,6 +49,14 @@ impl Default for Cursors {
 pub struct OwnCursors(Arc<Mutex<Latest>>);
 
 impl Cursors {
+    /// Those of one of several processes.
+    pub fn among_others() -> Cursors {
+        Cursors {
+            has_others: true,
+            ..Cursors::default()
+        }
+    }
+
     /// A new cursor, which isn't 0, at this position, for the connection that has these.
     pub fn keep(&self, position: Position, own: &OwnCursors) -> u64 {
         let mut known = self.known.lock().unwrap_or_else(PoisonError::into_inner);
@@ -51,8 +69,9 @@ impl Cursors {
         cursor
     }
 
-    /// Where the cursor stands, of the connection that has these: 0 at the beginning, and one that was forgotten
-    /// nowhere.
+    /// Where the cursor stands, of the connection that has these: 0 at the beginning, and so does one that was never
+    /// given, as Redis takes any number; one that was forgotten nowhere, or whoever is slow would never come to an end.
+    /// Among other processes one that wasn't given here is nowhere too, or whoever asks them in turn wouldn't.
     pub fn position(&self, cursor: u64, own: &OwnCursors) -> Option<Position> {
         if cursor == 0 {
             return Some(Position::default());
@@ -60,7 +79,9 @@ impl Cursors {
         let own = own.0.lock().unwrap_or_else(PoisonError::into_inner);
         own.position(cursor).or_else(|| {
             let known = self.known.lock().unwrap_or_else(PoisonError::into_inner);
-            known.latest.position(cursor)
+            let was_given = known.first < cursor && cursor <= known.last;
+            let anew = (!was_given && !self.has_others).then(Position::default);
+            known.latest.position(cursor).or(anew)
         })
     }
 }
@@ -87,7 +108,8 @@ mod tests {
         assert_eq!(cursors.position(0, &other), Some(position(0)));
         assert_eq!(cursors.position(first, &other), None);
         assert_eq!(cursors.position(first + 1, &other), Some(position(1)));
-        assert_eq!(cursors.position(first + 9_999, &other), None);
+        assert_eq!(cursors.position(first + 9_999, &other), Some(position(0)));
+        assert_eq!(cursors.position(first - 1, &other), Some(position(0)));
     }
 
     #[test]
@@ -111,7 +133,7 @@ mod tests {
 
     #[test]
     fn those_of_another_process_are_none_here() {
-        let (here, there) = (Cursors::default(), Cursors::default());
+        let (here, there) = (Cursors::among_others(), Cursors::among_others());
         let own = OwnCursors::default();
         let (mut given, mut taken) = (Vec::new(), Vec::new());
         for shard in 0..100 {

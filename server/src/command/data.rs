@@ -76,7 +76,11 @@ fn held<'a>(body: &'a mut dyn ShardBody, key: &[u8]) -> Result<Option<Value<'a>>
     Ok(body.get(key)?)
 }
 
-fn get(body: &mut dyn ShardBody, key: &[u8], replies: &mut Replies) -> Result<(), Fault> {
+pub(super) fn get(
+    body: &mut dyn ShardBody,
+    key: &[u8],
+    replies: &mut Replies,
+) -> Result<(), Fault> {
     match held(body, key)? {
         Some(value) => write_value(value, replies),
         None => replies.null(),
@@ -121,7 +125,7 @@ fn size_of_bulk(length: usize) -> usize {
     "$\r\n\r\n".len() + Digits::new(length as i64).as_bytes().len() + length
 }
 
-fn is_held(body: &mut dyn ShardBody, key: &[u8]) -> Result<bool, Fault> {
+pub(super) fn is_held(body: &mut dyn ShardBody, key: &[u8]) -> Result<bool, Fault> {
     Ok(body.measure(key)?.is_some())
 }
 
@@ -130,7 +134,7 @@ fn length(body: &mut dyn ShardBody, key: &[u8]) -> Result<usize, Fault> {
 }
 
 /// Whether the key held something until now.
-fn delete(body: &mut dyn ShardBody, key: &[u8]) -> Result<bool, Fault> {
+pub(super) fn delete(body: &mut dyn ShardBody, key: &[u8]) -> Result<bool, Fault> {
     match body.apply(Request::Delete(key)) {
         Reply::Refused(refusal) => Err(refusal.into()),
         reply => Ok(reply == Reply::Done),
@@ -150,78 +154,8 @@ fn counted(
     Ok(())
 }
 
-/// How far a command has come whose keys are of several shards, each of which is done by itself.
-#[derive(Clone, Copy, Debug, Default, PartialEq, Eq)]
-pub struct Part {
-    /// How many keys are done.
-    pub done: usize,
-    /// How many of them count.
-    count: usize,
-}
-
-impl Part {
-    /// Whether a key was written by then, so that nobody is told that nothing has changed.
-    pub fn has_written(self, word: DataWord) -> bool {
-        match word {
-            DataWord::MSet => self.done > 0,
-            DataWord::Del => self.count > 0,
-            _ => false,
-        }
-    }
-}
-
-/// The key that comes next of such a command, unless all are done.
-pub fn next_key<'a>(word: DataWord, command: Command<'a>, part: Part) -> Option<&'a [u8]> {
-    let index = 1 + part.done * if word == DataWord::MSet { 2 } else { 1 };
-    (index < command.len()).then(|| command.get(index))
-}
-
-/// Does the next key of such a command, whose values are known to be short enough.
-pub fn execute_next(
-    word: DataWord,
-    command: Command<'_>,
-    body: &mut dyn ShardBody,
-    part: &mut Part,
-    replies: &mut Replies,
-) -> Result<(), Fault> {
-    let at = part.done;
-    match word {
-        DataWord::MSet => put(body, command.get(2 * at + 1), command.get(2 * at + 2))?,
-        DataWord::Del => part.count += usize::from(delete(body, command.get(at + 1))?),
-        DataWord::Exists => part.count += usize::from(is_held(body, command.get(at + 1))?),
-        _ => get(body, command.get(at + 1), replies)?,
-    }
-    part.done += 1;
-    Ok(())
-}
-
-/// What is written before any key of such a command is done: refused where a value is too long.
-pub fn begin_keys(
-    word: DataWord,
-    command: Command<'_>,
-    replies: &mut Replies,
-) -> Result<(), Fault> {
-    match word {
-        DataWord::MSet => check_values(command),
-        DataWord::MGet => {
-            replies.array(command.len() - 1);
-            Ok(())
-        }
-        _ => Ok(()),
-    }
-}
-
-/// What is written once all are.
-pub fn end_keys(word: DataWord, part: Part, replies: &mut Replies) {
-    match word {
-        DataWord::MSet => replies.ok(),
-        DataWord::MGet => {}
-        _ => replies.count(part.count),
-    }
-}
-
 /// Has the key hold the text.
-fn put(body: &mut dyn ShardBody, key: &[u8], text: &[u8]) -> Result<(), Fault> {
+pub(super) fn put(body: &mut dyn ShardBody, key: &[u8], text: &[u8]) -> Result<(), Fault> {
     Ok(body.put(key, value_of(text))?)
 }
 
@@ -286,7 +220,7 @@ fn set(body: &mut dyn ShardBody, command: Command<'_>, replies: &mut Replies) ->
 }
 
 /// Whether each key of MSET has a value, which is short enough, so that all are set or none is.
-fn check_values(command: Command<'_>) -> Result<(), Fault> {
+pub(super) fn check_values(command: Command<'_>) -> Result<(), Fault> {
     if command.len() % 2 == 0 {
         return Err(Fault::WrongArity("mset".into()));
     }

@@ -1,10 +1,11 @@
+use super::by_key::ByKey;
 use super::cross_protocol;
-use super::data::{self, DataWord, Part};
+use super::data;
 use super::durable::gather;
 use super::reader::Reader;
 use super::scan::Scanner;
 use super::session::Session;
-use super::spec::{shard_of, Spec, Word};
+use super::spec::{shard_of, Spec, TalkWord, Word};
 use super::step::{Keyed, Step};
 use super::stop::Stop;
 use super::talk;
@@ -14,7 +15,7 @@ use crate::admission::Admission;
 use crate::body::Shard;
 use crate::cluster::Cluster;
 use crate::keyspace::Keyspace;
-use crate::resp::{number, Arguments, Command, OwnedCommand, Replies, Unparsed};
+use crate::resp::{number, Arguments, Command, Oversized, OwnedCommand, Replies, Unparsed};
 use crate::wait::{NotAdmitted, Wait};
 use std::sync::Arc;
 
@@ -94,13 +95,25 @@ impl Executor {
         }
         let part = std::mem::take(&mut session.part);
         reader.advance();
-        match word {
-            Some(Word::Data(word)) if part.has_written(word) => replies.error(Fault::InPart),
-            _ => replies.error(wait),
+        let by_key = word.and_then(Word::data).and_then(ByKey::of);
+        match by_key.is_some_and(|it| it.has_written(part)) {
+            true => replies.error(Fault::InPart),
+            false => replies.error(wait),
         }
         self.admission.stats().refused.add(1);
         self.admission.stats().commands.add(1);
         reader.at()
+    }
+
+    /// Refuses a command that was too large, once it was read to its end.
+    pub fn refuse_oversized(
+        &mut self,
+        session: &mut Session,
+        why: Oversized,
+        replies: &mut Replies,
+    ) {
+        session.refuse(Fault::Oversized(why), replies);
+        self.admission.stats().commands.add(1);
     }
 
     /// Does the next command, which does this with keys of one shard, if that was found out already. Returns what the
@@ -136,6 +149,7 @@ impl Executor {
         let command = match reader.peek() {
             Ok(command) => command,
             Err(Unparsed::Incomplete(needs)) => return Err(Stop::Incomplete(needs)),
+            Err(Unparsed::Oversized(why)) => return Err(Stop::Oversized(why)),
             Err(Unparsed::Malformed(fault)) => {
                 replies.error(format_args!("ERR {fault}"));
                 return Err(Stop::End);
@@ -191,6 +205,7 @@ impl Executor {
         let stop = match done {
             Ok(()) => None,
             Err(Unanswered::Wait(wait)) => return Err(Stop::Wait(wait)),
+            Err(Unanswered::PutOff(wait)) => return Err(Stop::PutOff(wait)),
             Err(Unanswered::Long) => Some(Stop::Full),
             Err(Unanswered::End) => Some(Stop::End),
             Err(Unanswered::Control) => reader
@@ -260,33 +275,29 @@ impl Executor {
     /// done; but what they hold is read anew.
     fn each(
         &mut self,
-        word: DataWord,
+        word: ByKey,
         command: Command<'_>,
         session: &mut Session,
         replies: &mut Replies,
     ) -> Result<(), Unanswered> {
         let (mark, mut part) = (replies.mark(), std::mem::take(&mut session.part));
-        data::begin_keys(word, command, replies)?;
-        while let Some(key) = data::next_key(word, command, part) {
-            let next = |body: &mut Shard| {
-                data::execute_next(word, command, body.as_mut(), &mut part, replies)
-            };
+        word.begin(command, replies)?;
+        while let Some(key) = word.next_key(command, part) {
+            let next =
+                |body: &mut Shard| word.execute_next(command, body.as_mut(), &mut part, replies);
             match self.admission.admit(self.keyspace.shard_of(key), next) {
                 Ok(done) => {
                     self.admission.note_done(1, u64::from(done.is_err()));
-                    done.map_err(|it| match part.has_written(word) {
+                    done.map_err(|it| match word.has_written(part) {
                         true => Fault::InPart,
                         false => it,
                     })?;
                 }
                 Err(NotAdmitted::Wait(wait)) => {
-                    session.part = match word {
-                        DataWord::MGet => Part::default(),
-                        _ => part,
-                    };
+                    session.part = word.kept(part);
                     return Err(Unanswered::Wait(wait));
                 }
-                Err(NotAdmitted::Refused(_)) if part.has_written(word) => {
+                Err(NotAdmitted::Refused(_)) if word.has_written(part) => {
                     return Err(Fault::InPart.into());
                 }
                 Err(refused) => return Err(refused.into()),
@@ -295,7 +306,7 @@ impl Executor {
                 return Err(Fault::ReplyTooLarge.into());
             }
         }
-        data::end_keys(word, part, replies);
+        word.end(part, replies);
         Ok(())
     }
 
@@ -308,14 +319,17 @@ impl Executor {
     ) -> Result<(), Unanswered> {
         match (word, &session.transaction) {
             (Word::Talk(word), _) => {
-                return talk::answer(word, command, session, &self.cluster, replies)
+                self.may_guess(word, command, session)?;
+                return talk::answer(word, command, session, &self.cluster, replies);
             }
             (Word::Multi, None) => session.transaction = Some(Box::default()),
             (Word::Multi, Some(_)) => return Err(Fault::NestedMulti.into()),
             (Word::Exec, _) => return self.exec(session, replies),
             (Word::Discard, Some(_)) => session.transaction = None,
             (Word::Discard, None) => return Err(Fault::NoMulti("DISCARD").into()),
-            (_, Some(_)) => return Err(Fault::NotQueued.into()),
+            (Word::Control | Word::Scan | Word::ScanRange | Word::Data(_), Some(_)) => {
+                return Err(Fault::NotQueued.into())
+            }
             (Word::Control, None) => return self.control(command, replies),
             (Word::Scan, None) => {
                 self.scanner().scan(command, session.cursors(), replies)?;
@@ -329,6 +343,24 @@ impl Executor {
         }
         replies.ok();
         Ok(())
+    }
+
+    /// Puts a command off that gives a password, where wrong ones were given before it.
+    fn may_guess(
+        &self,
+        word: TalkWord,
+        command: Command<'_>,
+        session: &mut Session,
+    ) -> Result<(), Unanswered> {
+        if !talk::gives_password(word, command) || session.may_guess {
+            return Ok(());
+        }
+        let wait = session.wait_of_guess(&self.cluster.guesses);
+        session.may_guess = wait.is_zero();
+        match session.may_guess {
+            true => Ok(()),
+            false => Err(Unanswered::PutOff(wait)),
+        }
     }
 
     fn scanner(&mut self) -> Scanner<'_> {
@@ -357,7 +389,7 @@ impl Executor {
         let inner = command.from(3);
         let spec = Spec::of(inner)?;
         let place = spec.place(inner, &self.keyspace).map_err(Fault::from)?;
-        let (Word::Data(word), Some(shard)) = (spec.word, place.one()?) else {
+        let (Some(word), Some(shard)) = (spec.word.data(), place.one()?) else {
             return Err(Fault::NoKeys.into());
         };
         let errors = replies.error_count();
@@ -403,8 +435,10 @@ mod tests {
     use crate::body::Memory;
     use crate::chance::Chance;
     use crate::cluster::Configuration;
+    use crate::command::spec::{Keys, COMMANDS};
     use crate::command::MOST_OF_A_STRANGER;
     use crate::keyspace::Rule;
+    use crate::resp::MAX_REPLY;
     use crate::settings::MAX_CEILING;
     use crate::stats::Stats;
 
@@ -511,6 +545,31 @@ mod tests {
         ));
         assert_eq!(told("EXEC\n"), format!("*3 {refused} $1 1 $1 1"));
         assert_eq!(told("GET b\n"), "$1 2");
+    }
+
+    #[test]
+    fn no_command_passes_the_bound_of_a_reply_of_exec() {
+        for spec in COMMANDS.iter().filter(|it| it.is_queued()) {
+            let (_, mut executor) = begun();
+            let mut session = Session::new(1, true);
+            let set = format!("SET a {}\n", "x".repeat(60_000));
+            told(&mut executor, &mut session, &set);
+            // Of one that takes any number so many as make an answer that is large, and none by itself too large.
+            let arguments = match (spec.keys, spec.arity) {
+                (Keys::All, ..=0) => 100,
+                (_, arity) => arity.unsigned_abs() as usize - 1,
+            };
+            let line = format!("{}{}\n", spec.name, " a".repeat(arguments));
+            told(
+                &mut executor,
+                &mut session,
+                &format!("MULTI\n{}", line.repeat(200)),
+            );
+            let mut replies = Replies::default();
+            done(&mut executor, &mut session, b"EXEC\n", &mut replies);
+            let most = MAX_REPLY + 200 * 100;
+            assert!(replies.unsent().len() < most, "{}", spec.name);
+        }
     }
 
     #[test]

@@ -1,6 +1,6 @@
 use super::glob::{LongPattern, MAX_PATTERN};
 use crate::body::{Refusal, MAX_KEY, MAX_TEXT};
-use crate::resp::{Command, MAX_REPLY};
+use crate::resp::{Command, Oversized, Replies, MAX_REPLY};
 use crate::wait::Wait;
 use durkenzo::AdmitFault;
 use durkenzo_driver::{NotDone, Numbered};
@@ -14,11 +14,13 @@ const MOST_SHOWN: usize = 128;
 #[derive(Clone, Debug, PartialEq, Eq)]
 pub enum Fault {
     /// There is no such command; its name and its arguments, cut.
-    UnknownCommand(String, String),
+    UnknownCommand(Shown, Shown),
     /// The command takes another number of arguments.
     WrongArity(String),
     /// The command has no such subcommand.
-    UnknownSubcommand(&'static str, String),
+    UnknownSubcommand(&'static str, Shown),
+    /// The command has too many arguments or bytes.
+    Oversized(Oversized),
     /// An option is unknown, or doesn't go with another one.
     Syntax,
     /// An option that has keys expire.
@@ -47,6 +49,8 @@ pub enum Fault {
     NestedMulti,
     /// EXEC or DISCARD without MULTI, by its name.
     NoMulti(&'static str),
+    /// EXEC has an argument, by which it discards the transaction.
+    ExecArity,
     /// A command was refused when it was queued, so the transaction isn't executed.
     Aborted,
     /// The command isn't for transactions.
@@ -61,6 +65,10 @@ pub enum Fault {
     NoAuth,
     /// Another password than the server's.
     WrongPassword,
+    /// Another password in a transaction, where wrong ones were given lately.
+    TooSoon,
+    /// As many clients have shown who they are as there may be.
+    ManyClients,
     /// A password, where the server has none.
     NoPassword,
     /// The client's role may not send the command, by its name.
@@ -72,7 +80,7 @@ pub enum Fault {
     /// A version of the protocol that is no number.
     NoProtocol,
     /// HELLO has no such option, or it lacks what belongs to it; the option, cut.
-    HelloOption(String),
+    HelloOption(Shown),
     /// A client's name has spaces or other bytes that names haven't.
     BadName,
     /// A server that there isn't.
@@ -103,33 +111,87 @@ impl Fault {
     /// That there is no such command.
     #[cold]
     pub fn unknown_command(command: Command<'_>) -> Fault {
-        let mut shown = String::new();
+        let mut shown = Vec::new();
         for argument in command.from(1).iter() {
             if shown.len() >= MOST_SHOWN {
                 break;
             }
-            shown.push_str(&format!("'{}' ", cut(argument, MOST_SHOWN - shown.len())));
+            let argument = Shown::of(argument, MOST_SHOWN - shown.len());
+            shown.extend([b"'", argument.bytes(), b"' "].concat());
         }
-        Fault::UnknownCommand(cut(command.get(0), MOST_SHOWN), shown)
+        Fault::UnknownCommand(Shown::of(command.get(0), MOST_SHOWN), shown.into())
     }
 
     /// That the client's role may not send this subcommand.
     pub fn no_permission(name: &str, word: &[u8]) -> Fault {
-        Fault::NoPermission(format!("{name}|{}", cut(word, MOST_SHOWN)).to_ascii_lowercase())
+        let word = Shown::of(word, MOST_SHOWN);
+        Fault::NoPermission(format!("{name}|{word}").to_ascii_lowercase())
     }
 
     /// That HELLO has no such option, or that it lacks what belongs to it.
     pub fn hello_option(option: &[u8]) -> Fault {
-        Fault::HelloOption(cut(option, MOST_SHOWN))
+        Fault::HelloOption(Shown::of(option, MOST_SHOWN))
     }
 
-    /// Why a subcommand isn't done: one of the known ones takes another number of arguments.
-    pub fn subcommand(name: &'static str, word: &[u8], known: &[&str]) -> Fault {
-        let word = cut(word, MOST_SHOWN);
-        match known.iter().any(|it| it.eq_ignore_ascii_case(&word)) {
-            true => Fault::WrongArity(format!("{name}|{word}").to_ascii_lowercase()),
-            false => Fault::UnknownSubcommand(name, word),
-        }
+    /// That the command has no such subcommand.
+    pub fn unknown_subcommand(name: &'static str, word: &[u8]) -> Fault {
+        Fault::UnknownSubcommand(name, Shown::of(word, MOST_SHOWN))
+    }
+
+    /// Answers it, with a client's own words as they came.
+    pub fn answer(&self, replies: &mut Replies) {
+        let told = match self {
+            Fault::UnknownCommand(name, shown) => {
+                let behind = b"', with args beginning with: ";
+                [
+                    b"ERR unknown command '",
+                    name.bytes(),
+                    behind,
+                    shown.bytes(),
+                ]
+                .concat()
+            }
+            Fault::UnknownSubcommand(name, word) => {
+                let behind = format!("'. Try {name} HELP.");
+                let front = b"ERR unknown subcommand '";
+                [front, word.bytes(), behind.as_bytes()].concat()
+            }
+            Fault::HelloOption(option) => {
+                [b"ERR Syntax error in HELLO option '", option.bytes(), b"'"].concat()
+            }
+            other => return replies.error(other),
+        };
+        replies.error_bytes(&told);
+    }
+}
+
+/// A client's words as an error repeats them, cut.
+#[derive(Clone, Debug, PartialEq, Eq)]
+pub struct Shown(Box<[u8]>);
+
+impl Shown {
+    /// The first bytes, so many at most, and none behind a zero, as in Redis.
+    fn of(bytes: &[u8], most: usize) -> Shown {
+        let front = &bytes[..bytes.len().min(most)];
+        let end = front.iter().position(|it| *it == 0);
+        Shown(front[..end.unwrap_or(front.len())].into())
+    }
+
+    fn bytes(&self) -> &[u8] {
+        &self.0
+    }
+}
+
+impl From<Vec<u8>> for Shown {
+    fn from(bytes: Vec<u8>) -> Shown {
+        Shown(bytes.into())
+    }
+}
+
+/// What is no text is shown as such.
+impl fmt::Display for Shown {
+    fn fmt(&self, f: &mut fmt::Formatter<'_>) -> fmt::Result {
+        f.write_str(&String::from_utf8_lossy(&self.0))
     }
 }
 
@@ -166,11 +228,6 @@ pub fn name_of(fault: &impl fmt::Debug) -> String {
     shown.split('(').next().unwrap_or_default().to_owned()
 }
 
-/// The first bytes, so many at most, as text.
-fn cut(bytes: &[u8], most: usize) -> String {
-    String::from_utf8_lossy(&bytes[..bytes.len().min(most)]).into_owned()
-}
-
 const CROSS_SHARD: &str =
     "CROSSSHARD a transaction, as a command behind SM AT, is of one shard, and these keys are of several: \
      give them one {tag} where keys go by hash";
@@ -192,7 +249,11 @@ const UNKNOWN_SERVER: &str =
 const NOT_NUMBERED: &str =
     "NOTNUMBERED SM CALL takes what writes without reading first, with keys of one shard: SET without options, \
      MSET of 8 keys, DEL of 16, INCR, INCRBY, DECR, DECRBY";
+const EXEC_ARITY: &str =
+    "EXECABORT Transaction discarded because of: wrong number of arguments for 'exec' command";
 const ABORTED: &str = "EXECABORT Transaction discarded because of previous errors.";
+const TOO_SOON: &str =
+    "ERR wrong passwords were given lately, so this one isn't looked at: give it outside of a transaction";
 const WRONG_PASSWORD: &str = "WRONGPASS invalid username-password pair or user is disabled.";
 
 impl fmt::Display for Fault {
@@ -208,11 +269,14 @@ impl fmt::Display for Fault {
             Fault::CrossShard => CROSS_SHARD,
             Fault::BadCursor => "ERR invalid cursor",
             Fault::NestedMulti => "ERR MULTI calls can not be nested",
+            Fault::ExecArity => EXEC_ARITY,
             Fault::Aborted => ABORTED,
             Fault::NotQueued => "ERR Command not allowed inside a transaction",
             Fault::QueueFull => QUEUE_FULL,
             Fault::NoAuth => "NOAUTH Authentication required.",
             Fault::WrongPassword => WRONG_PASSWORD,
+            Fault::TooSoon => TOO_SOON,
+            Fault::ManyClients => "ERR max number of clients reached",
             Fault::NoPassword => NO_PASSWORD,
             Fault::BadDatabase => "ERR DB index is out of range",
             Fault::BadProtocol => "NOPROTO unsupported protocol version",
@@ -245,6 +309,7 @@ fn composed(f: &mut fmt::Formatter<'_>, fault: &Fault) -> fmt::Result {
         Fault::TooLong => write!(f, "TOOLONG a value has at most {MAX_TEXT} bytes"),
         Fault::LongPattern => write!(f, "TOOLONG a pattern has at most {MAX_PATTERN} bytes"),
         Fault::BadKey => write!(f, "BADKEY a key has 1 to {MAX_KEY} bytes"),
+        Fault::Oversized(why) => write!(f, "TOOLARGE {why}: send it in parts"),
         Fault::ReplyTooLarge => write!(f, "TOOLARGE a reply has at most {MAX_REPLY} bytes"),
         Fault::QueueOfMany(most) => {
             let are = "'s commands with keys have at most";
@@ -262,7 +327,7 @@ fn composed(f: &mut fmt::Formatter<'_>, fault: &Fault) -> fmt::Result {
     }
 }
 
-fn unknown(f: &mut fmt::Formatter<'_>, name: &str, shown: &str) -> fmt::Result {
+fn unknown(f: &mut fmt::Formatter<'_>, name: &Shown, shown: &Shown) -> fmt::Result {
     let behind = "with args beginning with";
     write!(f, "ERR unknown command '{name}', {behind}: {shown}")
 }
@@ -296,7 +361,7 @@ fn no_permission(f: &mut fmt::Formatter<'_>, name: &str) -> fmt::Result {
     write!(f, "{this} the '{name}' command")
 }
 
-fn unknown_subcommand(f: &mut fmt::Formatter<'_>, name: &str, word: &str) -> fmt::Result {
+fn unknown_subcommand(f: &mut fmt::Formatter<'_>, name: &str, word: &Shown) -> fmt::Result {
     write!(f, "ERR unknown subcommand '{word}'. Try {name} HELP.")
 }
 
@@ -314,6 +379,11 @@ fn not_done(f: &mut fmt::Formatter<'_>, shard: u16, why: &NotDone) -> fmt::Resul
         ),
         NotDone::TooLarge(_) => write!(f, "TOOLARGE nothing has changed: {why}: send it in parts"),
         NotDone::NotMade(_) => write!(f, "STOREDOWN nothing has changed: {why}"),
+        // Clients know this name of Redis', and try again.
+        NotDone::Unread => write!(
+            f,
+            "LOADING nothing has changed: the server of shard {shard} hasn't read it yet: try again"
+        ),
         NotDone::Unknown(_) => write!(f, "UNKNOWN {why}: read before you try again"),
         // Another process asks again.
         NotDone::Moved(_) => write!(f, "{}", Wait::Busy(shard)),

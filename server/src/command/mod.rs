@@ -1,4 +1,5 @@
 //! The commands that clients send, and what each does.
+mod by_key;
 mod byte_set;
 mod cross_protocol;
 mod cursors;
@@ -17,16 +18,18 @@ mod session;
 mod spec;
 mod step;
 mod stop;
+mod subcommands;
 mod talk;
 mod transaction;
 mod unanswered;
 mod wanted;
 
 pub use cursors::Cursors;
-pub use durable::{step_of_spelled, Asked};
+pub use durable::{is_numbered, step_of_spelled, table_of_spelled, Asked};
 pub use executor::Executor;
 pub use fault::{name_of, BadKey, Fault};
 pub use info::memory_used;
-pub use role::Role;
+pub use role::{is_of_all, Role};
 pub use session::{Session, MOST_OF_A_STRANGER};
+pub use spec::{FIRST_TABLE, TABLE};
 pub use stop::Stop;

@@ -1,10 +1,13 @@
+use super::by_key::Part;
 use super::cursors::OwnCursors;
-use super::data::Part;
 use super::role::Role;
 use super::transaction::Transaction;
 use super::Fault;
+use crate::guesses::{Guesses, Origin};
 use crate::resp::{Command, Replies};
 use crate::safety::Safety;
+use std::net::{Ipv4Addr, SocketAddr};
+use std::time::Duration;
 
 /// How many bytes a client that gave no password yet may have in a command, and unsent of answers before no further
 /// command of it is done.
@@ -15,6 +18,8 @@ pub const MOST_OF_A_STRANGER: usize = 16 << 10;
 pub struct Session {
     /// A number that no other connection has.
     pub id: u64,
+    /// Where the client connects from.
+    pub address: SocketAddr,
     /// The name that the client gave itself.
     pub name: Option<Box<[u8]>>,
     /// Whether the client gave the password, or needs none.
@@ -23,6 +28,10 @@ pub struct Session {
     pub role: Role,
     /// Whether it may change how shards stand.
     pub may_control: bool,
+    /// How many wrong passwords it gave.
+    wrong_guesses: u32,
+    /// Whether its next password is looked at, whatever was given before.
+    pub may_guess: bool,
     /// The transaction that was begun.
     pub(super) transaction: Option<Box<Transaction>>,
     /// How far the next command has come, where it waits between its keys.
@@ -32,11 +41,20 @@ pub struct Session {
 }
 
 impl Session {
-    /// That of a new connection, where these passwords are asked for.
-    pub fn of(id: u64, safety: &Safety) -> Session {
+    /// That of a new connection from there, where these passwords are asked for.
+    pub fn of(id: u64, address: SocketAddr, safety: &Safety) -> Session {
         Session {
+            address,
             may_control: Role::Default.may_control(safety),
             ..Session::new(id, safety.password.is_none())
+        }
+    }
+
+    /// The same as when its connection was new, but for the wrong passwords that it gave.
+    pub fn renewed(&self, safety: &Safety) -> Session {
+        Session {
+            wrong_guesses: self.wrong_guesses,
+            ..Session::of(self.id, self.address, safety)
         }
     }
 
@@ -44,10 +62,13 @@ impl Session {
     pub fn new(id: u64, is_known: bool) -> Session {
         Session {
             id,
+            address: (Ipv4Addr::UNSPECIFIED, 0).into(),
             name: None,
             is_known,
             role: Role::Default,
             may_control: true,
+            wrong_guesses: 0,
+            may_guess: false,
             transaction: None,
             part: Part::default(),
             cursors: None,
@@ -63,18 +84,34 @@ impl Session {
         }
     }
 
+    /// For how long its next password isn't looked at.
+    pub(super) fn wait_of_guess(&self, guesses: &Guesses) -> Duration {
+        let origin = Origin::from(self.address.ip());
+        guesses.wait(origin, self.wrong_guesses)
+    }
+
+    /// Notes that it gave a wrong password.
+    pub(super) fn note_wrong_guess(&mut self, guesses: &Guesses) {
+        self.wrong_guesses = self.wrong_guesses.saturating_add(1);
+        guesses.note_wrong(self.address.ip().into());
+    }
+
     /// The cursors that it was given last.
     pub(super) fn cursors(&mut self) -> &OwnCursors {
         self.cursors.get_or_insert_default()
     }
 
-    /// Answers a command that is refused; in a transaction nothing is executed then, but for where it is begun twice.
+    /// Answers a command that is refused; a transaction executes nothing then, but for where it is begun
+    /// twice.
     pub(super) fn refuse(&mut self, fault: Fault, replies: &mut Replies) {
+        if fault == Fault::ExecArity {
+            self.transaction = None;
+        }
         let transaction = self.transaction.as_mut();
         if let Some(transaction) = transaction.filter(|_| fault != Fault::NestedMulti) {
             transaction.abort();
         }
-        replies.error(fault);
+        fault.answer(replies);
     }
 
     /// Queues a command of the transaction that was begun, with keys of this shard, and answers it.

@@ -1,4 +1,5 @@
 use super::data::DataWord;
+use super::subcommands::Subcommands;
 use super::{BadKey, Fault};
 use crate::body::MAX_KEY;
 use crate::keyspace::Keyspace;
@@ -61,6 +62,22 @@ pub enum Word {
     Control,
 }
 
+impl Word {
+    /// What it does with keys of one shard, if it does that.
+    pub fn data(self) -> Option<DataWord> {
+        match self {
+            Word::Data(word) => Some(word),
+            Word::Talk(_)
+            | Word::Multi
+            | Word::Exec
+            | Word::Discard
+            | Word::Scan
+            | Word::ScanRange
+            | Word::Control => None,
+        }
+    }
+}
+
 /// A command that needs no shard.
 #[derive(Clone, Copy, Debug, PartialEq, Eq)]
 #[allow(missing_docs)]
@@ -93,16 +110,24 @@ pub struct Spec {
     pub is_write: bool,
     /// What it does.
     pub word: Word,
+    /// The first version of the table that has it.
+    pub since: u16,
 }
 
+/// The version of the table of commands: whoever adds commands raises it, and gives it to them by [`Spec::since`], so
+/// that no process sends them to one that doesn't know them.
+pub const TABLE: u16 = 1;
+/// That of 0.1.0, of which its processes don't tell.
+pub const FIRST_TABLE: u16 = 1;
+
 const fn data(name: &'static str, arity: i64, keys: Keys, is_write: bool, word: DataWord) -> Spec {
-    let word = Word::Data(word);
     Spec {
         name,
         arity,
         keys,
         is_write,
-        word,
+        word: Word::Data(word),
+        since: FIRST_TABLE,
     }
 }
 
@@ -111,13 +136,13 @@ const fn talk(name: &'static str, arity: i64, word: TalkWord) -> Spec {
 }
 
 const fn other(name: &'static str, arity: i64, word: Word) -> Spec {
-    let (keys, is_write) = (Keys::None, false);
     Spec {
         name,
         arity,
-        keys,
-        is_write,
+        keys: Keys::None,
+        is_write: false,
         word,
+        since: FIRST_TABLE,
     }
 }
 
@@ -257,6 +282,7 @@ impl Spec {
         };
         match is_well {
             true => Ok(spec),
+            false if spec.word == Word::Exec => Err(Fault::ExecArity),
             false => Err(Fault::wrong_arity(spec.name)),
         }
     }
@@ -278,6 +304,20 @@ impl Spec {
         (NUMBERS[index] == number).then(|| &COMMANDS[index])
     }
 
+    /// Refuses a command whose subcommand isn't there, or takes another number of arguments.
+    pub fn check_subcommand(&self, command: Command<'_>) -> Result<(), Fault> {
+        match self.word {
+            Word::Talk(word) => Subcommands::of(word).map_or(Ok(()), |it| it.check(command)),
+            Word::Data(_)
+            | Word::Multi
+            | Word::Exec
+            | Word::Discard
+            | Word::Scan
+            | Word::ScanRange
+            | Word::Control => Ok(()),
+        }
+    }
+
     /// The shards of the command's keys; refused where one is none.
     #[inline]
     pub fn place(&self, command: Command<'_>, keyspace: &Keyspace) -> Result<Place, BadKey> {
@@ -292,16 +332,36 @@ impl Spec {
     /// Whether a client that gave no password may send it.
     #[inline]
     pub fn is_open(&self) -> bool {
-        use TalkWord::{Auth, Hello, Quit, Reset};
-        matches!(self.word, Word::Talk(Auth | Hello | Quit | Reset))
+        use TalkWord::*;
+        match self.word {
+            Word::Talk(Auth | Hello | Quit | Reset) => true,
+            Word::Talk(Acl | Client | Command | Config | DbSize | Echo | Info | Ping | Select)
+            | Word::Data(_)
+            | Word::Multi
+            | Word::Exec
+            | Word::Discard
+            | Word::Scan
+            | Word::ScanRange
+            | Word::Control => false,
+        }
     }
 
     /// Whether it may be a part of a transaction: as in Redis, what ends the connection or its transaction isn't.
     pub fn is_queued(&self) -> bool {
+        use TalkWord::*;
         match self.word {
             Word::Data(_) => true,
-            Word::Talk(word) => !matches!(word, TalkWord::Quit | TalkWord::Reset),
-            _ => false,
+            Word::Talk(
+                Acl | Auth | Client | Command | Config | DbSize | Echo | Hello | Info | Ping
+                | Select,
+            ) => true,
+            Word::Talk(Quit | Reset) => false,
+            Word::Multi
+            | Word::Exec
+            | Word::Discard
+            | Word::Scan
+            | Word::ScanRange
+            | Word::Control => false,
         }
     }
 }
@@ -332,6 +392,15 @@ pub fn shard_of(key: &[u8], keyspace: &Keyspace) -> Result<u16, BadKey> {
 #[cfg(test)]
 mod tests {
     use super::*;
+
+    #[test]
+    fn the_tables_version_is_that_of_its_latest_commands() {
+        let versions = COMMANDS.iter().map(|it| it.since);
+        assert_eq!(versions.clone().max(), Some(TABLE));
+        // How many each version added, from the first.
+        let added = (FIRST_TABLE..=TABLE).map(|it| versions.clone().filter(|of| *of == it).count());
+        assert_eq!(added.collect::<Vec<_>>(), [32]);
+    }
 
     #[test]
     fn commands_are_found_by_name() {

@@ -1,3 +1,4 @@
+use super::by_key::ByKey;
 use super::data::DataWord;
 use super::role::is_of_all;
 use super::session::Session;
@@ -14,7 +15,7 @@ pub enum Step {
     /// It is done with keys of one shard.
     Data(Keyed),
     /// It is done with keys of several shards, each by itself.
-    Each(DataWord),
+    Each(ByKey),
     /// It is queued for EXEC, with keys of this shard.
     Queue(Option<u16>),
     /// It is done otherwise.
@@ -39,12 +40,22 @@ impl Step {
         }
         let place = spec.place(command, keyspace)?;
         if is_within && spec.is_queued() {
+            spec.check_subcommand(command)?;
             return place.one().map(Step::Queue);
         }
-        Ok(match (spec.word, place) {
-            (Word::Data(word), Place::Shard(shard)) => Step::Data((word, shard)),
-            (Word::Data(word), Place::Several) => Step::Each(word),
-            _ => Step::Other(spec),
+        Ok(match spec.word {
+            Word::Data(word) => match place {
+                Place::Shard(shard) => Step::Data((word, shard)),
+                Place::Several => Step::Each(ByKey::of(word).ok_or(Fault::CrossShard)?),
+                Place::Nowhere => Step::Other(spec),
+            },
+            Word::Talk(_)
+            | Word::Multi
+            | Word::Exec
+            | Word::Discard
+            | Word::Scan
+            | Word::ScanRange
+            | Word::Control => Step::Other(spec),
         })
     }
 

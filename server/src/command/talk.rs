@@ -4,6 +4,7 @@ use super::info;
 use super::role::Role;
 use super::session::Session;
 use super::spec::{Keys, Spec, TalkWord, Word, COMMANDS};
+use super::subcommands::Subcommands;
 use super::unanswered::Unanswered;
 use super::Fault;
 use crate::body::{MAX_KEY, MAX_TEXT};
@@ -21,6 +22,13 @@ pub fn answer(
     cluster: &Cluster,
     replies: &mut Replies,
 ) -> Result<(), Unanswered> {
+    if let Some(subcommands) = Subcommands::of(word) {
+        subcommands.check(command)?;
+        if command.is(1, "HELP") {
+            subcommands.help(replies);
+            return Ok(());
+        }
+    }
     match word {
         TalkWord::Ping => ping(command, replies)?,
         TalkWord::Echo => replies.bulk(command.get(1)),
@@ -37,7 +45,7 @@ pub fn answer(
         TalkWord::Config => config(command, cluster, replies)?,
         TalkWord::Info => replies.text(&info::told(command, cluster)),
         TalkWord::Reset => {
-            *session = Session::of(session.id, &cluster.configuration.safety);
+            *session = session.renewed(&cluster.configuration.safety);
             replies.protocol = Protocol::Two;
             replies.simple("RESET");
         }
@@ -67,6 +75,25 @@ fn select(command: Command<'_>, replies: &mut Replies) -> Result<(), Fault> {
     Ok(())
 }
 
+/// Whether the command gives a password.
+pub fn gives_password(word: TalkWord, command: Command<'_>) -> bool {
+    match word {
+        TalkWord::Auth => true,
+        TalkWord::Hello => command.len() > 2,
+        TalkWord::Acl
+        | TalkWord::Client
+        | TalkWord::Command
+        | TalkWord::Config
+        | TalkWord::DbSize
+        | TalkWord::Echo
+        | TalkWord::Info
+        | TalkWord::Ping
+        | TalkWord::Quit
+        | TalkWord::Reset
+        | TalkWord::Select => false,
+    }
+}
+
 /// Lets the client in, where the user is a role and the password is that role's.
 fn let_in(
     user: &[u8],
@@ -74,11 +101,20 @@ fn let_in(
     session: &mut Session,
     cluster: &Cluster,
 ) -> Result<(), Fault> {
-    let safety = &cluster.configuration.safety;
+    let (safety, guesses) = (&cluster.configuration.safety, &cluster.guesses);
+    // A command by itself was put off for so long; within a transaction nothing is.
+    if !std::mem::take(&mut session.may_guess) && !session.wait_of_guess(guesses).is_zero() {
+        return Err(Fault::TooSoon);
+    }
     // Who was let in before stays so, and what it was.
-    let role = Role::named(user)
-        .filter(|it| it.is_opened_by(password, safety))
-        .ok_or(Fault::WrongPassword)?;
+    let role = Role::named(user).filter(|it| it.is_opened_by(password, safety));
+    let Some(role) = role else {
+        session.note_wrong_guess(guesses);
+        return Err(Fault::WrongPassword);
+    };
+    if !session.is_known && cluster.known_clients() >= cluster.configuration.most_clients {
+        return Err(Fault::ManyClients);
+    }
     session.is_known = true;
     session.role = role;
     session.may_control = role.may_control(safety);
@@ -87,8 +123,8 @@ fn let_in(
 
 /// ACL WHOAMI.
 fn who_am_i(command: Command<'_>, session: &Session, replies: &mut Replies) -> Result<(), Fault> {
-    if !command.is(1, "WHOAMI") || command.len() != 2 {
-        return Err(Fault::subcommand("ACL", command.get(1), &["WHOAMI"]));
+    if !command.is(1, "WHOAMI") {
+        return Err(Fault::unknown_subcommand("ACL", command.get(1)));
     }
     replies.bulk(session.role.name().as_bytes());
     Ok(())
@@ -183,49 +219,38 @@ fn set_name(name: &[u8], session: &mut Session) -> Result<(), Fault> {
 }
 
 fn client(command: Command<'_>, session: &mut Session, replies: &mut Replies) -> Result<(), Fault> {
-    match (
-        command.get(1).to_ascii_uppercase().as_slice(),
-        command.len(),
-    ) {
-        (b"ID", 2) => replies.count(session.id as usize),
-        (b"GETNAME", 2) => match &session.name {
+    match command.get(1).to_ascii_uppercase().as_slice() {
+        b"ID" => replies.count(session.id as usize),
+        b"GETNAME" => match &session.name {
             Some(name) => replies.bulk(name),
             None => replies.null(),
         },
-        (b"SETNAME", 3) => {
+        b"SETNAME" => {
             set_name(command.get(2), session)?;
             replies.ok();
         }
-        (b"SETINFO", 4) | (b"NO-EVICT" | b"NO-TOUCH", 3) => replies.ok(),
-        _ => {
-            let known = [
-                "ID", "GETNAME", "SETNAME", "SETINFO", "NO-EVICT", "NO-TOUCH",
-            ];
-            return Err(Fault::subcommand("CLIENT", command.get(1), &known));
-        }
+        b"SETINFO" | b"NO-EVICT" | b"NO-TOUCH" => replies.ok(),
+        other => return Err(Fault::unknown_subcommand("CLIENT", other)),
     }
     Ok(())
 }
 
 /// COMMAND: all commands, how many there are, or some of them.
 fn describe(command: Command<'_>, replies: &mut Replies) -> Result<(), Fault> {
-    match (
-        command.get(1).to_ascii_uppercase().as_slice(),
-        command.len(),
-    ) {
-        (b"", 1) => {
+    match command.get(1).to_ascii_uppercase().as_slice() {
+        b"" => {
             replies.array(COMMANDS.len());
             COMMANDS.iter().for_each(|it| describe_one(it, replies));
         }
-        (b"COUNT", 2) => replies.count(COMMANDS.len()),
-        (b"DOCS", _) => replies.map(0),
-        (b"LIST", 2) => {
+        b"COUNT" => replies.count(COMMANDS.len()),
+        b"DOCS" => replies.map(0),
+        b"LIST" => {
             replies.array(COMMANDS.len());
             COMMANDS
                 .iter()
                 .for_each(|it| replies.bulk(it.name.as_bytes()));
         }
-        (b"INFO", _) => {
+        b"INFO" => {
             let names = command.from(2);
             replies.array(names.len());
             for name in names.iter() {
@@ -235,13 +260,7 @@ fn describe(command: Command<'_>, replies: &mut Replies) -> Result<(), Fault> {
                 }
             }
         }
-        _ => {
-            return Err(Fault::subcommand(
-                "COMMAND",
-                command.get(1),
-                &["COUNT", "LIST"],
-            ))
-        }
+        other => return Err(Fault::unknown_subcommand("COMMAND", other)),
     }
     Ok(())
 }
@@ -251,7 +270,7 @@ fn describe_one(spec: &Spec, replies: &mut Replies) {
     let flag = match spec.word {
         Word::Data(_) if spec.is_write => "write",
         Word::Data(_) | Word::Scan | Word::ScanRange => "readonly",
-        _ => "fast",
+        Word::Talk(_) | Word::Multi | Word::Exec | Word::Discard | Word::Control => "fast",
     };
     let (first, last, step) = match spec.keys {
         Keys::None => (0, 0, 0),
@@ -271,8 +290,8 @@ fn describe_one(spec: &Spec, replies: &mut Replies) {
 
 /// CONFIG GET, of what clients and redis-benchmark look at.
 fn config(command: Command<'_>, cluster: &Cluster, replies: &mut Replies) -> Result<(), Fault> {
-    if !command.is(1, "GET") || command.len() < 3 {
-        return Err(Fault::subcommand("CONFIG", command.get(1), &["GET"]));
+    if !command.is(1, "GET") {
+        return Err(Fault::unknown_subcommand("CONFIG", command.get(1)));
     }
     let known = [
         ("appendonly", "no".to_owned()),

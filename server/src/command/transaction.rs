@@ -60,10 +60,8 @@ impl Transaction {
     /// The commands with keys.
     pub fn data(&self) -> impl Iterator<Item = (DataWord, &OwnedCommand)> {
         self.commands.iter().filter_map(|it| {
-            match Spec::named(it.command().get(0)).map(|it| it.word) {
-                Some(Word::Data(word)) => Some((word, it)),
-                _ => None,
-            }
+            let word = Spec::named(it.command().get(0))?.word.data()?;
+            Some((word, it))
         })
     }
 
@@ -102,7 +100,20 @@ impl Transaction {
                     self.note_keys(word, body, cluster);
                     talk::answer(word, command, session, cluster, replies)
                 }
-                _ => Err(Fault::NotQueued.into()),
+                // None of these is queued.
+                (Some(Word::Data(_)), None)
+                | (
+                    None
+                    | Some(
+                        Word::Multi
+                        | Word::Exec
+                        | Word::Discard
+                        | Word::Scan
+                        | Word::ScanRange
+                        | Word::Control,
+                    ),
+                    _,
+                ) => Err(Fault::NotQueued.into()),
             };
             is_full |= replies.is_too_large(first);
             let done = match size == Size::OfRead && replies.is_too_large(first) {
@@ -111,7 +122,7 @@ impl Transaction {
             };
             if let Err(Unanswered::Fault(fault)) = done {
                 replies.take_back(mark);
-                replies.error(fault);
+                fault.answer(replies);
             }
         }
     }
@@ -123,7 +134,12 @@ impl Transaction {
         body: &mut Option<&mut (dyn ShardBody + 'static)>,
         cluster: &Cluster,
     ) {
-        let is_told = matches!(word, TalkWord::DbSize | TalkWord::Info);
+        use TalkWord::*;
+        let is_told = match word {
+            DbSize | Info => true,
+            Acl | Auth | Client | Command | Config | Echo | Hello | Ping | Quit | Reset
+            | Select => false,
+        };
         if let (true, Some(shard), Some(body)) = (is_told, self.shard, body) {
             cluster.note_keys(shard, body.keys());
         }
@@ -143,15 +159,38 @@ enum Size {
 
 impl Size {
     fn of(word: Option<Word>, command: Command<'_>) -> Size {
-        use DataWord::{Exists, Get, MGet, Set, StrLen, Type};
-        use TalkWord::{Auth, Client, Hello};
         match word {
-            Some(Word::Data(Get | MGet | Exists | StrLen | Type)) => Size::OfRead,
-            Some(Word::Data(Set)) if (3..command.len()).any(|it| command.is(it, "GET")) => {
-                Size::OfValue
+            Some(Word::Data(word)) => Size::of_data(word, command),
+            Some(Word::Talk(word)) => Size::of_talk(word),
+            // None of these is queued.
+            None
+            | Some(
+                Word::Multi
+                | Word::Exec
+                | Word::Discard
+                | Word::Scan
+                | Word::ScanRange
+                | Word::Control,
+            ) => Size::OfRead,
+        }
+    }
+
+    fn of_data(word: DataWord, command: Command<'_>) -> Size {
+        use DataWord::*;
+        match word {
+            Get | MGet | Exists | StrLen | Type => Size::OfRead,
+            Set if (3..command.len()).any(|it| command.is(it, "GET")) => Size::OfValue,
+            Set | Append | Decr | DecrBy | Del | Incr | IncrBy | MSet => Size::Short,
+        }
+    }
+
+    fn of_talk(word: TalkWord) -> Size {
+        use TalkWord::*;
+        match word {
+            Auth | Client | Hello => Size::Short,
+            Acl | Command | Config | DbSize | Echo | Info | Ping | Quit | Reset | Select => {
+                Size::OfRead
             }
-            Some(Word::Talk(Auth | Client | Hello) | Word::Data(_)) => Size::Short,
-            _ => Size::OfRead,
         }
     }
 }

@@ -1,5 +1,6 @@
 use super::Fault;
 use crate::wait::{NotAdmitted, Wait};
+use std::time::Duration;
 
 /// Why a command has no answer of its own.
 #[derive(Clone, Debug, PartialEq, Eq)]
@@ -8,6 +9,8 @@ pub enum Unanswered {
     Fault(Fault),
     /// It waits, and is done anew later.
     Wait(Wait),
+    /// It is looked at after so long.
+    PutOff(Duration),
     /// It was answered, and took so long that others have their turn before the next one.
     Long,
     /// It was answered, and the connection ends.

@@ -221,6 +221,7 @@ impl Process {
                 server,
                 settings: 0,
                 process: member.process(),
+                table: 1,
             },
             secret: None,
             tls: None,

@@ -30,7 +30,8 @@ pub const WORDS: [(&str, &str); 34] = [
     ("RESTART a", "restarts server a: ASK, APPROVE, DRAIN, STOPPED, BACK, and its shards come home; with --etcd its \
       process is to be ended and begun again once it is stopped"),
     ("RESTART", "without --etcd: restarts all servers in turn"),
-    ("DUMP FILE", "writes all shards, with their stands and generations, into the file in --folder"),
+    ("DUMP FILE", "writes all shards, with their stands and generations, into the file in --folder, in place of an \
+      earlier dump of the name"),
     ("LOAD FILE", "has all shards hold and stand as in that file, in place of what they hold now"),
     ("ROUTES", "with --etcd: the latest record's revision, and for each shard its owner, and where clients reach that"),
     ("CALL c n COMMAND ..", "where data outlives the process: a write without reading, once for number n of client c"),
@@ -40,7 +41,7 @@ pub const WORDS: [(&str, &str); 34] = [
 ];
 
 /// Each name by which the control refuses and scripts don't: when, and what to do. `./sm help` reads them here.
-pub const NAMES: [(&str, &str, &str); 23] = [
+pub const NAMES: [(&str, &str, &str); 24] = [
     ("NotThere", "the word is there where data lies elsewhere", "SM HELP tells where it is"),
     ("NotDurable", "the word is there for data in memory alone", "SM HELP lists all words"),
     ("OneByOne", "processes of a cluster are ended and begun again by hand, one after another", "SM RESTART a"),
@@ -58,6 +59,8 @@ pub const NAMES: [(&str, &str, &str); 23] = [
     ("BadFile", "the system doesn't write or read the file", "--folder names the folder of such files"),
     ("BadName", "a file's name has letters, digits, -, _ and ., and begins with none of - and .", "take another name"),
     ("ForeignFile", "the file isn't a dump", "name a file that SM DUMP of this version wrote"),
+    ("NameTaken", "something of that name is there that isn't a dump, so SM DUMP doesn't write over it",
+      "take another name"),
     ("BadVersion", "the dump has another version", "name a file that SM DUMP of this version wrote"),
     ("TornFile", "the dump is cut, or was changed", "name an earlier file"),
     ("OtherShards", "the dump is of other servers or shards", "begin a server so, and load it there"),

@@ -12,6 +12,8 @@ pub enum DumpFault {
     BadName,
     /// The file isn't a dump.
     Foreign,
+    /// Something of the name of a file that is to be written is there, and isn't a dump.
+    Taken,
     /// The file has another version.
     Version,
     /// The file ends too early, has other bytes than were written, or a generation that no server comes to.
@@ -31,6 +33,7 @@ impl DumpFault {
             DumpFault::File(_) => "BadFile",
             DumpFault::BadName => "BadName",
             DumpFault::Foreign => "ForeignFile",
+            DumpFault::Taken => "NameTaken",
             DumpFault::Version => "BadVersion",
             DumpFault::Torn => "TornFile",
             DumpFault::Other(_) => "OtherShards",
@@ -47,6 +50,7 @@ impl DumpFault {
             DumpFault::Foreign | DumpFault::Version => {
                 "name a file that SM DUMP of this version wrote"
             }
+            DumpFault::Taken => "take another name",
             DumpFault::Torn => "name an earlier file",
             DumpFault::Other(_) | DumpFault::Stand(..) => "begin a server so, and load it there",
             DumpFault::NoMemory => "load it where there is more",
@@ -62,6 +66,7 @@ impl fmt::Display for DumpFault {
                 "a file's name has letters, digits, -, _ and ., and begins with none of - and .",
             ),
             DumpFault::Foreign => f.write_str("it isn't a dump of this server"),
+            DumpFault::Taken => f.write_str("something of that name is there that isn't a dump"),
             DumpFault::Version => f.write_str("it has another version"),
             DumpFault::Torn => f.write_str("it is cut, or was changed"),
             DumpFault::Other(how) => write!(f, "it is of a server with {how}"),

@@ -20,5 +20,8 @@ pub use writer::{shard_text, DumpFile};
 
 /// What each such file begins with, before its version.
 const MAGIC: &str = "durkenzo-dump ";
+/// The folder of such files where none is named.
+pub const USUAL_FOLDER: &str = "durkenzo-dumps";
+
 /// The version that is written and read.
 const VERSION: &str = "1";

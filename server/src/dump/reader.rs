@@ -2,8 +2,10 @@ use super::checksum::Checksum;
 use super::writer::path_of;
 use super::{DumpFault, Head, ShardHead, MAGIC, VERSION};
 use crate::body::{Reply, Request, Shard, Storage, Value, MAX_KEY, MAX_TEXT};
-use std::fs::File;
+use rustix::fs::OFlags;
+use std::fs::{File, OpenOptions};
 use std::io::{BufRead, BufReader, Read};
+use std::os::unix::fs::OpenOptionsExt;
 use std::path::Path;
 
 /// The most bytes of a line that isn't the second.
@@ -26,7 +28,7 @@ pub fn read(
     head: &Head,
     storage: &dyn Storage,
 ) -> Result<Loaded, DumpFault> {
-    let file = File::open(path_of(folder, name)?).map_err(DumpFault::File)?;
+    let file = opened(&path_of(folder, name)?)?;
     let mut dump = Dump {
         file: BufReader::new(file),
         sum: Checksum::new(),
@@ -49,6 +51,19 @@ pub fn read(
     }
     dump.end(&loaded)?;
     Ok(loaded)
+}
+
+/// Opens the file there to be read. What isn't a file is refused: whoever opens a fifo would wait for who writes.
+pub(super) fn opened(path: &Path) -> Result<File, DumpFault> {
+    let mut options = OpenOptions::new();
+    options
+        .read(true)
+        .custom_flags(OFlags::NONBLOCK.bits() as i32);
+    let file = options.open(path).map_err(DumpFault::File)?;
+    match file.metadata()?.is_file() {
+        true => Ok(file),
+        false => Err(DumpFault::Foreign),
+    }
 }
 
 fn shard_of(line: &str) -> Option<ShardHead> {

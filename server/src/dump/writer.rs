@@ -1,13 +1,19 @@
 use super::checksum::Checksum;
+use super::reader::opened;
 use super::{DumpFault, Head, MAGIC, VERSION};
 use crate::body::{Range, Refusal, Reply, Request, ShardBody, Value, MAX_PAIRS};
-use std::fs::{self, File};
-use std::io::{BufWriter, Write};
+use std::fs::{self, DirBuilder, File};
+use std::io::{BufWriter, ErrorKind, Read, Write};
 use std::ops::Bound;
+use std::os::unix::fs::DirBuilderExt;
 use std::path::{Path, PathBuf};
 use std::sync::atomic::{AtomicU64, Ordering};
 
+/// Who may look into a folder that is made for dumps: its owner, as they hold all data.
+const FOLDER_MODE: u32 = 0o700;
+
 /// A dump that is written: under another name until it is whole, so that an earlier one of the name stays till then.
+/// Nothing but a dump is ever replaced.
 #[derive(Debug)]
 pub struct DumpFile {
     file: BufWriter<File>,
@@ -32,13 +38,20 @@ impl Drop for DumpFile {
 }
 
 impl DumpFile {
-    /// Begins the file of this name in the folder.
+    /// Begins the file of this name in the folder, which is made where there is none.
+    ///
+    /// # Errors
+    ///
+    /// Returns `BadName` of a name that isn't a file's, `Taken` where something of the name isn't a dump, and `File`
+    /// where the system refuses.
     pub fn create(folder: &Path, name: &str, head: &Head) -> Result<DumpFile, DumpFault> {
         let path = path_of(folder, name)?;
-        let number = BEGUN.fetch_add(1, Ordering::Relaxed);
-        let part = folder.join(format!("{name}.{number}.part"));
+        let mut folders = DirBuilder::new();
+        folders.recursive(true).mode(FOLDER_MODE).create(folder)?;
+        may_write(&path)?;
+        let (file, part) = part_of(folder, name)?;
         let mut dump = DumpFile {
-            file: BufWriter::new(File::create(&part)?),
+            file: BufWriter::new(file),
             path,
             part,
             sum: Checksum::new(),
@@ -66,6 +79,7 @@ impl DumpFile {
         writeln!(self.file, "end {shards} {pairs} {sum:016x}")?;
         self.file.flush()?;
         self.file.get_ref().sync_all()?;
+        may_write(&self.path)?;
         fs::rename(&self.part, &self.path)?;
         self.is_whole = true;
         // The name lies in the folder.
@@ -78,6 +92,36 @@ impl DumpFile {
         self.sum.take(bytes);
         Ok(self.file.write_all(bytes)?)
     }
+}
+
+/// A new file for the dump of this name until that is whole, and where it lies. What an earlier process left stays.
+fn part_of(folder: &Path, name: &str) -> Result<(File, PathBuf), DumpFault> {
+    loop {
+        let number = BEGUN.fetch_add(1, Ordering::Relaxed);
+        let part = folder.join(format!("{name}.{number}.part"));
+        match File::create_new(&part) {
+            Err(error) if error.kind() == ErrorKind::AlreadyExists => {}
+            file => return Ok((file?, part)),
+        }
+    }
+}
+
+/// Refuses a path at which something else than a dump is.
+fn may_write(path: &Path) -> Result<(), DumpFault> {
+    match fs::symlink_metadata(path) {
+        Err(error) if error.kind() == ErrorKind::NotFound => Ok(()),
+        Err(error) => Err(error.into()),
+        Ok(found) if found.is_file() && is_dump(path)? => Ok(()),
+        Ok(_) => Err(DumpFault::Taken),
+    }
+}
+
+/// Whether the file begins as a dump of any version does.
+fn is_dump(path: &Path) -> Result<bool, DumpFault> {
+    let mut head = Vec::new();
+    let most = MAGIC.len() as u64;
+    opened(path)?.take(most).read_to_end(&mut head)?;
+    Ok(head == MAGIC.as_bytes())
 }
 
 /// Where the file of this name lies.

@@ -1,8 +1,9 @@
-use super::metrics;
+use super::{metrics, undated};
 use crate::cluster::Cluster;
 use crate::observer::Observer;
 use crate::run::Fault;
 use crate::snapshot::Snapshot;
+use crate::tls::ClientsTls;
 use durkenzo::PassFault;
 use hyper::header::{CACHE_CONTROL, CONTENT_TYPE};
 use hyper::server::conn::Http;
@@ -11,19 +12,20 @@ use hyper::{Body, Method, Request, Response, StatusCode};
 use std::collections::VecDeque;
 use std::convert::Infallible;
 use std::error::Error;
+use std::io;
+use std::pin::Pin;
 use std::sync::Arc;
 use std::time::Duration;
 use tokio::io::{AsyncRead, AsyncWrite};
 use tokio::net::{TcpListener, TcpStream};
 use tokio::task::JoinHandle;
 use tokio::time::{sleep, timeout};
-use tokio_rustls::TlsAcceptor;
+use tokio_openssl::SslStream;
 
 const PAGE: &str = include_str!("page.html");
 const TEXT: &str = "text/plain; charset=utf-8";
 
-/// How many connections there are at a time, and how long one lasts at most.
-const MOST: usize = 256;
+/// How long a connection lasts at most.
 const LASTS: Duration = Duration::from_secs(60);
 /// How long nothing is accepted after the system had no room for a connection.
 const PAUSE: Duration = Duration::from_millis(20);
@@ -37,13 +39,13 @@ struct Site {
 pub async fn serve(cluster: Arc<Cluster>, listener: TcpListener) -> Result<(), Fault> {
     let site = Arc::new(Site { cluster });
     tracing::info!(address = %listener.local_addr()?, "page, /metrics and /healthz");
-    let safety = &site.cluster.configuration.safety;
-    let tls = safety.tls.as_ref().map(|it| it.config().into());
+    let configuration = &site.cluster.configuration;
+    let (most, tls) = (configuration.most_of_page, configuration.safety.tls.clone());
     let mut open = VecDeque::new();
     loop {
         match listener.accept().await {
             Ok((socket, _)) => {
-                make_room(&mut open);
+                make_room(&mut open, most);
                 let meeting = site.clone().meet(socket, tls.clone());
                 // One that takes longer is cut off.
                 open.push_back(tokio::spawn(timeout(LASTS, meeting)));
@@ -56,24 +58,32 @@ pub async fn serve(cluster: Arc<Cluster>, listener: TcpListener) -> Result<(), F
     }
 }
 
-/// Cuts off the oldest connections until there is a place for one more, so that nobody keeps others out by many that
-/// send nothing, or little: who asks at once is answered before so many others have come.
-fn make_room<T>(open: &mut VecDeque<JoinHandle<T>>) {
+/// Cuts off the oldest connections until one more makes no more than these, so that nobody keeps others out by many
+/// that send nothing, or little: who asks at once is answered before so many others have come.
+fn make_room<T>(open: &mut VecDeque<JoinHandle<T>>, most: usize) {
     open.retain(|it| !it.is_finished());
-    while open.len() >= MOST {
+    while open.len() >= most {
         let oldest = open.pop_front();
         oldest.iter().for_each(JoinHandle::abort);
     }
 }
 
+/// Does the handshake with who connected.
+async fn met(tls: &ClientsTls, socket: TcpStream) -> io::Result<SslStream<TcpStream>> {
+    let session = tls.page().map_err(io::Error::other)?;
+    let mut stream = SslStream::new(session, socket).map_err(io::Error::other)?;
+    let accepted = Pin::new(&mut stream).accept().await;
+    accepted.map_err(io::Error::other).map(|()| stream)
+}
+
 impl Site {
     /// Answers what comes over a connection, by TLS where clients are met so.
-    async fn meet(self: Arc<Site>, socket: TcpStream, tls: Option<TlsAcceptor>) {
+    async fn meet(self: Arc<Site>, socket: TcpStream, tls: Option<ClientsTls>) {
         let Some(tls) = tls else {
             return self.converse(socket).await;
         };
         let login_time = self.cluster.configuration.safety.login_time;
-        match timeout(login_time, tls.accept(socket)).await {
+        match timeout(login_time, met(&tls, socket)).await {
             Ok(Ok(stream)) => self.converse(stream).await,
             Ok(Err(error)) => tracing::debug!(%error, "a connection to the page has no TLS"),
             Err(_) => {}
@@ -84,6 +94,11 @@ impl Site {
         self: Arc<Site>,
         stream: impl AsyncRead + AsyncWrite + Unpin + Send + 'static,
     ) {
+        if undated::is_now() {
+            // Whether it is taken or not, the connection ends.
+            let _ = undated::answer(stream).await;
+            return;
+        }
         let answer = move |request| {
             let answered = self.answer(&request);
             async move { Ok::<_, Infallible>(answered) }

@@ -1,8 +1,9 @@
 use super::inlet::WAKE;
+use super::stream::Stream;
 use crate::cluster::Cluster;
 use mio::net::{TcpListener, TcpStream};
 use mio::{Events, Interest, Poll, Token, Waker};
-use std::io::{self, ErrorKind, Write};
+use std::io::{self, ErrorKind};
 use std::net::SocketAddr;
 use std::sync::Arc;
 use std::time::{Duration, Instant};
@@ -10,6 +11,8 @@ use std::time::{Duration, Instant};
 const LISTENER: Token = Token(0);
 /// How long nothing is accepted after the system had no room for a connection.
 const PAUSE: Duration = Duration::from_millis(20);
+/// How often it is said at most that connections aren't accepted.
+const SILENCE: Duration = Duration::from_secs(10);
 
 /// Accepts connections, and gives them to the threads in turn.
 #[derive(Debug)]
@@ -57,7 +60,7 @@ impl Acceptor {
     /// Accepts until the cluster stops, and then what the system holds, but no longer than for its grace.
     pub fn run(mut self) {
         let mut events = Events::with_capacity(8);
-        let mut timeout = None;
+        let (mut timeout, mut said) = (None, None);
         while !self.cluster.is_stopping() {
             match self.poll.poll(&mut events, timeout) {
                 Err(error) if error.kind() != ErrorKind::Interrupted => {
@@ -68,7 +71,10 @@ impl Acceptor {
             }
             // An edge comes once, so what a full system left is tried again later.
             timeout = self.accept_all().err().map(|error| {
-                tracing::warn!(%error, "a connection isn't accepted");
+                if said.is_none_or(|it: Instant| it.elapsed() >= SILENCE) {
+                    tracing::warn!(%error, "connections aren't accepted for now");
+                    said = Some(Instant::now());
+                }
                 std::thread::sleep(PAUSE);
                 PAUSE
             });
@@ -87,7 +93,7 @@ impl Acceptor {
                 end = Some(Instant::now() + self.cluster.configuration.grace);
             }
             match self.listener.accept() {
-                Ok((stream, _)) => self.hand_on(stream),
+                Ok((stream, from)) => self.hand_on(stream, from),
                 Err(error) if error.kind() == ErrorKind::WouldBlock => break,
                 Err(error) if is_of_the_client(&error) => {}
                 Err(error) => return Err(error),
@@ -96,21 +102,19 @@ impl Acceptor {
         Ok(())
     }
 
-    fn hand_on(&mut self, mut stream: TcpStream) {
-        let inlets = self.cluster.inlets();
-        let open: u64 = inlets.iter().map(|it| it.stats().open.get()).sum();
-        let strangers = inlets.iter().map(|it| it.strangers()).sum();
-        let configuration = &self.cluster.configuration;
-        let is_full = open as usize >= configuration.most_clients;
-        if is_full || !configuration.takes_stranger(strangers) {
-            // Whether it reads that or not, it is let go; by TLS nothing can be told yet.
-            if configuration.safety.tls.is_none() {
-                let _ = stream.write_all(b"-ERR max number of clients reached\r\n");
+    fn hand_on(&mut self, socket: TcpStream, from: SocketAddr) {
+        if !self.cluster.takes_client() {
+            // By TLS nothing can be told yet.
+            if self.cluster.configuration.safety.tls.is_none() {
+                Stream::Plain(socket).refuse();
             }
             return;
         }
+        let inlets = self.cluster.inlets();
         self.turn = (self.turn + 1) % inlets.len();
-        inlets[self.turn].bring(stream);
+        if let Some(mut first) = inlets[self.turn].bring(socket, from) {
+            first.refuse();
+        }
     }
 }
 

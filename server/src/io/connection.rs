@@ -1,6 +1,7 @@
+use super::arrived::Arrived;
 use super::stream::Stream;
 use crate::command::{Asked, Executor, Session, Stop, MOST_OF_A_STRANGER};
-use crate::resp::{OwnedCommand, Replies};
+use crate::resp::{Oversized, OwnedCommand, ReadAway, Replies};
 use crate::stats::ErrorCounts;
 use crate::wait::Wait;
 use mio::event::Event;
@@ -25,6 +26,8 @@ pub(super) enum Turn {
     Again,
     /// Another turn, after others had a shard that it waits for.
     Wait(Wait),
+    /// Another turn at that moment, and none before.
+    PutOff(Instant),
     /// The control's answer to this command.
     Control(OwnedCommand),
     /// The answer of shards whose data outlives the process.
@@ -42,6 +45,8 @@ pub(super) struct Connection {
     input: Vec<u8>,
     /// There is no whole command in fewer bytes of input.
     needs: usize,
+    /// A command that is read to its end, as it is too large, and why it will be refused.
+    read_away: Option<Box<(ReadAway, Oversized)>>,
     replies: Replies,
     is_readable: bool,
     /// Whether the client won't send more, so that a short read isn't the last one.
@@ -56,32 +61,43 @@ pub(super) struct Connection {
     stranger_since: Option<Box<Instant>>,
     /// Since when its next command waits.
     waits_since: Option<Instant>,
+    /// Whether its next command isn't looked at for now.
+    is_put_off: bool,
     /// Whether the thread will give it a turn.
     pub(super) is_queued: bool,
 }
 
 impl Connection {
-    pub(super) fn new(stream: Stream, session: Session) -> Connection {
-        let is_stranger = stream.is_handshaking() || !session.is_known;
+    pub(super) fn new(arrived: Arrived<Stream>, session: Session) -> Connection {
+        let Arrived { stream, since, .. } = arrived;
+        let is_readable = stream.may_have_come();
+        let is_stranger = !session.is_known;
         Connection {
             stream,
             session,
-            stranger_since: is_stranger.then(|| Box::new(Instant::now())),
+            stranger_since: is_stranger.then(|| Box::new(since)),
             input: Vec::new(),
             needs: 1,
+            read_away: None,
             replies: Replies::default(),
-            is_readable: false,
+            is_readable,
             is_half_closed: false,
             is_ended: false,
             is_last: false,
             owed_since: None,
             waits_since: None,
+            is_put_off: false,
             is_queued: false,
         }
     }
 
     pub(super) fn stream(&mut self) -> &mut Stream {
         &mut self.stream
+    }
+
+    /// Whether a turn is due before any event.
+    pub(super) fn is_readable(&self) -> bool {
+        self.is_readable
     }
 
     /// When it came, where it hasn't shown yet who it is.
@@ -91,8 +107,7 @@ impl Connection {
 
     /// Whether it has shown since this was asked last who it is.
     pub(super) fn becomes_known(&mut self) -> bool {
-        let is_known = self.session.is_known && !self.stream.is_handshaking();
-        is_known && self.stranger_since.take().is_some()
+        self.session.is_known && self.stranger_since.take().is_some()
     }
 
     /// Notes what happened at the socket, and returns whether a turn is due. While the next command waits or is owed an
@@ -108,9 +123,15 @@ impl Connection {
         is_due && !self.is_held()
     }
 
-    /// Whether the next command waits, or is owed an answer.
+    /// Whether the next command waits, or is put off or owed an answer.
     fn is_held(&self) -> bool {
-        self.owed_since.is_some() || self.waits_since.is_some()
+        self.owed_since.is_some() || self.waits_since.is_some() || self.is_put_off
+    }
+
+    /// Has the command be looked at that was put off.
+    pub(super) fn go_on(&mut self) {
+        self.is_put_off = false;
+        self.session.may_guess = true;
     }
 
     /// Takes the answer that was owed, and says for how long it was.
@@ -167,7 +188,7 @@ impl Connection {
         if self.is_last && self.is_sent() {
             return Ok(Turn::Over);
         }
-        if self.is_last || self.owed_since.is_some() || is_full {
+        if self.is_last || self.owed_since.is_some() || self.is_put_off || is_full {
             // A command that waited is tried again once the client has read more, of which the socket tells.
             self.waits_since = None;
             return Ok(Turn::Rest);
@@ -197,11 +218,10 @@ impl Connection {
         let waits_since = self.waits_since.take();
         self.needs = 1;
         match stop {
-            Stop::Incomplete(needs) if self.is_too_much(needs) => {
-                let bound = format!("a command has at most {MOST_OF_A_STRANGER} bytes");
-                self.replies
-                    .error(format!("{NOT_YET}: before AUTH {bound}"));
-                self.is_last = true;
+            Stop::Incomplete(needs) if self.is_too_much(needs) => self.end_of_stranger(),
+            Stop::Oversized(_) if !self.session.is_known => self.end_of_stranger(),
+            Stop::Oversized(why) => {
+                self.read_away = Some(Box::new((ReadAway::default(), why)));
                 Turn::Again
             }
             Stop::Incomplete(needs) => {
@@ -224,6 +244,10 @@ impl Connection {
                 self.owed_since = Some(Instant::now());
                 Turn::Durable(asked)
             }
+            Stop::PutOff(wait) => {
+                self.is_put_off = true;
+                Turn::PutOff(Instant::now() + wait)
+            }
             Stop::Wait(reason) => self.wait(reason, waits_since, executor, wait),
         }
     }
@@ -231,6 +255,15 @@ impl Connection {
     /// Whether a command of so many bytes is more than who gave no password yet may send.
     fn is_too_much(&self, needs: usize) -> bool {
         !self.session.is_known && needs.max(self.input.len()) > MOST_OF_A_STRANGER
+    }
+
+    /// Has the connection end whose client sends more than it may before it has shown who it is.
+    fn end_of_stranger(&mut self) -> Turn {
+        let bound = format!("a command has at most {MOST_OF_A_STRANGER} bytes");
+        self.replies
+            .error(format!("{NOT_YET}: before AUTH {bound}"));
+        self.is_last = true;
+        Turn::Again
     }
 
     /// Has the next command wait, or refuses it where it has waited for so long.
@@ -271,8 +304,31 @@ impl Connection {
         }
     }
 
+    /// Forgets what was read of a command that is too large, and refuses it at its end.
+    fn forget_oversized(&mut self, executor: &mut Executor) -> Option<Stop> {
+        let (away, why) = &mut **self.read_away.as_mut()?;
+        let (taken, why) = match away.take(&self.input) {
+            Ok(taken) => (taken, *why),
+            Err(fault) => {
+                self.replies.error(format_args!("ERR {fault}"));
+                return Some(Stop::End);
+            }
+        };
+        self.forget(taken.bytes);
+        if !taken.is_over {
+            return Some(Stop::Incomplete(self.input.len() + 1));
+        }
+        self.read_away = None;
+        executor.refuse_oversized(&mut self.session, why, &mut self.replies);
+        // What is behind it is looked at in another turn.
+        Some(Stop::Full)
+    }
+
     /// Does commands of what was read before.
     fn execute_input(&mut self, executor: &mut Executor) -> Stop {
+        if let Some(stop) = self.forget_oversized(executor) {
+            return stop;
+        }
         let (session, replies) = (&mut self.session, &mut self.replies);
         let (done, stop) = executor.run(session, &self.input, replies);
         self.forget(done);
@@ -297,7 +353,7 @@ impl Connection {
         let has_more = self.stream.may_have_more(count, buffer.len());
         self.is_readable = count > 0 && (has_more || self.is_half_closed);
         executor.admission().stats().received.add(count as u64);
-        if !self.input.is_empty() {
+        if !self.input.is_empty() || self.read_away.is_some() {
             self.input.extend_from_slice(&buffer[..count]);
             return Ok(match self.input.len() >= self.needs {
                 true => self.execute_input(executor),
@@ -353,8 +409,13 @@ mod tests {
     fn a_refused_command_leaves_no_room() {
         let listener = TcpListener::bind("127.0.0.1:0").unwrap();
         let socket = TcpStream::connect(listener.local_addr().unwrap()).unwrap();
-        let stream = Stream::new(socket, None).unwrap();
-        let mut connection = Connection::new(stream, Session::new(1, true));
+        let arrived = Arrived {
+            stream: Stream::Plain(socket),
+            from: listener.local_addr().unwrap(),
+            since: Instant::now(),
+            id: 1,
+        };
+        let mut connection = Connection::new(arrived, Session::new(1, true));
         connection.input = format!("SET a {}\r\n", "b".repeat(60_000)).into();
         connection.refuse(Wait::Paused(0), &mut executor());
         assert!(connection.replies.unsent().starts_with(b"-SHARDPAUSED"));

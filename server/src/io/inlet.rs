@@ -1,13 +1,27 @@
-use crate::stats::{ErrorCounts, Stats};
+use super::arrived::Arrived;
+use super::door::Door;
+use super::strangers::{Strangers, Whereabouts};
+use super::stream::Stream;
+use crate::stats::Stats;
 use mio::net::TcpStream;
 use mio::{Poll, Token, Waker};
+use std::collections::VecDeque;
 use std::fmt;
 use std::io;
+use std::net::SocketAddr;
 use std::sync::atomic::{AtomicU64, AtomicUsize, Ordering};
-use std::sync::{Arc, Mutex, PoisonError};
+use std::sync::{Arc, Mutex, MutexGuard, OnceLock, PoisonError};
+use std::time::Instant;
 
 /// The token of what wakes a thread.
 pub(super) const WAKE: Token = Token(usize::MAX);
+
+/// Of strangers that a thread may have, one of so many may be brought before it looks, and no more than these.
+const WAITING: usize = 4;
+const MOST_WAITING: usize = 256;
+
+/// The number of the last connection.
+static LAST_ID: AtomicU64 = AtomicU64::new(0);
 
 /// What reaches a thread from others.
 pub struct Inlet {
@@ -15,19 +29,28 @@ pub struct Inlet {
     waker: Waker,
     stats: Arc<Stats>,
     version: AtomicU64,
+    /// How many connections the thread has whose clients haven't shown who they are, wherever they are.
     strangers: AtomicUsize,
+    /// Those of them that were met.
+    met: Mutex<Strangers>,
+    /// How many strangers the thread may have, where clients have to show who they are.
+    most_strangers: Option<usize>,
+    /// Where connections wait for their handshakes, if clients speak TLS.
+    door: OnceLock<Door>,
 }
 
 /// What others brought since the thread looked last.
 #[derive(Debug, Default)]
 pub(super) struct Brought {
-    pub(super) streams: Vec<TcpStream>,
+    pub(super) streams: VecDeque<Arrived<Stream>>,
+    /// Strangers that have to give way, by their places and the numbers of their connections.
+    pub(super) leaving: Vec<(usize, u64)>,
     pub(super) answers: Vec<Delivery>,
 }
 
 impl Brought {
     fn is_empty(&self) -> bool {
-        self.streams.is_empty() && self.answers.is_empty()
+        self.streams.is_empty() && self.leaving.is_empty() && self.answers.is_empty()
     }
 }
 
@@ -50,21 +73,146 @@ impl Inlet {
             stats: Arc::new(Stats::new(servers)),
             version: AtomicU64::new(0),
             strangers: AtomicUsize::new(0),
+            met: Mutex::default(),
+            most_strangers: None,
+            door: OnceLock::new(),
         })
     }
 
-    /// Has the thread own a connection, of a stranger as yet.
-    pub fn bring(&self, stream: TcpStream) {
+    /// The same where the thread has no more strangers than these, if there is a bound.
+    pub fn with_most_strangers(self, most_strangers: Option<usize>) -> Inlet {
+        Inlet {
+            most_strangers,
+            ..self
+        }
+    }
+
+    /// How many of them may be brought before they are met.
+    fn most_waiting(&self) -> Option<usize> {
+        let most = self.most_strangers?;
+        Some((most / WAITING).clamp(1, MOST_WAITING))
+    }
+
+    /// How many of them it may have met, if there is a bound. If another thread meets them, as many as may wait may
+    /// also have given way and not be closed yet.
+    fn most_met(&self) -> Option<usize> {
+        let threads = 1 + usize::from(self.has_door());
+        let kept = threads * self.most_waiting()?;
+        Some(self.most_strangers?.saturating_sub(kept).max(1))
+    }
+
+    /// Has the thread own a connection from there, of a stranger as yet. If clients speak TLS, the handshake comes
+    /// first. Returns the one that gives way to it, if too many wait; none before a handshake, as nothing can be told
+    /// it then.
+    pub(super) fn bring(&self, socket: TcpStream, from: SocketAddr) -> Option<Stream> {
         self.stats.open.note_more();
         self.strangers.fetch_add(1, Ordering::Relaxed);
-        self.change(|it| it.streams.push(stream));
+        let newcomer = Arrived {
+            stream: socket,
+            from,
+            since: Instant::now(),
+            id: LAST_ID.fetch_add(1, Ordering::Relaxed) + 1,
+        };
+        let most = self.most_waiting();
+        let first = match self.door.get() {
+            Some(door) => door.bring(newcomer, most).map(|it| it.by(|_| None)),
+            None => {
+                let newcomer = newcomer.by(Stream::Plain);
+                let first = self.change(|it| newcomer.wait_in(&mut it.streams, most));
+                first.map(|it| it.by(Some))
+            }
+        }?;
+        self.note_lost(first.id);
+        first.stream
+    }
+
+    /// Has connections wait for the thread that does their handshakes, which this wakes.
+    pub(super) fn set_door(&self, waker: Waker) {
+        // It is set once, before the first connection.
+        let _ = self.door.set(Door::new(waker));
+    }
+
+    /// Whether another thread does handshakes for this one, and meets its strangers.
+    pub(super) fn has_door(&self) -> bool {
+        self.door.get().is_some()
+    }
+
+    /// How many connections wait for their handshakes.
+    pub(super) fn newcomers(&self) -> usize {
+        self.door.get().map_or(0, Door::len)
+    }
+
+    /// Takes the connection that has waited for its handshake for longest. Returns none, too, as long as the thread has
+    /// yet to close so many that gave way that this one could be beyond the bound.
+    pub(super) fn take_newcomer(&self) -> Option<Arrived<TcpStream>> {
+        match self.is_leaving_full(self.met().leaving()) {
+            true => None,
+            false => self.door.get()?.take(),
+        }
+    }
+
+    /// Whether no more strangers may give way before some of so many are closed.
+    fn is_leaving_full(&self, leaving: usize) -> bool {
+        self.most_waiting().is_some_and(|most| leaving >= most)
+    }
+
+    /// Has the thread own a connection whose handshake is over.
+    pub(super) fn hand_on(&self, arrived: Arrived<Stream>) {
+        self.met().note_moved(arrived.id, Whereabouts::Between);
+        self.change(|it| it.streams.push_back(arrived));
+    }
+
+    /// Notes that no more connections are handed on. Whoever sees this also sees those that were.
+    pub(super) fn close_door(&self) {
+        self.door.get().iter().for_each(|it| it.close());
+    }
+
+    /// Whether connections may still be handed on after their handshakes.
+    pub(super) fn has_open_door(&self) -> bool {
+        self.door.get().is_some_and(Door::is_open)
+    }
+
+    /// Notes that a stranger was met there.
+    pub(super) fn note_met(&self, id: u64, at: Whereabouts) {
+        self.met().add(id, at);
+    }
+
+    /// Notes that one that was met is there now. Returns whether it may stay: false if it gave way meanwhile.
+    pub(super) fn note_moved(&self, id: u64, at: Whereabouts) -> bool {
+        self.met().note_moved(id, at)
+    }
+
+    /// Has the stranger that came first of those that were met give way, if one more would be too many. Returns which
+    /// it is; who has it has to close it.
+    pub(super) fn give_way(&self) -> Option<(u64, Whereabouts)> {
+        self.met().give_way(self.most_met()?)
+    }
+
+    /// Has the thread close the connection of a stranger that gave way.
+    pub(super) fn have_closed(&self, place: usize, id: u64) {
+        self.change(|it| it.leaving.push((place, id)));
+    }
+
+    /// The places of strangers' connections, in the order in which they came.
+    pub(super) fn places_of_strangers(&self) -> Vec<usize> {
+        self.met().connections()
+    }
+
+    /// How many connections the thread has whose clients have shown who they are, or needn't.
+    pub fn known(&self) -> usize {
+        let open = self.stats.open.get() as usize;
+        open.saturating_sub(self.strangers())
     }
 
     /// Has the thread look at what others brought or changed.
     pub fn wake(&self) {
-        if let Err(error) = self.waker.wake() {
-            tracing::error!(%error, "a thread can't be woken");
-        }
+        wake(&self.waker);
+    }
+
+    /// The same at a stop, which the thread that does its handshakes must see too.
+    pub fn wake_for_stop(&self) {
+        self.door.get().iter().for_each(|it| it.wake());
+        self.wake();
     }
 
     /// How many connections the thread has whose clients haven't shown who they are.
@@ -73,8 +221,24 @@ impl Inlet {
     }
 
     /// Notes that a stranger has shown that, or went.
-    pub(super) fn note_stranger_less(&self) {
+    pub(super) fn note_stranger_less(&self, id: u64) {
         self.strangers.fetch_sub(1, Ordering::Relaxed);
+        let mut met = self.met();
+        let was_full = self.is_leaving_full(met.leaving());
+        met.remove(id);
+        if was_full && !self.is_leaving_full(met.leaving()) {
+            self.door.get().iter().for_each(|it| it.wake());
+        }
+    }
+
+    /// Notes that a stranger's connection is closed.
+    pub(super) fn note_lost(&self, id: u64) {
+        self.note_stranger_less(id);
+        self.stats.open.note_less();
+    }
+
+    fn met(&self) -> MutexGuard<'_, Strangers> {
+        self.met.lock().unwrap_or_else(PoisonError::into_inner)
     }
 
     /// What the thread counts.
@@ -104,15 +268,23 @@ impl Inlet {
         brought.is_empty()
     }
 
-    fn change(&self, change: impl FnOnce(&mut Brought)) {
+    /// Changes what others brought, and wakes the thread if it hasn't been woken for that yet.
+    pub(super) fn change<T>(&self, change: impl FnOnce(&mut Brought) -> T) -> T {
         let mut brought = self.brought.lock().unwrap_or_else(PoisonError::into_inner);
         // Where something lies there already, the thread was woken for that, and hasn't looked yet.
         let is_first = brought.is_empty();
-        change(&mut brought);
+        let found = change(&mut brought);
         drop(brought);
         if is_first {
             self.wake();
         }
+        found
+    }
+}
+
+pub(super) fn wake(waker: &Waker) {
+    if let Err(error) = waker.wake() {
+        tracing::error!(%error, "a thread can't be woken");
     }
 }
 
@@ -124,92 +296,36 @@ impl fmt::Debug for Inlet {
     }
 }
 
-/// Where an answer goes, once.
-pub struct ReplyTo(To);
+#[cfg(test)]
+mod tests {
+    use super::*;
+    use std::net::{TcpListener, TcpStream as Client};
 
-enum To {
-    /// To a connection of a thread.
-    Connection {
-        inlet: Arc<Inlet>,
-        place: usize,
-        id: u64,
-    },
-    /// To another process.
-    Process(Box<dyn FnOnce(Vec<u8>) + Send>),
-    /// To another process, which asks elsewhere where nothing is done.
-    Asking(Box<dyn FnOnce(Option<Vec<u8>>) + Send>),
-}
-
-impl ReplyTo {
-    /// To the connection with this number, at this place of the thread.
-    pub(super) fn connection(inlet: Arc<Inlet>, place: usize, id: u64) -> ReplyTo {
-        ReplyTo(To::Connection { inlet, place, id })
-    }
-
-    /// To another process, by who is given the answer.
-    pub fn process(tell: impl FnOnce(Vec<u8>) + Send + 'static) -> ReplyTo {
-        ReplyTo(To::Process(Box::new(tell)))
-    }
-
-    /// To another process, by who is given the answer, or none where nothing was done: then it asks elsewhere.
-    pub fn asking_process(tell: impl FnOnce(Option<Vec<u8>>) + Send + 'static) -> ReplyTo {
-        ReplyTo(To::Asking(Box::new(tell)))
-    }
-
-    /// Whether another process asked, which asks elsewhere where nothing is done.
-    pub fn asks_elsewhere(&self) -> bool {
-        matches!(self.0, To::Asking(_))
-    }
-
-    /// Tells a process that asks elsewhere then that nothing was done.
-    ///
-    /// # Errors
-    ///
-    /// It itself, where no such process asked.
-    pub fn give_back(self) -> Result<(), ReplyTo> {
-        match self.0 {
-            To::Asking(tell) => {
-                tell(None);
-                Ok(())
+    #[test]
+    fn strangers_are_bounded_wherever_they_are() {
+        let polls = [Poll::new().unwrap(), Poll::new().unwrap()];
+        let inlet = Inlet::new(&polls[0], 1).unwrap();
+        let inlet = inlet.with_most_strangers(Some(8));
+        inlet.set_door(Waker::new(polls[1].registry(), WAKE).unwrap());
+        let listener = TcpListener::bind("127.0.0.1:0").unwrap();
+        let (mut clients, mut gone) = (Vec::new(), Vec::new());
+        for place in 0..50 {
+            clients.push(Client::connect(listener.local_addr().unwrap()).unwrap());
+            let (socket, from) = listener.accept().unwrap();
+            // Before its handshake nobody is told anything.
+            assert!(inlet.bring(TcpStream::from_std(socket), from).is_none());
+            if let Some(newcomer) = inlet.take_newcomer() {
+                gone.extend(inlet.give_way());
+                inlet.note_met(newcomer.id, Whereabouts::Connection(place));
             }
-            other => Err(ReplyTo(other)),
+            assert!(inlet.strangers() <= 8);
         }
-    }
-
-    /// Counts the errors of an answer.
-    pub fn note_errors(&self, errors: ErrorCounts) {
-        if let To::Connection { inlet, .. } = &self.0 {
-            inlet.stats.note_errors(errors);
-        }
-    }
-
-    /// Sends the answer.
-    pub fn send(self, bytes: Vec<u8>) {
-        self.send_of(bytes, 0);
-    }
-
-    /// Sends the answer to so many commands that weren't counted yet.
-    pub fn send_of(self, bytes: Vec<u8>, commands: u64) {
-        match self.0 {
-            To::Connection { inlet, place, id } => inlet.change(|it| {
-                it.answers.push(Delivery {
-                    place,
-                    id,
-                    bytes,
-                    commands,
-                });
-            }),
-            To::Process(tell) => tell(bytes),
-            To::Asking(tell) => tell(Some(bytes)),
-        }
-    }
-}
-
-impl fmt::Debug for ReplyTo {
-    fn fmt(&self, f: &mut fmt::Formatter<'_>) -> fmt::Result {
-        match &self.0 {
-            To::Connection { place, id, .. } => write!(f, "ReplyTo({place}, {id})"),
-            To::Process(_) | To::Asking(_) => f.write_str("ReplyTo(process)"),
-        }
+        // Those that gave way hold places, as the thread hasn't closed them.
+        assert_eq!(gone.len(), 2);
+        assert_eq!(inlet.met().connections(), [2, 3, 4, 5]);
+        assert_eq!((inlet.newcomers(), inlet.strangers()), (2, 8));
+        assert!(inlet.take_newcomer().is_none());
+        inlet.note_lost(gone[0].0);
+        assert!(inlet.take_newcomer().is_some());
     }
 }

@@ -1,12 +1,19 @@
 //! Threads that own connections, and do at the board what these ask for.
 mod acceptor;
+mod arrived;
 mod busy_poll;
 mod connection;
+mod door;
+mod handshaker;
 mod inlet;
+mod reply_to;
+mod strangers;
 mod stream;
 mod tls_stream;
 mod worker;
 
 pub use acceptor::Acceptor;
-pub use inlet::{Inlet, ReplyTo};
+pub use handshaker::Handshaker;
+pub use inlet::Inlet;
+pub use reply_to::ReplyTo;
 pub use worker::Worker;

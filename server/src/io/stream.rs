@@ -1,7 +1,9 @@
 use super::tls_stream::TlsStream;
-use crate::tls::ClientsTls;
 use mio::net::TcpStream;
 use std::io::{self, Read, Write};
+
+/// What a client is told for which there is no place, as by Redis.
+const FULL: &[u8] = b"-ERR max number of clients reached\r\n";
 
 /// What a client's bytes go through.
 #[derive(Debug)]
@@ -11,14 +13,6 @@ pub(super) enum Stream {
 }
 
 impl Stream {
-    /// That of a socket, by TLS where that is how clients are met.
-    pub(super) fn new(socket: TcpStream, tls: Option<&ClientsTls>) -> io::Result<Stream> {
-        Ok(match tls {
-            None => Stream::Plain(socket),
-            Some(tls) => Stream::Tls(Box::new(TlsStream::new(socket, tls)?)),
-        })
-    }
-
     pub(super) fn socket(&mut self) -> &mut TcpStream {
         match self {
             Stream::Plain(socket) => socket,
@@ -26,9 +20,14 @@ impl Stream {
         }
     }
 
-    /// Whether the client has yet to show who it is before anything of it can be read.
-    pub(super) fn is_handshaking(&self) -> bool {
-        matches!(self, Stream::Tls(tls) if tls.is_handshaking())
+    /// Says that there is no place. Whether the client reads that or not, it is let go.
+    pub(super) fn refuse(&mut self) {
+        let _ = self.write(FULL);
+    }
+
+    /// Whether bytes may have come for which there will be no event, because they came with the handshake.
+    pub(super) fn may_have_come(&self) -> bool {
+        matches!(self, Stream::Tls(_))
     }
 
     /// Whether bytes that were written wait for the socket.

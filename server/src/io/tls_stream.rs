@@ -1,85 +1,119 @@
-use crate::tls::ClientsTls;
+use crate::tls::Connection;
 use mio::net::TcpStream;
-use rustls::ServerConnection;
+use std::cell::RefCell;
 use std::io::{self, ErrorKind, Read, Write};
 
-/// How many bytes may wait for a client that goes on to send, and takes nothing.
-const MOST_UNSENT: usize = 256 << 10;
+/// How many bytes are read from the socket at once.
+const ROOM: usize = 32 << 10;
+/// How often one read may read the socket, so that a client that sends parts of records holds up nobody.
+const MOST_READS: usize = 8;
+/// How many bytes of records may wait for the socket.
+const MOST_SEALED: usize = 64 << 10;
+
+thread_local! {
+    /// The buffer into which a thread reads its sockets.
+    static CAME: RefCell<Box<[u8]>> = RefCell::new(vec![0; ROOM].into());
+}
 
 /// A client's bytes by TLS, over a socket that never waits.
 #[derive(Debug)]
 pub(super) struct TlsStream {
     socket: TcpStream,
-    connection: ServerConnection,
+    connection: Connection,
     /// Whether the last read of the socket left nothing there.
     is_drained: bool,
 }
 
-/// A socket that notes whether a read took all that was there.
-struct Noted<'a> {
-    socket: &'a mut TcpStream,
-    is_drained: &'a mut bool,
-}
-
-impl Read for Noted<'_> {
-    fn read(&mut self, buffer: &mut [u8]) -> io::Result<usize> {
-        let count = self.socket.read(buffer);
-        *self.is_drained = matches!(count, Ok(count) if count < buffer.len());
-        count
-    }
-}
-
 impl TlsStream {
-    pub(super) fn new(socket: TcpStream, tls: &ClientsTls) -> io::Result<TlsStream> {
-        Ok(TlsStream {
+    /// A connection before its handshake.
+    pub(super) fn new(socket: TcpStream, connection: Connection) -> TlsStream {
+        TlsStream {
             socket,
-            connection: tls.connection().map_err(io::Error::other)?,
+            connection,
             is_drained: false,
-        })
+        }
     }
 
     pub(super) fn socket(&mut self) -> &mut TcpStream {
         &mut self.socket
     }
 
-    pub(super) fn is_handshaking(&self) -> bool {
-        self.connection.is_handshaking()
+    /// Continues the handshake with the bytes that are there, and returns whether it is over. The bytes of a handshake
+    /// are bounded, so this ends however quickly they come.
+    pub(super) fn shake(&mut self) -> io::Result<bool> {
+        loop {
+            let shaken = self.connection.shake();
+            // If the handshake fails, this tells the client why.
+            let sent = self.flush();
+            let is_over = shaken?;
+            sent?;
+            if is_over {
+                return Ok(true);
+            }
+            match self.take() {
+                Ok(0) => return Err(ErrorKind::UnexpectedEof.into()),
+                Ok(_) => {}
+                Err(error) if error.kind() == ErrorKind::WouldBlock => return Ok(false),
+                Err(error) => return Err(error),
+            }
+        }
     }
 
     pub(super) fn has_unsent(&self) -> bool {
-        self.connection.wants_write()
+        !self.connection.unsent().is_empty()
     }
 
     pub(super) fn may_have_more(&self) -> bool {
-        !self.is_drained
+        !self.is_drained || self.connection.has_input()
     }
 
     /// Reads what is there; 0 is the end, told or not: a command says how long it is, so none can be cut short.
     pub(super) fn read(&mut self, buffer: &mut [u8]) -> io::Result<usize> {
-        loop {
-            match self.connection.reader().read(buffer) {
-                Err(error) if error.kind() == ErrorKind::WouldBlock => {}
+        for _ in 0..MOST_READS {
+            match self.open(buffer) {
+                Ok(count) => return Ok(count),
                 Err(error) if error.kind() == ErrorKind::UnexpectedEof => return Ok(0),
-                taken => return taken,
+                Err(error) if error.kind() != ErrorKind::WouldBlock => {
+                    // This tells the client why, if its socket has room.
+                    let _ = self.flush();
+                    return Err(error);
+                }
+                Err(_) => drop(self.take()?),
             }
-            let (socket, is_drained) = (&mut self.socket, &mut self.is_drained);
-            self.connection
-                .read_tls(&mut Noted { socket, is_drained })?;
-            self.unseal()?;
         }
+        // The next turn continues.
+        Err(ErrorKind::Interrupted.into())
     }
 
-    /// Makes what came readable.
-    fn unseal(&mut self) -> io::Result<()> {
-        match self.connection.process_new_packets() {
-            Ok(state) if state.tls_bytes_to_write() <= MOST_UNSENT => Ok(()),
-            Ok(_) => Err(io::Error::other("the client takes nothing")),
-            Err(error) => {
-                // The client is told why, where its socket takes that.
-                let _ = self.flush();
-                Err(io::Error::new(ErrorKind::InvalidData, error))
-            }
+    /// Opens what came, up to the first record that had records without data before it.
+    fn open(&mut self, buffer: &mut [u8]) -> io::Result<usize> {
+        let mut count = self.connection.open(buffer)?;
+        let mut is_last = count == 0;
+        while count < buffer.len() && !is_last && !self.connection.was_in_vain() {
+            // If this fails or is the end, so does the next read.
+            let more = self.connection.open(&mut buffer[count..]).unwrap_or(0);
+            is_last = more == 0;
+            count += more;
         }
+        Ok(count)
+    }
+
+    /// Reads bytes from the socket, and returns how many; 0 is its end.
+    fn take(&mut self) -> io::Result<usize> {
+        CAME.with_borrow_mut(|room| {
+            let count = loop {
+                match self.socket.read(room) {
+                    Err(error) if error.kind() == ErrorKind::Interrupted => {}
+                    taken => break taken?,
+                }
+            };
+            self.is_drained = count < room.len();
+            match count {
+                0 => self.connection.note_end(),
+                _ => self.connection.feed(&room[..count]),
+            }
+            Ok(count)
+        })
     }
 
     /// Takes bytes to send, where none wait.
@@ -88,16 +122,19 @@ impl TlsStream {
         if self.has_unsent() {
             return Err(ErrorKind::WouldBlock.into());
         }
-        let count = self.connection.writer().write(bytes)?;
+        let mut count = 0;
+        while count < bytes.len() && self.connection.unsent().len() < MOST_SEALED {
+            count += self.connection.seal(&bytes[count..])?;
+        }
         self.flush().map(|()| count)
     }
 
     /// Gives the socket what it takes.
     pub(super) fn flush(&mut self) -> io::Result<()> {
-        while self.connection.wants_write() {
-            match self.connection.write_tls(&mut self.socket) {
+        while self.has_unsent() {
+            match self.socket.write(self.connection.unsent()) {
                 Ok(0) => return Err(ErrorKind::WriteZero.into()),
-                Ok(_) => {}
+                Ok(count) => self.connection.note_sent(count),
                 Err(error) if error.kind() == ErrorKind::WouldBlock => break,
                 Err(error) if error.kind() == ErrorKind::Interrupted => {}
                 Err(error) => return Err(error),
@@ -110,7 +147,7 @@ impl TlsStream {
 impl Drop for TlsStream {
     fn drop(&mut self) {
         // The end is told, where the socket takes that.
-        self.connection.send_close_notify();
+        self.connection.close();
         let _ = self.flush();
     }
 }

@@ -1,18 +1,21 @@
+use super::arrived::Arrived;
 use super::busy_poll::BusyPoll;
 use super::connection::{Connection, Turn};
-use super::inlet::{Brought, Inlet, ReplyTo, WAKE};
+use super::inlet::{Brought, Inlet, WAKE};
+use super::reply_to::ReplyTo;
+use super::strangers::Whereabouts;
 use super::stream::Stream;
 use crate::cluster::Cluster;
-use crate::command::{Asked as AskedOfShards, Executor, Session};
+use crate::command::{is_of_all, Asked as AskedOfShards, Executor, Session};
 use crate::control::Asked;
 use crate::keep_alive;
 use crate::resp::OwnedCommand;
 use crate::wait::Wait;
-use mio::net::TcpStream;
 use mio::{Events, Interest, Poll, Token};
 use slab::Slab;
+use std::cmp::Reverse;
+use std::collections::BinaryHeap;
 use std::io::{self, ErrorKind};
-use std::sync::atomic::{AtomicU64, Ordering};
 use std::sync::mpsc::Sender;
 use std::sync::Arc;
 use std::time::{Duration, Instant};
@@ -27,9 +30,6 @@ const TICK: Duration = Duration::from_millis(5);
 /// How often connections are looked through for those who took too long to show who they are.
 const SWEEP: Duration = Duration::from_millis(500);
 
-/// The number of the last connection.
-static LAST_ID: AtomicU64 = AtomicU64::new(0);
-
 /// A thread that owns connections.
 #[derive(Debug)]
 pub struct Worker {
@@ -43,6 +43,8 @@ pub struct Worker {
     queue: Vec<usize>,
     /// Connections whose next command waits for a shard that nobody executes.
     waiting: Vec<usize>,
+    /// Connections whose next command isn't looked at until then, each with its number.
+    put_off: BinaryHeap<Reverse<(Instant, usize, u64)>>,
     /// Whether all that is queued waits for shards that other threads have.
     is_racing: bool,
     changes: u64,
@@ -71,6 +73,7 @@ impl Worker {
             connections: Slab::new(),
             queue: Vec::new(),
             waiting: Vec::new(),
+            put_off: BinaryHeap::new(),
             is_racing: false,
             changes: 0,
             busy_poll,
@@ -92,6 +95,7 @@ impl Worker {
             }
             self.refresh()?;
             self.close_strangers();
+            self.look_at_put_off();
             self.look_at_waiting();
             self.run_queue();
             if end.is_none() && self.cluster.is_stopping() {
@@ -119,11 +123,18 @@ impl Worker {
             polled?;
         }
         if events.is_empty() {
-            let timeout = (self.inlet.strangers() > 0).then_some(SWEEP);
-            self.look(events, timeout)?;
+            self.look(events, self.timeout())?;
         }
         self.busy_poll.note(since.elapsed());
         Ok(())
+    }
+
+    /// How long nothing is due, if anything will be.
+    fn timeout(&self) -> Option<Duration> {
+        let sweep = (self.inlet.strangers() > 0).then_some(SWEEP);
+        let put_off = self.put_off.peek().map(|it| it.0 .0);
+        let put_off = put_off.map(|it| it.saturating_duration_since(Instant::now()));
+        sweep.into_iter().chain(put_off).min()
     }
 
     /// Takes events as soon as they are there, without sleeping, for a short time.
@@ -156,12 +167,23 @@ impl Worker {
     }
 
     fn take_brought(&mut self) {
-        let Brought { streams, answers } = self.inlet.take();
-        for stream in streams {
-            if let Err(error) = self.open(stream) {
-                self.inlet.note_stranger_less();
-                self.inlet.stats().open.note_less();
+        let Brought {
+            streams,
+            leaving,
+            answers,
+        } = self.inlet.take();
+        for arrived in streams {
+            let id = arrived.id;
+            if let Err(error) = self.open(arrived) {
+                self.inlet.note_lost(id);
                 tracing::warn!(%error, "a connection isn't served");
+            }
+        }
+        for (place, id) in leaving {
+            let connection = self.connections.get(place);
+            let is_it = |it: &&Connection| it.session.id == id && it.stranger_since().is_some();
+            if connection.filter(is_it).is_some() {
+                self.refuse(place);
             }
         }
         for answer in answers {
@@ -178,25 +200,64 @@ impl Worker {
         }
     }
 
-    fn open(&mut self, socket: TcpStream) -> io::Result<()> {
+    fn open(&mut self, mut arrived: Arrived<Stream>) -> io::Result<()> {
+        let socket = arrived.stream.socket();
         socket.set_nodelay(true)?;
-        keep_alive::of_client(&socket)?;
-        let safety = &self.cluster.configuration.safety;
-        let mut stream = Stream::new(socket, safety.tls.as_ref())?;
-        let entry = self.connections.vacant_entry();
+        keep_alive::of_client(socket)?;
+        let (id, from) = (arrived.id, arrived.from);
+        let Some(place) = self.place_of(id) else {
+            arrived.stream.refuse();
+            self.inlet.note_lost(id);
+            return Ok(());
+        };
         let interest = Interest::READABLE | Interest::WRITABLE;
-        let token = Token(entry.key());
-        self.poll
-            .registry()
-            .register(stream.socket(), token, interest)?;
-        let id = LAST_ID.fetch_add(1, Ordering::Relaxed) + 1;
-        let connection = Connection::new(stream, Session::of(id, safety));
-        if connection.stranger_since().is_none() {
-            self.inlet.note_stranger_less();
-        }
-        entry.insert(connection);
+        let registry = self.poll.registry();
+        registry.register(arrived.stream.socket(), Token(place), interest)?;
+        let safety = &self.cluster.configuration.safety;
+        let connection = Connection::new(arrived, Session::of(id, from, safety));
+        let is_known = connection.stranger_since().is_none();
+        let is_readable = connection.is_readable();
+        self.connections.insert(connection);
         self.inlet.stats().accepted.add(1);
+        if is_known {
+            self.inlet.note_stranger_less(id);
+        }
+        if is_known && self.has_too_many() {
+            self.refuse(place);
+        } else if is_readable {
+            self.enqueue(place);
+        }
         Ok(())
+    }
+
+    /// The place for the connection of a stranger that came, unless it had to give way on its way here.
+    fn place_of(&mut self, id: u64) -> Option<usize> {
+        if self.inlet.has_door() {
+            let place = self.connections.vacant_entry().key();
+            let may_stay = self.inlet.note_moved(id, Whereabouts::Connection(place));
+            return may_stay.then_some(place);
+        }
+        self.make_room();
+        let place = self.connections.vacant_entry().key();
+        self.inlet.note_met(id, Whereabouts::Connection(place));
+        Some(place)
+    }
+
+    /// Has the strangers that came first give way to one more, so that nobody keeps others out by many that say
+    /// nothing: who shows at once who it is has done so before so many others have come.
+    fn make_room(&mut self) {
+        while let Some((_, at)) = self.inlet.give_way() {
+            match at {
+                Whereabouts::Connection(place) => self.refuse(place),
+                // These are strangers that another thread meets.
+                Whereabouts::Handshake(_) | Whereabouts::Between => {}
+            }
+        }
+    }
+
+    /// Whether clients that have shown who they are have more places than there are.
+    fn has_too_many(&self) -> bool {
+        self.cluster.known_clients() > self.cluster.configuration.most_clients
     }
 
     /// Closes from time to time the connections of those who took too long to show who they are.
@@ -206,10 +267,27 @@ impl Worker {
         }
         self.swept = Instant::now();
         let most = self.cluster.configuration.safety.login_time;
-        let is_late = |it: &Connection| it.stranger_since().is_some_and(|it| it.elapsed() >= most);
-        let late = self.connections.iter().filter(|it| is_late(it.1));
-        for place in late.map(|it| it.0).collect::<Vec<_>>() {
-            self.close(place);
+        for place in self.inlet.places_of_strangers() {
+            let connection = self.connections.get(place);
+            let since = connection.and_then(Connection::stranger_since);
+            if since.is_some_and(|it| it.elapsed() >= most) {
+                self.close(place);
+            }
+        }
+    }
+
+    /// Has the connections go on whose next command was put off for long enough.
+    fn look_at_put_off(&mut self) {
+        let now = Instant::now();
+        while self.put_off.peek().is_some_and(|it| it.0 .0 <= now) {
+            let Some(Reverse((_, place, id))) = self.put_off.pop() else {
+                return;
+            };
+            let connection = self.connections.get_mut(place);
+            if let Some(connection) = connection.filter(|it| it.session.id == id) {
+                connection.go_on();
+                self.enqueue(place);
+            }
         }
     }
 
@@ -270,6 +348,11 @@ impl Worker {
                     self.is_racing = false;
                     self.enqueue(place);
                 }
+                Turn::PutOff(until) => {
+                    self.is_racing = false;
+                    let id = self.connections[place].session.id;
+                    self.put_off.push(Reverse((until, place, id)));
+                }
                 Turn::Wait(Wait::Busy(_)) => self.enqueue(place),
                 Turn::Wait(_) => self.waiting.push(place),
                 Turn::Control(command) => {
@@ -303,13 +386,18 @@ impl Worker {
         if done > 0 {
             stats.latency.note(since.unwrap_or(began).elapsed(), done);
         }
-        if connection.becomes_known() {
-            self.inlet.note_stranger_less();
+        let becomes_known = connection.becomes_known();
+        if becomes_known {
+            self.inlet.note_stranger_less(connection.session.id);
         }
         if let Some(errors) = connection.take_errors() {
             stats.note_errors(errors);
         }
-        turn
+        // Who had to show first who it is finds only now that others have all places.
+        match becomes_known && self.has_too_many() {
+            true => Turn::Over,
+            false => turn,
+        }
     }
 
     /// Where what is owed to the connection there goes.
@@ -326,7 +414,13 @@ impl Worker {
     }
 
     fn ask(&mut self, place: usize, command: OwnedCommand) {
-        let reply_to = self.reply_to(place);
+        let mut reply_to = self.reply_to(place);
+        if !is_of_all(command.command()) {
+            let (asked, session) = (command.shown(), &self.connections[place].session);
+            let (from, role) = (session.address, session.role.name());
+            tracing::info!(asked, %from, role, "a client asks the control");
+            reply_to = reply_to.logged(asked);
+        }
         if let Err(error) = self.control.send(Asked { command, reply_to }) {
             // The control ends after all threads that ask it, or by a fault of its own.
             tracing::error!(%error, "the control is gone");
@@ -334,10 +428,16 @@ impl Worker {
         }
     }
 
+    /// Closes the connection there, and says that there is no place for it.
+    fn refuse(&mut self, place: usize) {
+        self.connections[place].stream().refuse();
+        self.close(place);
+    }
+
     fn close(&mut self, place: usize) {
         let mut connection = self.connections.remove(place);
         if connection.stranger_since().is_some() {
-            self.inlet.note_stranger_less();
+            self.inlet.note_stranger_less(connection.session.id);
         }
         // The drop closes it, by which it is deregistered too.
         let socket = connection.stream().socket();
@@ -348,7 +448,8 @@ impl Worker {
     /// Whether nothing is under way, and others brought nothing and won't bring connections.
     fn is_quiet(&self) -> bool {
         // What was brought before they ended is seen behind that.
-        let is_idle = !self.cluster.is_accepting() && self.inlet.is_empty();
+        let is_coming = self.cluster.is_accepting() || self.inlet.has_open_door();
+        let is_idle = !is_coming && self.inlet.is_empty();
         let is_idle = is_idle && self.queue.is_empty();
         is_idle && self.connections.iter().all(|it| it.1.is_quiet())
     }
@@ -361,6 +462,7 @@ mod tests {
     use crate::body::Memory;
     use crate::cluster::Configuration;
     use crate::keyspace::{Keyspace, Rule};
+    use mio::net::TcpStream;
     use std::io::{Read, Write};
     use std::net::{TcpListener, TcpStream as Client};
     use std::sync::mpsc::channel;
@@ -405,11 +507,11 @@ mod tests {
             let client = Client::connect(address).unwrap();
             let timeout = Some(Duration::from_secs(20));
             client.set_read_timeout(timeout).unwrap();
-            let (stream, _) = listener.accept().unwrap();
+            let (stream, from) = listener.accept().unwrap();
             stream.set_nonblocking(true).unwrap();
             let same = TcpSocket::from_std_stream(stream.try_clone().unwrap());
             same.set_send_buffer_size(SOCKET_ROOM).unwrap();
-            inlet.bring(TcpStream::from_std(stream));
+            assert!(inlet.bring(TcpStream::from_std(stream), from).is_none());
             client
         };
         (0..count).map(client).collect()

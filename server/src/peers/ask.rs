@@ -1,5 +1,7 @@
 use super::frame::{Frame, Told};
 use super::handed::{written, Handed};
+use super::older;
+use crate::command::{FIRST_TABLE, TABLE};
 use crate::control::{Again, Asked, Refusal};
 use crate::io::ReplyTo;
 use crate::resp::Replies;
@@ -59,6 +61,22 @@ impl Ask {
                 Frame::Control(asked.command.spell()).write(number, &mut bytes);
                 Some(bytes)
             }
+        }
+    }
+
+    /// The version of the table of commands that a process needs to be asked.
+    pub(super) fn table(&self) -> u16 {
+        match &self.who {
+            Who::Works(handed) if TABLE > FIRST_TABLE => handed.table(),
+            Who::Works(_) | Who::Control(..) => FIRST_TABLE,
+        }
+    }
+
+    /// Refuses it, as the process of this server doesn't know what it asks.
+    pub(super) fn refuse(self, server: u16) {
+        match self.who {
+            Who::Works(handed) => handed.refuse(server),
+            Who::Control(asked, _) => pass_on(asked.reply_to, older::refusal(server)),
         }
     }
 

@@ -112,6 +112,7 @@ mod tests {
                 server,
                 settings,
                 process,
+                table: 1,
             };
             callers.note(identity, &end, &outbox);
             Connection {

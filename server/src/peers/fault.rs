@@ -9,6 +9,8 @@ pub enum WireFault {
     NoPeer,
     /// It is of another version of this protocol.
     Version(u8),
+    /// It refuses this version, and speaks that one, which is older.
+    Older(u8),
     /// A length is greater than it may be.
     TooLong,
     /// It ends too early.
@@ -29,6 +31,7 @@ impl fmt::Display for WireFault {
     fn fmt(&self, f: &mut fmt::Formatter<'_>) -> fmt::Result {
         match self {
             WireFault::NoPeer => f.write_str("it doesn't begin as another process does"),
+            WireFault::Older(version) => write!(f, "it speaks version {version} alone"),
             WireFault::Version(version) => write!(f, "it speaks version {version}, not {VERSION}"),
             WireFault::TooLong => f.write_str("a length is greater than it may be"),
             WireFault::TooShort => f.write_str("a frame ends too early"),

@@ -172,6 +172,7 @@ impl Told {
             | NotDone::TooLarge(text)
             | NotDone::NotMade(text)
             | NotDone::Unknown(text) => out.extend_from_slice(front(text).as_bytes()),
+            NotDone::Unread => out.extend(why.to_string().bytes()),
             NotDone::Paused
             | NotDone::Vacant
             | NotDone::Busy
@@ -196,7 +197,7 @@ impl Told {
             4 => NotDone::Busy,
             5 => NotDone::Damaged(fields.text()?),
             6 => NotDone::Full(fields.text()?),
-            7 => NotDone::NotMade(fields.text()?),
+            7 => not_made(fields.text()?),
             8 => NotDone::Unknown(fields.text()?),
             9 => NotDone::Moved(Revision(fields.long()?)),
             10 => NotDone::Passed,
@@ -219,13 +220,22 @@ fn code_of(why: &NotDone) -> u8 {
         NotDone::Busy => 4,
         NotDone::Damaged(_) => 5,
         NotDone::Full(_) => 6,
-        NotDone::NotMade(_) => 7,
+        // Processes of 0.1.0 tell both by one number, and a text.
+        NotDone::NotMade(_) | NotDone::Unread => 7,
         NotDone::Unknown(_) => 8,
         NotDone::Moved(_) => 9,
         NotDone::Passed => 10,
         NotDone::TooManyClients => 11,
         NotDone::Stopped => 12,
         NotDone::TooLarge(_) => 13,
+    }
+}
+
+/// What is told by the text: that the shard isn't read yet, or why something else isn't made.
+fn not_made(text: String) -> NotDone {
+    match text == NotDone::Unread.to_string() {
+        true => NotDone::Unread,
+        false => NotDone::NotMade(text),
     }
 }
 
@@ -268,6 +278,7 @@ mod tests {
             NotDone::Full(String::new()),
             NotDone::TooLarge(text()),
             NotDone::NotMade(text()),
+            NotDone::Unread,
             NotDone::Unknown(text()),
             NotDone::Moved(Revision(1 << 50)),
             NotDone::Passed,

@@ -1,6 +1,6 @@
 //! How two processes make themselves known to each other.
 use super::channel::{Channel, Terms};
-use super::greeting::Greeting;
+use super::greeting::{Greeting, VERSION};
 use super::{Identity, WireFault};
 use crate::secret::Secret;
 use std::io::{self, ErrorKind, Read, Write};
@@ -10,19 +10,36 @@ const ROOM: usize = 512;
 /// No greeting is longer.
 const MOST: usize = 8 << 10;
 
-/// Greets the process that was reached, which is to run this server; returns its number.
-pub(super) fn greet(channel: &mut Channel, terms: &Terms, server: u16) -> io::Result<u64> {
+/// Greets the process that was reached, which is to run this server, in this version; returns who it is. One that
+/// speaks an older version refuses, by [`WireFault::Older`].
+pub(super) fn greet(
+    channel: &mut Channel,
+    terms: &Terms,
+    server: u16,
+    version: u8,
+) -> io::Result<Identity> {
     let secret = terms.secret.as_ref().map_or(&[][..], Secret::reveal);
     let hello = Greeting::Hello(terms.identity, server, secret.to_vec());
-    say(channel, &hello)?;
+    say(channel, &hello, version)?;
     let identity = match hear(channel)? {
-        Greeting::Welcome(identity) => identity,
-        Greeting::Refusal(why) => return Err(io::Error::other(why)),
-        Greeting::Hello(..) => return Err(io::Error::other("it doesn't answer a greeting")),
+        (Greeting::Welcome(identity), _) => identity,
+        (Greeting::Refusal(_), spoken) if spoken < version => {
+            return Err(io::Error::other(WireFault::Older(spoken)))
+        }
+        (Greeting::Refusal(why), _) => return Err(io::Error::other(why)),
+        (Greeting::Hello(..), _) => return Err(io::Error::other("it doesn't answer a greeting")),
     };
     match told_apart(terms.identity, identity).or_else(|| not_wanted(identity, server)) {
-        None => Ok(identity.process),
+        None => Ok(identity),
         Some(why) => Err(io::Error::other(why)),
+    }
+}
+
+/// The version that who was greeted speaks, where it is an older one.
+pub(super) fn older(error: &io::Error) -> Option<u8> {
+    match error.get_ref()?.downcast_ref() {
+        Some(WireFault::Older(version)) => Some(*version),
+        _ => None,
     }
 }
 
@@ -32,15 +49,17 @@ pub(super) fn welcome<T>(
     terms: &Terms,
     place: impl FnOnce() -> Option<T>,
 ) -> io::Result<(Identity, T)> {
-    let found = heard(channel, terms).and_then(|it| {
+    // Whoever calls is answered in the version that it speaks.
+    let mut version = VERSION;
+    let found = heard(channel, terms, &mut version).and_then(|it| {
         let place = place().ok_or_else(|| Refused::why("it has no place for one more"))?;
         Ok((it, place))
     });
     match found {
-        Ok(found) => say(channel, &Greeting::Welcome(terms.identity)).map(|()| found),
+        Ok(found) => say(channel, &Greeting::Welcome(terms.identity), version).map(|()| found),
         Err(Refused { why, error }) => {
             if let Some(why) = why {
-                say(channel, &Greeting::Refusal(why))?;
+                say(channel, &Greeting::Refusal(why), version)?;
             }
             Err(error)
         }
@@ -74,9 +93,11 @@ impl From<io::Error> for Refused {
     }
 }
 
-/// Hears of the process that connected who it is, where it may be welcomed.
-fn heard(channel: &mut Channel, terms: &Terms) -> Result<Identity, Refused> {
-    let Greeting::Hello(identity, wanted, secret) = hear(channel)? else {
+/// Hears of the process that connected who it is, where it may be welcomed, and which version it speaks.
+fn heard(channel: &mut Channel, terms: &Terms, version: &mut u8) -> Result<Identity, Refused> {
+    let (greeting, spoken) = hear(channel)?;
+    *version = spoken;
+    let Greeting::Hello(identity, wanted, secret) = greeting else {
         return Err(io::Error::other("it doesn't greet").into());
     };
     let known = terms.secret.as_ref();
@@ -96,15 +117,15 @@ fn not_wanted(found: Identity, wanted: u16) -> Option<String> {
     (server != wanted).then(|| format!("it is server {server}, not {wanted}"))
 }
 
-fn say(channel: &mut Channel, greeting: &Greeting) -> io::Result<()> {
+fn say(channel: &mut Channel, greeting: &Greeting, version: u8) -> io::Result<()> {
     let mut bytes = Vec::new();
-    greeting.write(&mut bytes);
+    greeting.write(version, &mut bytes);
     channel.writer.write_all(&bytes)?;
     channel.writer.flush()
 }
 
-/// Reads a greeting, which is there in time: nothing follows it before it is answered.
-fn hear(channel: &mut Channel) -> io::Result<Greeting> {
+/// Reads a greeting, which is there in time, and in which version it is: nothing follows it before it is answered.
+fn hear(channel: &mut Channel) -> io::Result<(Greeting, u8)> {
     let (mut input, mut room) = (Vec::new(), [0; ROOM]);
     while input.len() < MOST {
         channel.hurry()?;
@@ -114,7 +135,7 @@ fn hear(channel: &mut Channel) -> io::Result<Greeting> {
         }
         input.extend_from_slice(&room[..count]);
         match Greeting::read(&input).map_err(io::Error::other)? {
-            Some((greeting, end)) if end == input.len() => return Ok(greeting),
+            Some((greeting, version, end)) if end == input.len() => return Ok((greeting, version)),
             Some(_) => return Err(io::Error::other("something follows its greeting")),
             None => {}
         }
@@ -136,6 +157,7 @@ mod tests {
                 server: 2,
                 settings: 1,
                 process: 9,
+                table: 1,
             },
             secret: Secret::of(secret.as_bytes()),
             tls: None,
@@ -155,12 +177,12 @@ mod tests {
         known: &str,
         shown: &str,
         place: Option<()>,
-    ) -> (io::Result<Identity>, io::Result<u64>) {
+    ) -> (io::Result<Identity>, io::Result<Identity>) {
         let (client, mut accepted) = met(&terms(known));
         let shown = terms(shown);
         let greeting = thread::spawn(move || {
             let mut connected = accept(&shown, client).unwrap();
-            greet(&mut connected, &shown, 2)
+            greet(&mut connected, &shown, 2, VERSION)
         });
         let welcomed = welcome(&mut accepted, &terms(known), || place);
         drop(accepted);
@@ -171,7 +193,7 @@ mod tests {
     fn both_sides_learn_who_the_other_one_is_or_why_not() {
         let (accepted, connected) = greeted("a", "a", Some(()));
         assert_eq!(accepted.unwrap(), terms("a").identity);
-        assert_eq!(connected.unwrap(), 9);
+        assert_eq!(connected.unwrap(), terms("a").identity);
         for (shown, place, why) in [
             ("b", Some(()), "its secret is another one"),
             ("a", None, "it has no place for one more"),
@@ -193,10 +215,44 @@ mod tests {
             client.read_to_end(&mut told).unwrap();
             told
         };
-        let (refusal, _) = Greeting::read(&told(b"SMP\0\x63")).unwrap().unwrap();
-        let why = "it speaks version 99, not 1".to_owned();
+        let (refusal, version, _) = Greeting::read(&told(b"SMP\0\x63")).unwrap().unwrap();
+        let why = "it speaks version 99, not 2".to_owned();
+        assert_eq!(version, VERSION);
         assert_eq!(refusal, Greeting::Refusal(why));
         assert!(told(b"PING\r\n").is_empty());
+    }
+
+    #[test]
+    fn one_of_the_first_version_is_answered_in_that() {
+        let (mut client, mut accepted) = met(&terms("a"));
+        let mut hello = Vec::new();
+        Greeting::Hello(terms("a").identity, 2, b"a".to_vec()).write(1, &mut hello);
+        client.write_all(&hello).unwrap();
+        let (identity, ()) = welcome(&mut accepted, &terms("a"), || Some(())).unwrap();
+        assert_eq!(identity, terms("a").identity);
+        drop(accepted);
+        let mut told = Vec::new();
+        client.read_to_end(&mut told).unwrap();
+        let (greeting, version, _) = Greeting::read(&told).unwrap().unwrap();
+        assert_eq!(
+            (greeting, version),
+            (Greeting::Welcome(terms("a").identity), 1)
+        );
+    }
+
+    #[test]
+    fn one_that_speaks_an_older_version_alone_is_known_by_its_refusal() {
+        let (mut client, connected) = met(&terms("a"));
+        let greeting = thread::spawn(move || {
+            let mut connected = connected;
+            greet(&mut connected, &terms("a"), 2, VERSION)
+        });
+        let mut refusal = Vec::new();
+        Greeting::Refusal("it speaks version 2, not 1".to_owned()).write(1, &mut refusal);
+        client.write_all(&refusal).unwrap();
+        let refused = greeting.join().unwrap().unwrap_err();
+        assert_eq!(older(&refused), Some(1));
+        assert_eq!(older(&ErrorKind::TimedOut.into()), None);
     }
 
     #[test]

@@ -1,11 +1,14 @@
 //! How a connection between two processes begins: who calls greets, and who is called welcomes or refuses.
 use super::fields::{put_bytes, Fields};
 use super::WireFault;
+use crate::command::FIRST_TABLE;
 
 /// What the first byte of a connection, and of an answer to it, begins.
 const MAGIC: &[u8; 4] = b"SMP\0";
 /// The version of what is sent.
-pub const VERSION: u8 = 1;
+pub const VERSION: u8 = 2;
+/// The first one, which is spoken with processes of 0.1.0: it tells no table.
+const FIRST_VERSION: u8 = 1;
 /// The most bytes of the secret.
 pub const MAX_SECRET: usize = 256;
 /// The most bytes of why a process is refused.
@@ -24,6 +27,8 @@ pub struct Identity {
     pub settings: u64,
     /// Its number: of two processes of one server the later one has the greater.
     pub process: u64,
+    /// The version of its table of commands.
+    pub table: u16,
 }
 
 /// What a connection begins with.
@@ -38,22 +43,22 @@ pub enum Greeting {
 }
 
 impl Greeting {
-    /// Adds its bytes.
-    pub fn write(&self, out: &mut Vec<u8>) {
+    /// Adds its bytes, in this version.
+    pub fn write(&self, version: u8, out: &mut Vec<u8>) {
         out.extend(MAGIC);
-        out.push(VERSION);
+        out.push(version);
         let start = out.len();
         out.extend([0; 4]);
         match self {
             Greeting::Hello(identity, wanted, secret) => {
                 out.push(1);
-                identity.write(out);
+                identity.write(version, out);
                 out.extend(wanted.to_be_bytes());
                 put_bytes(out, secret);
             }
             Greeting::Welcome(identity) => {
                 out.push(2);
-                identity.write(out);
+                identity.write(version, out);
             }
             Greeting::Refusal(why) => {
                 out.push(3);
@@ -65,21 +70,21 @@ impl Greeting {
         out[start..start + 4].copy_from_slice(&(length as u32).to_be_bytes());
     }
 
-    /// Reads that with which the input begins, if it is whole; returns itself and where it ends.
+    /// Reads that with which the input begins, if it is whole; returns itself, its version and where it ends.
     ///
     /// # Errors
     ///
     /// Where no greeting is so, whatever follows.
-    pub fn read(input: &[u8]) -> Result<Option<(Greeting, usize)>, WireFault> {
+    pub fn read(input: &[u8]) -> Result<Option<(Greeting, u8, usize)>, WireFault> {
         let known = input.iter().zip(MAGIC).all(|(it, magic)| it == magic);
         if !known {
             return Err(WireFault::NoPeer);
         }
-        match input.get(MAGIC.len()) {
+        let version = match input.get(MAGIC.len()) {
             None => return Ok(None),
-            Some(&VERSION) => {}
+            Some(version @ FIRST_VERSION..=VERSION) => *version,
             Some(other) => return Err(WireFault::Version(*other)),
-        }
+        };
         let Some(length) = input.get(MAGIC.len() + 1..HEAD) else {
             return Ok(None);
         };
@@ -93,30 +98,37 @@ impl Greeting {
         let mut fields = Fields(bytes);
         let greeting = match fields.byte()? {
             1 => {
-                let (identity, wanted) = (Identity::read(&mut fields)?, fields.short()?);
+                let (identity, wanted) = (Identity::read(version, &mut fields)?, fields.short()?);
                 Greeting::Hello(identity, wanted, fields.bytes(MAX_SECRET)?.to_vec())
             }
-            2 => Greeting::Welcome(Identity::read(&mut fields)?),
+            2 => Greeting::Welcome(Identity::read(version, &mut fields)?),
             3 => Greeting::Refusal(String::from_utf8_lossy(std::mem::take(&mut fields.0)).into()),
             kind => return Err(WireFault::Kind(kind)),
         };
         fields.end()?;
-        Ok(Some((greeting, HEAD + length)))
+        Ok(Some((greeting, version, HEAD + length)))
     }
 }
 
 impl Identity {
-    fn write(&self, out: &mut Vec<u8>) {
+    fn write(&self, version: u8, out: &mut Vec<u8>) {
         out.extend(self.server.to_be_bytes());
         out.extend(self.settings.to_be_bytes());
         out.extend(self.process.to_be_bytes());
+        if version > FIRST_VERSION {
+            out.extend(self.table.to_be_bytes());
+        }
     }
 
-    fn read(fields: &mut Fields<'_>) -> Result<Identity, WireFault> {
+    fn read(version: u8, fields: &mut Fields<'_>) -> Result<Identity, WireFault> {
         Ok(Identity {
             server: fields.short()?,
             settings: fields.long()?,
             process: fields.long()?,
+            table: match version {
+                FIRST_VERSION => FIRST_TABLE,
+                _ => fields.short()?,
+            },
         })
     }
 }
@@ -137,6 +149,7 @@ mod tests {
         server: 3,
         settings: 0x0123_4567_89ab_cdef,
         process: 1 << 40,
+        table: FIRST_TABLE,
     };
 
     fn greetings() -> [Greeting; 4] {
@@ -150,29 +163,49 @@ mod tests {
 
     fn written(greeting: &Greeting) -> Vec<u8> {
         let mut bytes = Vec::new();
-        greeting.write(&mut bytes);
+        greeting.write(VERSION, &mut bytes);
         bytes
     }
 
     #[test]
     fn what_was_written_is_read() {
-        for greeting in greetings() {
-            let mut bytes = written(&greeting);
+        for (greeting, version) in greetings()
+            .into_iter()
+            .flat_map(|it| [(it.clone(), 1), (it, 2)])
+        {
+            let mut bytes = Vec::new();
+            greeting.write(version, &mut bytes);
             let end = bytes.len();
             for short in 0..end {
                 assert_eq!(Greeting::read(&bytes[..short]), Ok(None));
             }
             bytes.extend(b"more");
-            assert_eq!(Greeting::read(&bytes), Ok(Some((greeting, end))));
+            let read = Greeting::read(&bytes);
+            assert_eq!(read, Ok(Some((greeting, version, end))));
         }
+    }
+
+    #[test]
+    fn the_table_is_told_from_the_second_version_on() {
+        let newer = Identity {
+            table: 7,
+            ..IDENTITY
+        };
+        let told = |version| {
+            let mut bytes = Vec::new();
+            Greeting::Welcome(newer).write(version, &mut bytes);
+            Greeting::read(&bytes).unwrap().unwrap().0
+        };
+        assert_eq!(told(1), Greeting::Welcome(IDENTITY));
+        assert_eq!(told(2), Greeting::Welcome(newer));
     }
 
     #[test]
     fn who_is_no_process_of_this_version_is_refused_at_once() {
         assert_eq!(Greeting::read(b"*1\r\n"), Err(WireFault::NoPeer));
         assert_eq!(Greeting::read(b"GET / HTTP"), Err(WireFault::NoPeer));
-        assert_eq!(Greeting::read(b"SMP\0\x02"), Err(WireFault::Version(2)));
-        let long = b"SMP\0\x01\0\x01\0\0";
+        assert_eq!(Greeting::read(b"SMP\0\x03"), Err(WireFault::Version(3)));
+        let long = b"SMP\0\x02\0\x01\0\0";
         assert_eq!(Greeting::read(long), Err(WireFault::TooLong));
         let mut other = written(&Greeting::Welcome(IDENTITY));
         other[9] = 7;
@@ -194,7 +227,7 @@ mod tests {
                     _ => bytes.truncate(at.max(1)),
                 }
             }
-            if let Ok(Some((_, end))) = Greeting::read(&bytes) {
+            if let Ok(Some((_, _, end))) = Greeting::read(&bytes) {
                 assert!(end <= bytes.len());
             }
         }

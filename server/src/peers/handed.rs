@@ -1,5 +1,7 @@
 use super::frame::{Frame, Told, Works};
+use super::older;
 use super::unsure::Unsure;
+use crate::command::{table_of_spelled, FIRST_TABLE, TABLE};
 use crate::resp::Replies;
 use durkenzo_driver::{Begin, Elsewhere, NotDone, Step};
 use durkenzo_store::Revision;
@@ -40,6 +42,43 @@ impl Handed {
             left: steps.len(),
             places: steps.into_iter().map(Place::Asked).collect(),
             moved: Revision::NEVER,
+        }
+    }
+
+    /// The steps in their order, apart where they need another version of the table of commands: so a process that
+    /// doesn't know some is asked the others.
+    pub(super) fn by_table(elsewhere: Elsewhere, steps: Vec<Step>) -> Vec<Handed> {
+        if TABLE == FIRST_TABLE {
+            return vec![Handed::new(elsewhere, steps)];
+        }
+        let mut runs: Vec<(u16, Vec<Step>)> = Vec::new();
+        for step in steps {
+            let table = table_of_spelled(&step.work.spell());
+            match runs.last_mut().filter(|it| it.0 == table) {
+                Some((_, run)) => run.push(step),
+                None => runs.push((table, vec![step])),
+            }
+        }
+        let handed = runs.into_iter();
+        handed
+            .map(|(_, it)| Handed::new(elsewhere.clone(), it))
+            .collect()
+    }
+
+    /// The version of the table of commands that all its steps need.
+    pub(super) fn table(&self) -> u16 {
+        let works = self.frame().works;
+        let tables = works.iter().map(|it| table_of_spelled(it));
+        tables.max().unwrap_or(FIRST_TABLE)
+    }
+
+    /// Refuses each step, of which nothing was sent, as the process of this server doesn't know it.
+    pub(super) fn refuse(mut self, server: u16) {
+        for place in 0..self.places.len() as u16 {
+            if let Some(Place::Asked(step)) = self.places.get(usize::from(place)) {
+                let told = older::told(server, &step.work.spell());
+                self.told(place, told);
+            }
         }
     }
 

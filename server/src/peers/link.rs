@@ -2,8 +2,10 @@ use super::ask::Ask;
 use super::batch::Batch;
 use super::channel::{connect, Channel, End};
 use super::frame::Frame;
-use super::greet::greet;
+use super::greet::{greet, older};
+use super::greeting::VERSION;
 use super::inner::Inner;
+use super::Identity;
 use std::collections::{HashMap, VecDeque};
 use std::io::{self, ErrorKind, Read, Write};
 use std::sync::{Arc, Condvar, Mutex, MutexGuard, PoisonError};
@@ -40,6 +42,8 @@ struct State {
     /// What ends the connection, where there is one, and the number of the process to which it is.
     end: Option<Arc<End>>,
     process: u64,
+    /// The version of that process' table of commands.
+    table: u16,
     /// Why the server wasn't reached when that was tried last, if it wasn't.
     unreached: Option<String>,
     /// Since when the server isn't there, if it isn't.
@@ -50,6 +54,8 @@ struct State {
 
 struct Queued {
     number: u64,
+    /// The version of the table of commands that it needs.
+    table: u16,
     bytes: Vec<u8>,
     ask: Ask,
 }
@@ -130,13 +136,19 @@ impl Link {
         }
         state.last += 1;
         let number = state.last;
+        let table = ask.table();
         let Some(bytes) = ask.written(number) else {
             return Err(unasked(ask, "it is too large to be sent"));
         };
         // Where something waits to be sent already, its thread was woken for that.
         let is_first = state.queue.is_empty();
         state.bytes += bytes.len();
-        state.queue.push_back(Queued { number, bytes, ask });
+        state.queue.push_back(Queued {
+            number,
+            table,
+            bytes,
+            ask,
+        });
         drop(state);
         if is_first {
             self.woken.notify_all();
@@ -212,20 +224,28 @@ impl Link {
     }
 
     /// Reaches the process, and says which one it is.
-    fn reach(&self, inner: &Inner) -> io::Result<(Channel, u64)> {
+    fn reach(&self, inner: &Inner) -> io::Result<(Channel, Identity)> {
         let address = inner.address_of(self.server);
         let address = address.ok_or_else(|| io::Error::other("it isn't there"))?;
-        let mut channel = connect(&inner.terms, &address)?;
-        let process = greet(&mut channel, &inner.terms, self.server)?;
+        let greeted = |version| {
+            let mut channel = connect(&inner.terms, &address)?;
+            let identity = greet(&mut channel, &inner.terms, self.server, version)?;
+            Ok((channel, identity))
+        };
+        let (channel, identity) = greeted(VERSION).or_else(|error| match older(&error) {
+            Some(version) => greeted(version),
+            None => Err(error),
+        })?;
         channel.end.set_patience(None)?;
-        tracing::info!(server = self.server, process, address, "reached a process");
-        Ok((channel, process))
+        let (server, process, table) = (self.server, identity.process, identity.table);
+        tracing::info!(server, process, table, address, "reached a process");
+        Ok((channel, identity))
     }
 
     /// Has the answers of the process read, without which it is asked nothing. Returns what asks it, and who reads.
     fn begin_to_serve(
         self: &Arc<Link>,
-        (channel, process): (Channel, u64),
+        (channel, identity): (Channel, Identity),
         inner: &Arc<Inner>,
     ) -> io::Result<(Writer, JoinHandle<()>)> {
         let Channel {
@@ -236,7 +256,8 @@ impl Link {
         } = channel;
         let mut state = self.state();
         state.end = Some(Arc::new(end));
-        state.process = process;
+        state.process = identity.process;
+        state.table = identity.table;
         state.unreached = None;
         state.is_broken = false;
         drop(state);
@@ -249,7 +270,8 @@ impl Link {
 
     /// Sends what there is to send while the connection lasts.
     fn serve(&self, mut writer: Writer, reading: JoinHandle<()>, inner: &Arc<Inner>) {
-        while let Some(batch) = self.next_batch() {
+        while let Some((batch, unknown)) = self.next_batch() {
+            unknown.into_iter().for_each(|it| it.refuse(self.server));
             if let Err((left, error)) = batch.send(&mut *writer) {
                 self.give_back(&left, &error.to_string(), inner);
                 break;
@@ -273,8 +295,9 @@ impl Link {
         })
     }
 
-    /// What is sent next, once there is something; none where the connection broke.
-    fn next_batch(&self) -> Option<Batch> {
+    /// What is sent next, once there is something, and what isn't, as the process doesn't know it; none where the
+    /// connection broke.
+    fn next_batch(&self) -> Option<(Batch, Vec<Ask>)> {
         let state = self.state();
         let idle = |it: &mut State| it.queue.is_empty() && !it.is_over && !it.is_broken;
         let state = self.woken.wait_while(state, idle);
@@ -282,16 +305,20 @@ impl Link {
         if state.is_over || state.is_broken {
             return None;
         }
-        let mut batch = Batch::default();
+        let (mut batch, mut unknown) = (Batch::default(), Vec::new());
         while let Some(it) = state.queue.pop_front() {
             state.bytes -= it.bytes.len();
+            if it.table > state.table {
+                unknown.push(it.ask);
+                continue;
+            }
             batch.add(it.number, &it.bytes);
             state.asked.insert(it.number, it.ask);
             if batch.is_full() {
                 break;
             }
         }
-        Some(batch)
+        Some((batch, unknown))
     }
 
     /// Reads answers until the connection ends; returns why it did.
@@ -451,6 +478,26 @@ mod tests {
         link.state().process = 7;
         link.state().end = Some(Arc::new(End::of(&own).unwrap()));
         (link, other)
+    }
+
+    #[test]
+    fn what_the_process_does_not_know_is_refused_and_not_sent() {
+        let link = idle();
+        link.state().table = 1;
+        let (first, second) = (asked(&link), asked(&link));
+        link.state().queue[0].table = 2;
+        let (batch, unknown) = link.next_batch().unwrap();
+        let mut sent = Vec::new();
+        batch.send(&mut sent).unwrap();
+        let (number, _, end) = Frame::read(&sent).unwrap().unwrap();
+        assert_eq!((number, end, unknown.len()), (2, sent.len(), 1));
+        unknown.into_iter().for_each(|it| it.refuse(2));
+        let told = String::from_utf8(first.recv().unwrap()).unwrap();
+        assert!(
+            told.starts_with("-OTHERVERSION nothing has changed"),
+            "{told}"
+        );
+        assert!(second.try_recv().is_err() && link.state().bytes == 0);
     }
 
     fn is_ended(other: &mut TcpStream) -> bool {

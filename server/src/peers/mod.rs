@@ -17,6 +17,7 @@ mod greeting;
 mod handed;
 mod inner;
 mod link;
+mod older;
 mod outbox;
 mod place;
 mod received;
@@ -85,8 +86,9 @@ impl Peers {
         Box::new(move |elsewhere: Elsewhere, steps: Vec<Step>| {
             let (server, count) = (elsewhere.server, steps.len() as u64);
             inner.counts.sent.fetch_add(count, Ordering::Relaxed);
-            let ask = Ask::works(Handed::new(elsewhere, steps), inner.wait);
-            inner.ask(server, ask);
+            for handed in Handed::by_table(elsewhere, steps) {
+                inner.ask(server, Ask::works(handed, inner.wait));
+            }
         })
     }
 

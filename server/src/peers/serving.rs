@@ -3,12 +3,13 @@ use super::channel::{accept, Channel, End};
 use super::frame::{Frame, Told, Works};
 use super::greet::welcome;
 use super::inner::{locked, Inner};
+use super::older;
 use super::outbox::{Outbox, Teller};
 use super::place::Place;
 use super::received::Received;
 use super::strangers::Stranger;
 use super::{Identity, WireFault};
-use crate::command::step_of_spelled;
+use crate::command::{is_of_all, step_of_spelled};
 use crate::control::Asked;
 use crate::io::ReplyTo;
 use crate::keyspace::Keyspace;
@@ -98,7 +99,7 @@ impl Serving {
         while let Some((number, frame, length)) = Frame::read(&input[at..])? {
             at += length;
             is_there = match frame {
-                Frame::Works(works) => self.begin(number, works)?,
+                Frame::Works(works) => self.begin(number, works),
                 Frame::Control(words) => self.ask_control(number, &words)?,
                 // It answers where it is to ask.
                 Frame::Told(..) => return Err(WireFault::Kind(2)),
@@ -111,13 +112,13 @@ impl Serving {
         Ok(is_there)
     }
 
-    /// Begins works.
-    fn begin(&self, number: u64, works: Works) -> Result<bool, WireFault> {
+    /// Begins works. Returns whether there is still somebody to answer.
+    fn begin(&self, number: u64, works: Works) -> bool {
         let is_there = self.outbox.begin(works.works.len());
         let teller = |place: usize| Teller::new(self.outbox.clone(), number, place as u16);
         let steps = works.works.iter().enumerate();
-        let steps = steps.map(|(place, it)| self.step(it, works.shard, teller(place)));
-        let steps = steps.collect::<Result<Vec<_>, _>>()?;
+        let steps = steps.filter_map(|(place, it)| self.step(it, works.shard, teller(place)));
+        let steps: Vec<_> = steps.collect();
         let count = steps.len() as u64;
         self.inner.counts.came.fetch_add(count, Ordering::Relaxed);
         match self.inner.durable().filter(|_| !self.inner.is_stopping()) {
@@ -137,16 +138,22 @@ impl Serving {
                 steps.into_iter().for_each(stopped);
             }
         }
-        Ok(is_there)
+        is_there
     }
 
-    fn step(&self, spelled: &[u8], shard: u16, teller: Teller) -> Result<Step, WireFault> {
-        let cluster = self.inner.cluster().ok_or(WireFault::Words)?;
+    /// The step of a work that is spelled so. One that isn't known here, as a process of a later version may send it,
+    /// is refused alone.
+    fn step(&self, spelled: &[u8], shard: u16, teller: Teller) -> Option<Step> {
         let told = teller.clone();
         let reply_to = ReplyTo::process(move |bytes| told.tell(Told::Answer(bytes)));
-        let step = step_of_spelled(spelled, shard, &self.keyspace, &cluster, reply_to);
+        let cluster = self.inner.cluster();
+        let step =
+            cluster.and_then(|it| step_of_spelled(spelled, shard, &self.keyspace, &it, reply_to));
+        if step.is_none() {
+            let server = self.inner.terms.identity.server;
+            teller.clone().tell(older::told(server, spelled));
+        }
         step.map(|it| Received::step(it, teller))
-            .ok_or(WireFault::Words)
     }
 
     fn ask_control(&self, number: u64, words: &[u8]) -> Result<bool, WireFault> {
@@ -154,9 +161,14 @@ impl Serving {
         let command = OwnedCommand::spelled(words).ok_or(WireFault::Words)?;
         let teller = Teller::new(self.outbox.clone(), number, 0);
         let told = teller.clone();
-        let reply_to = ReplyTo::asking_process(move |answer| {
+        let mut reply_to = ReplyTo::asking_process(move |answer| {
             told.tell(answer.map_or(Told::NotDone(NotDone::Stopped), Told::Answer));
         });
+        if !is_of_all(command.command()) {
+            let (asked, server) = (command.shown(), self.caller.server);
+            tracing::info!(asked, server, "another process asks the control");
+            reply_to = reply_to.logged(asked);
+        }
         let control = locked(&self.inner.control).clone();
         let is_asked = control.is_some_and(|it| it.send(Asked { command, reply_to }).is_ok());
         if !is_asked {

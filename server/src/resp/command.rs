@@ -57,6 +57,10 @@ impl<'a> Command<'a> {
     }
 }
 
+/// How many words of a command, and how many of their bytes, a log shows.
+const MOST_SHOWN_WORDS: usize = 8;
+const MOST_SHOWN: usize = 100;
+
 /// A command that owns its bytes.
 #[derive(Clone, Debug)]
 pub struct OwnedCommand {
@@ -125,6 +129,15 @@ impl OwnedCommand {
             bytes.extend_from_slice(b"\r\n");
         }
         bytes
+    }
+
+    /// Its front, as a log shows it.
+    pub fn shown(&self) -> String {
+        let words: Vec<_> = self.command().iter().take(MOST_SHOWN_WORDS).collect();
+        let line = words.join(&b' ');
+        line[..line.len().min(MOST_SHOWN)]
+            .escape_ascii()
+            .to_string()
     }
 
     /// The command.

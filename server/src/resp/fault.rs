@@ -1,4 +1,4 @@
-use super::{MAX_ARGUMENTS, MAX_COMMAND, MAX_LINE};
+use super::{MAX_LINE, MAX_READ, MAX_READ_ARGUMENTS};
 use std::error::Error;
 use std::fmt;
 
@@ -33,7 +33,7 @@ impl fmt::Display for ProtocolFault {
             ProtocolFault::ArrayLength => f.write_str("invalid multibulk length"),
             ProtocolFault::ManyArguments => write!(
                 f,
-                "invalid multibulk length: a command has at most {MAX_ARGUMENTS} arguments, its name among them"
+                "invalid multibulk length: at most {MAX_READ_ARGUMENTS} arguments of a command are read"
             ),
             ProtocolFault::NoLength(byte) => {
                 write!(f, "expected '$', got '{}'", byte.escape_ascii())
@@ -41,10 +41,10 @@ impl fmt::Display for ProtocolFault {
             ProtocolFault::ArgumentLength => f.write_str("invalid bulk length"),
             ProtocolFault::LongArgument => write!(
                 f,
-                "invalid bulk length: a command has at most {MAX_COMMAND} bytes"
+                "invalid bulk length: at most {MAX_READ} bytes of a command are read"
             ),
             ProtocolFault::TooLarge => {
-                write!(f, "too big command: it has at most {MAX_COMMAND} bytes")
+                write!(f, "too big command: at most {MAX_READ} bytes of it are read")
             }
             ProtocolFault::NoLineEnd => f.write_str("expected CRLF behind an argument"),
             ProtocolFault::LongLine => {

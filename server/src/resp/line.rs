@@ -1,7 +1,7 @@
-use super::{Arguments, ProtocolFault, MAX_ARGUMENTS};
+use super::{Arguments, Oversized, ProtocolFault, Unparsed, MAX_ARGUMENTS};
 
 /// Takes the words of a line, some of which may stand in quotes, as redis-cli and Redis take them.
-pub(super) fn words(line: &[u8], arguments: &mut Arguments) -> Result<(), ProtocolFault> {
+pub(super) fn words(line: &[u8], arguments: &mut Arguments) -> Result<(), Unparsed> {
     arguments.begin_line();
     let mut rest = line;
     let mut count = 0;
@@ -12,7 +12,7 @@ pub(super) fn words(line: &[u8], arguments: &mut Arguments) -> Result<(), Protoc
         }
         count += 1;
         if count > MAX_ARGUMENTS {
-            return Err(ProtocolFault::ManyArguments);
+            return Err(Oversized::Arguments.into());
         }
         let start = arguments.word_start();
         rest = word(rest, arguments)?;
@@ -102,7 +102,7 @@ fn escaped(byte: u8) -> u8 {
 mod tests {
     use super::*;
 
-    fn taken(line: &[u8]) -> Result<Vec<Vec<u8>>, ProtocolFault> {
+    fn taken(line: &[u8]) -> Result<Vec<Vec<u8>>, Unparsed> {
         let mut arguments = Arguments::default();
         words(line, &mut arguments)?;
         Ok(arguments.command(line).iter().map(<[u8]>::to_vec).collect())
@@ -119,7 +119,7 @@ mod tests {
     #[test]
     fn a_quoted_word_ends() {
         for line in [&br#"a "b"#[..], b"a 'b", br#""a"b"#, br#""\"#] {
-            assert_eq!(taken(line), Err(ProtocolFault::Quotes));
+            assert_eq!(taken(line), Err(ProtocolFault::Quotes.into()));
         }
     }
 }

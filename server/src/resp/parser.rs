@@ -1,28 +1,40 @@
-use super::{line, number, Arguments, ProtocolFault};
+use super::{line, number, Arguments, Oversized, ProtocolFault};
 
-/// The most bytes of a command, all that stands between its arguments among them.
+/// The most bytes of a command that is done, all that stands between its arguments among them.
 pub const MAX_COMMAND: usize = 1 << 20;
-/// The most arguments of a command, its name among them.
+/// The most arguments of a command that is done, its name among them.
 pub const MAX_ARGUMENTS: usize = 1_024;
+/// The most bytes of a command that is read to its end and refused, as of a value of Redis.
+pub const MAX_READ: usize = 512 << 20;
+/// The most arguments of such a command, as of one of Redis.
+pub const MAX_READ_ARGUMENTS: usize = 1 << 20;
 /// The most bytes of a command that comes as a line.
 pub const MAX_LINE: usize = 64 << 10;
 /// The most bytes of a line with a length.
 const MAX_LENGTH_LINE: usize = 24;
 /// What stands behind an argument.
-const LINE_END: &[u8] = b"\r\n";
+pub(super) const LINE_END: &[u8] = b"\r\n";
 
 /// Why there is no command.
 #[derive(Clone, Copy, Debug, PartialEq, Eq)]
 pub enum Unparsed {
     /// There is none in fewer than so many bytes of input.
     Incomplete(usize),
-    /// There will be none.
+    /// There will be none, and nobody knows where the next one begins.
     Malformed(ProtocolFault),
+    /// There will be none, and the next one begins where [`ReadAway`](super::ReadAway) comes to its end.
+    Oversized(Oversized),
 }
 
 impl From<ProtocolFault> for Unparsed {
     fn from(fault: ProtocolFault) -> Unparsed {
         Unparsed::Malformed(fault)
+    }
+}
+
+impl From<Oversized> for Unparsed {
+    fn from(why: Oversized) -> Unparsed {
+        Unparsed::Oversized(why)
     }
 }
 
@@ -59,16 +71,39 @@ fn parse_array(input: &[u8], arguments: &mut Arguments) -> Result<usize, Unparse
     Ok(most.len() - rest.len())
 }
 
-/// The number of arguments in the first line, and where the next line begins.
+/// The number of arguments in the first line, and where the next line begins; refused where so many aren't done.
 #[inline(never)]
 fn any_count(input: &[u8]) -> Result<(usize, usize), Unparsed> {
+    match count_of(input)? {
+        (count, _) if count > MAX_ARGUMENTS => Err(Oversized::Arguments.into()),
+        found => Ok(found),
+    }
+}
+
+/// The number of arguments in the first line, and where the next line begins; refused where so many aren't read.
+pub(super) fn count_of(input: &[u8]) -> Result<(usize, usize), Unparsed> {
     let (count, at) = length(input, 1, ProtocolFault::ArrayLength)?;
     // A number below 0 is none, as in Redis.
     let count = usize::try_from(count).unwrap_or(0);
-    if count > MAX_ARGUMENTS {
-        return Err(ProtocolFault::ManyArguments.into());
+    match count <= MAX_READ_ARGUMENTS {
+        true => Ok((count, at)),
+        false => Err(ProtocolFault::ManyArguments.into()),
     }
-    Ok((count, at))
+}
+
+/// The length of the argument from here on, and where its bytes begin; refused where so many aren't read.
+pub(super) fn length_of(input: &[u8], at: usize) -> Result<(usize, usize), Unparsed> {
+    match input.get(at) {
+        None => return Err(Unparsed::Incomplete(at + 1)),
+        Some(b'$') => {}
+        Some(other) => return Err(ProtocolFault::NoLength(*other).into()),
+    }
+    let (length, start) = length(input, at + 1, ProtocolFault::ArgumentLength)?;
+    let length = usize::try_from(length).map_err(|_| ProtocolFault::ArgumentLength)?;
+    match length <= MAX_READ {
+        true => Ok((length, start)),
+        false => Err(ProtocolFault::LongArgument.into()),
+    }
 }
 
 /// The number in the line of this mark with which the input begins, and where the next line begins; where it has one
@@ -99,20 +134,11 @@ fn short_argument(input: &[u8]) -> Option<(usize, usize)> {
 /// Takes the argument from here on, whatever it is, and returns where the next one begins.
 #[inline(never)]
 fn parse_argument(input: &[u8], at: usize, arguments: &mut Arguments) -> Result<usize, Unparsed> {
-    match input.get(at) {
-        None => return Err(Unparsed::Incomplete(at + 1)),
-        Some(b'$') => {}
-        Some(other) => return Err(ProtocolFault::NoLength(*other).into()),
-    }
-    let (length, start) = length(input, at + 1, ProtocolFault::ArgumentLength)?;
-    let length = usize::try_from(length).map_err(|_| ProtocolFault::ArgumentLength)?;
-    if length > MAX_COMMAND {
-        return Err(ProtocolFault::LongArgument.into());
-    }
+    let (length, start) = length_of(input, at)?;
     let end = start + length;
     let next = end + LINE_END.len();
     if next > MAX_COMMAND {
-        return Err(ProtocolFault::TooLarge.into());
+        return Err(Oversized::Bytes.into());
     }
     match input.get(end..next) {
         None => Err(Unparsed::Incomplete(next)),
@@ -200,18 +226,34 @@ mod tests {
     }
 
     #[test]
-    fn what_is_too_large_is_refused_at_once() {
+    fn what_is_too_large_is_told_at_once() {
+        for (input, why) in [
+            (&b"*1025\r\n"[..], Oversized::Arguments),
+            (b"*1048576\r\n", Oversized::Arguments),
+            (b"*1\r\n$536870912\r\n", Oversized::Bytes),
+            (b"*1\r\n$1048577\r\n", Oversized::Bytes),
+            (b"*1\r\n$1048576\r\n", Oversized::Bytes),
+            (
+                &[b"a ".repeat(1_025), b"\n".to_vec()].concat(),
+                Oversized::Arguments,
+            ),
+        ] {
+            assert_eq!(parsed(input), Err(Unparsed::Oversized(why)), "{input:?}");
+        }
+    }
+
+    #[test]
+    fn what_is_malformed_is_told_at_once() {
         use ProtocolFault::*;
         for (input, fault) in [
             (&b"*9223372036854775808\r\n"[..], ArrayLength),
             (b"*99999999999999999999999999", ArrayLength),
             (b"*9223372036854775807\r\n", ManyArguments),
-            (b"*1025\r\n", ManyArguments),
+            (b"*1048577\r\n", ManyArguments),
             (b"*x\r\n", ArrayLength),
             (b"*1\r\n$9223372036854775808\r\n", ArgumentLength),
             (b"*1\r\n$9223372036854775807\r\n", LongArgument),
-            (b"*1\r\n$1048577\r\n", LongArgument),
-            (b"*1\r\n$1048576\r\n", TooLarge),
+            (b"*1\r\n$536870913\r\n", LongArgument),
             (b"*1\r\n$-1\r\n", ArgumentLength),
             (b"*1\r\n$1\n", ArgumentLength),
             (b"*1\r\nGET\r\n", NoLength(b'G')),
@@ -264,7 +306,7 @@ mod tests {
             match parsed(&bytes) {
                 Ok((_, end)) => assert!(0 < end && end <= bytes.len()),
                 Err(Unparsed::Incomplete(needs)) => assert!(needs > bytes.len()),
-                Err(Unparsed::Malformed(_)) => {}
+                Err(Unparsed::Malformed(_) | Unparsed::Oversized(_)) => {}
             }
         }
     }

@@ -127,6 +127,19 @@ impl Replies {
         self.bytes.push(b'-');
         // Memory takes whatever is written.
         let _ = write!(self.bytes, "{fault}");
+        self.end_error(start);
+    }
+
+    /// The same of a refusal with bytes that may be no text.
+    pub fn error_bytes(&mut self, fault: &[u8]) {
+        let start = self.bytes.len() + 1;
+        self.bytes.push(b'-');
+        self.bytes.extend_from_slice(fault);
+        self.end_error(start);
+    }
+
+    /// Ends the error that began there, and counts it.
+    fn end_error(&mut self, start: usize) {
         for byte in &mut self.bytes[start..] {
             if matches!(byte, b'\r' | b'\n') {
                 *byte = b' ';

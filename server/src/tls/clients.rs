@@ -1,14 +1,14 @@
-use super::{pem, TlsFault};
-use rustls::server::{AllowAnyAuthenticatedClient, NoClientAuth};
-use rustls::{ServerConfig, ServerConnection};
+use super::pem::{certificates, not_taken, Identity};
+use super::{context, Connection, TlsFault};
+use openssl::error::ErrorStack;
+use openssl::ssl::{Ssl, SslContext, SslMethod};
 use std::fmt;
 use std::path::Path;
-use std::sync::Arc;
 
 /// How clients are met by TLS.
 #[derive(Clone)]
 pub struct ClientsTls {
-    config: Arc<ServerConfig>,
+    context: SslContext,
     asks_clients: bool,
 }
 
@@ -19,17 +19,14 @@ impl ClientsTls {
     ///
     /// Where a file can't be read, hasn't what it should have, or the key isn't that of the certificate.
     pub fn new(chain: &Path, key: &Path, authority: Option<&Path>) -> Result<ClientsTls, TlsFault> {
-        let verifier = match authority {
-            Some(file) => AllowAnyAuthenticatedClient::new(pem::trusted(file)?),
-            None => NoClientAuth::new(),
-        };
-        let config = ServerConfig::builder()
-            .with_safe_defaults()
-            .with_client_cert_verifier(verifier)
-            .with_single_cert(pem::certificates(chain)?, pem::key(key)?)
-            .map_err(|error| TlsFault::NotTaken(key.to_owned(), error.to_string()))?;
+        let identity = Identity::read(chain, key)?;
+        let mut builder =
+            context::builder(SslMethod::tls_server(), &identity).map_err(not_taken(key))?;
+        if let Some(file) = authority {
+            context::ask(&mut builder, &certificates(file)?).map_err(not_taken(file))?;
+        }
         Ok(ClientsTls {
-            config: Arc::new(config),
+            context: builder.build(),
             asks_clients: authority.is_some(),
         })
     }
@@ -40,13 +37,13 @@ impl ClientsTls {
     }
 
     /// A connection to be, before its first byte.
-    pub(crate) fn connection(&self) -> Result<ServerConnection, rustls::Error> {
-        ServerConnection::new(self.config.clone())
+    pub(crate) fn connection(&self) -> Result<Connection, ErrorStack> {
+        Connection::accepting(&self.context)
     }
 
-    /// How the page is met.
-    pub(crate) fn config(&self) -> Arc<ServerConfig> {
-        self.config.clone()
+    /// A connection to the page, before its first byte.
+    pub(crate) fn page(&self) -> Result<Ssl, ErrorStack> {
+        Ssl::new(&self.context)
     }
 }
 

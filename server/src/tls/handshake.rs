@@ -1,7 +1,10 @@
-use rustls::Connection;
+use super::Connection;
 use std::io::{self, ErrorKind, Read, Write};
 use std::net::TcpStream;
 use std::time::{Duration, Instant};
+
+/// How many bytes are taken from the socket at once.
+const ROOM: usize = 4 << 10;
 
 /// A socket of which each call ends by a deadline, so that a peer that sends byte by byte holds nobody up.
 struct Hurried<'a> {
@@ -37,17 +40,27 @@ impl Write for Hurried<'_> {
     }
 }
 
-/// Does the handshake, in this time in all; the socket keeps no timeout.
+/// Does the handshake within this time in all, and leaves the socket without a timeout. Each turn of the loop takes
+/// bytes or is the last one, and the bytes of a handshake are bounded.
 pub(super) fn shake(
     connection: &mut Connection,
     socket: &TcpStream,
     within: Duration,
 ) -> io::Result<()> {
     let deadline = Instant::now() + within;
-    let mut hurried = Hurried { socket, deadline };
-    while connection.is_handshaking() || connection.wants_write() {
-        if connection.complete_io(&mut hurried)? == (0, 0) {
-            return Err(ErrorKind::UnexpectedEof.into());
+    let (mut hurried, mut room) = (Hurried { socket, deadline }, [0; ROOM]);
+    loop {
+        let shaken = connection.shake();
+        let sent = hurried.write_all(connection.unsent());
+        connection.note_sent(connection.unsent().len());
+        let is_over = shaken?;
+        sent?;
+        if is_over {
+            break;
+        }
+        match hurried.read(&mut room)? {
+            0 => return Err(ErrorKind::UnexpectedEof.into()),
+            count => connection.feed(&room[..count]),
         }
     }
     socket.set_read_timeout(None)?;

@@ -1,7 +1,10 @@
 //! TLS: towards clients, and between the processes of a cluster.
 mod clients;
+mod connection;
+mod context;
 mod fault;
 mod handshake;
+mod memory;
 mod peers;
 mod pem;
 mod read_half;
@@ -11,6 +14,7 @@ mod trial;
 mod write_half;
 
 pub use clients::ClientsTls;
+pub(crate) use connection::Connection;
 pub use fault::TlsFault;
 pub use peers::{PeersTls, PEER_NAME};
 pub use read_half::ReadHalf;

@@ -1,9 +1,11 @@
 use super::handshake::shake;
+use super::pem::{certificates, not_taken, Identity};
 use super::shared::Shared;
-use super::{pem, ReadHalf, TlsFault, WriteHalf};
-use rustls::client::ClientConnection;
-use rustls::server::{AllowAnyAuthenticatedClient, ServerConnection};
-use rustls::{Certificate, ClientConfig, Connection, ServerConfig, ServerName};
+use super::{context, Connection, ReadHalf, TlsFault, WriteHalf};
+use openssl::error::ErrorStack;
+use openssl::ssl::{SslContext, SslMethod};
+use openssl::x509::verify::X509CheckFlags;
+use openssl::x509::{X509Ref, X509};
 use std::fmt;
 use std::io::{self, ErrorKind};
 use std::net::TcpStream;
@@ -19,8 +21,8 @@ pub const PEER_NAME: &str = "peer.durkenzo";
 /// which has the name of peers.
 #[derive(Clone)]
 pub struct PeersTls {
-    as_client: Arc<ClientConfig>,
-    as_server: Arc<ServerConfig>,
+    as_client: SslContext,
+    as_server: SslContext,
 }
 
 impl PeersTls {
@@ -31,27 +33,16 @@ impl PeersTls {
     /// Where a file can't be read or hasn't what it should have, the certificate hasn't the name of peers, or the key
     /// isn't its key.
     pub fn new(authority: &Path, chain: &Path, key: &Path) -> Result<PeersTls, TlsFault> {
-        let not_taken =
-            |error: rustls::Error| TlsFault::NotTaken(key.to_owned(), error.to_string());
-        let (certificates, secret) = (pem::certificates(chain)?, pem::key(key)?);
-        if !is_peer(&certificates[0]) {
+        let identity = Identity::read(chain, key)?;
+        if !is_peer(identity.leaf()) {
             let why = format!("the certificate hasn't the name DNS:{PEER_NAME}, as peers' have");
             return Err(TlsFault::NotTaken(chain.to_owned(), why));
         }
-        let roots = pem::trusted(authority)?;
-        let as_client = ClientConfig::builder()
-            .with_safe_defaults()
-            .with_root_certificates(roots.clone())
-            .with_single_cert(certificates.clone(), secret.clone())
-            .map_err(not_taken)?;
-        let as_server = ServerConfig::builder()
-            .with_safe_defaults()
-            .with_client_cert_verifier(AllowAnyAuthenticatedClient::new(roots))
-            .with_single_cert(certificates, secret)
-            .map_err(not_taken)?;
+        let trusted = certificates(authority)?;
+        let side = |method| side(method, &identity, &trusted).map_err(not_taken(key));
         Ok(PeersTls {
-            as_client: Arc::new(as_client),
-            as_server: Arc::new(as_server),
+            as_client: side(SslMethod::tls_client())?,
+            as_server: side(SslMethod::tls_server())?,
         })
     }
 
@@ -66,9 +57,8 @@ impl PeersTls {
         socket: TcpStream,
         within: Duration,
     ) -> io::Result<(ReadHalf, WriteHalf)> {
-        let name = ServerName::try_from(PEER_NAME).map_err(io::Error::other)?;
-        let connection = ClientConnection::new(self.as_client.clone(), name);
-        met(connection.map_err(io::Error::other)?.into(), socket, within)
+        let connection = Connection::connecting(&self.as_client, PEER_NAME);
+        met(connection.map_err(io::Error::other)?, socket, within)
     }
 
     /// Meets a peer that was accepted; else as [`connect`](PeersTls::connect).
@@ -77,17 +67,30 @@ impl PeersTls {
     ///
     /// The same.
     pub fn accept(&self, socket: TcpStream, within: Duration) -> io::Result<(ReadHalf, WriteHalf)> {
-        let connection = ServerConnection::new(self.as_server.clone());
-        met(connection.map_err(io::Error::other)?.into(), socket, within)
+        let connection = Connection::accepting(&self.as_server);
+        met(connection.map_err(io::Error::other)?, socket, within)
     }
 }
 
+/// The settings of one side. The other side must have the name of peers.
+fn side(
+    method: SslMethod,
+    identity: &Identity,
+    trusted: &[X509],
+) -> Result<SslContext, ErrorStack> {
+    let mut builder = context::builder(method, identity)?;
+    context::ask(&mut builder, trusted)?;
+    let asked = builder.verify_param_mut();
+    asked.set_hostflags(X509CheckFlags::NO_WILDCARDS | X509CheckFlags::NEVER_CHECK_SUBJECT);
+    asked.set_host(PEER_NAME)?;
+    Ok(builder.build())
+}
+
 /// Whether the certificate has the name of peers.
-fn is_peer(certificate: &Certificate) -> bool {
-    let name = webpki::DnsNameRef::try_from_ascii_str(PEER_NAME);
-    let certificate = webpki::EndEntityCert::try_from(certificate.0.as_slice());
-    matches!((name, certificate), (Ok(name), Ok(certificate))
-        if certificate.verify_is_valid_for_dns_name(name).is_ok())
+fn is_peer(certificate: &X509Ref) -> bool {
+    let names = certificate.subject_alt_names();
+    let mut names = names.iter().flatten().filter_map(|it| it.dnsname());
+    names.any(|it| it.eq_ignore_ascii_case(PEER_NAME))
 }
 
 fn met(
@@ -97,9 +100,8 @@ fn met(
 ) -> io::Result<(ReadHalf, WriteHalf)> {
     socket.set_nodelay(true)?;
     shake(&mut connection, &socket, within)?;
-    // The accepting side has no other look at the name.
-    let shown = connection.peer_certificates().and_then(|it| it.first());
-    if !shown.is_some_and(is_peer) {
+    // OpenSSL has checked the name already. We check it again because only the name tells a peer from a client.
+    if !connection.shown().is_some_and(|it| is_peer(&it)) {
         let why = format!("the other side's certificate hasn't the name {PEER_NAME}");
         return Err(io::Error::new(ErrorKind::InvalidData, why));
     }

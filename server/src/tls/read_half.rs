@@ -19,9 +19,6 @@ pub struct ReadHalf {
 struct Received {
     shared: Arc<Shared>,
     buffer: Box<[u8]>,
-    /// Which part of the buffer wasn't looked at yet.
-    begin: usize,
-    end: usize,
 }
 
 impl ReadHalf {
@@ -34,8 +31,6 @@ impl ReadHalf {
         let tls = Some(Received {
             shared,
             buffer: vec![0; ROOM].into(),
-            begin: 0,
-            end: 0,
         });
         ReadHalf { socket, tls }
     }
@@ -68,42 +63,17 @@ impl Read for ReadHalf {
             return self.socket.read(bytes);
         };
         loop {
-            match tls.take(bytes) {
+            // If OpenSSL has to answer something, the answer waits until the other half writes.
+            match tls.shared.lock().open(bytes) {
                 Err(error) if error.kind() == ErrorKind::WouldBlock => {}
-                taken => return taken,
+                opened => return opened,
             }
-            tls.begin = 0;
-            tls.end = 0;
             let count = self.socket.read(&mut tls.buffer)?;
+            let mut connection = tls.shared.lock();
             match count {
-                0 => tls.note_end()?,
-                _ => tls.end = count,
+                0 => connection.note_end(),
+                _ => connection.feed(&tls.buffer[..count]),
             }
         }
-    }
-}
-
-impl Received {
-    /// Takes what can be read of what came; `WouldBlock` where more has to come first.
-    fn take(&mut self, bytes: &mut [u8]) -> io::Result<usize> {
-        let mut connection = self.shared.lock();
-        loop {
-            match connection.reader().read(bytes) {
-                Err(error) if error.kind() == ErrorKind::WouldBlock => {}
-                taken => return taken,
-            }
-            if self.begin == self.end {
-                return Err(ErrorKind::WouldBlock.into());
-            }
-            let mut rest = &self.buffer[self.begin..self.end];
-            self.begin += connection.read_tls(&mut rest)?;
-            let invalid = |error| io::Error::new(ErrorKind::InvalidData, error);
-            connection.process_new_packets().map_err(invalid)?;
-        }
-    }
-
-    /// Notes that the socket has ended.
-    fn note_end(&mut self) -> io::Result<()> {
-        self.shared.lock().read_tls(&mut io::empty()).map(drop)
     }
 }

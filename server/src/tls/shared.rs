@@ -1,4 +1,4 @@
-use rustls::Connection;
+use super::Connection;
 use std::sync::{Mutex, MutexGuard, PoisonError};
 
 /// What both halves of a connection share. The lock is held while bytes are made out of bytes, and never while a socket

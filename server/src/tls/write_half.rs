@@ -6,8 +6,6 @@ use std::time::Duration;
 
 /// How long the end may take to tell.
 const LAST: Duration = Duration::from_millis(10);
-/// The most bytes that one record of TLS holds.
-const RECORD: usize = 16 << 10;
 
 /// What sends bytes to a peer, on a thread of its own if it likes. Bytes are sent by the time that `write` returns, so
 /// who sends much puts a buffer before it; and of those by which it fails the peer reads none. Once it is dropped the
@@ -63,16 +61,9 @@ impl WriteHalf {
     fn seal(&mut self, shared: &Shared, bytes: &[u8]) -> io::Result<usize> {
         self.sealed.clear();
         let mut connection = shared.lock();
-        // All that went in before was taken out, so there is room.
-        let count = match bytes {
-            [] => 0,
-            _ => connection
-                .writer()
-                .write(&bytes[..bytes.len().min(RECORD)])?,
-        };
-        while connection.wants_write() {
-            connection.write_tls(&mut self.sealed)?;
-        }
+        let count = connection.seal(bytes)?;
+        self.sealed.extend_from_slice(connection.unsent());
+        connection.note_sent(self.sealed.len());
         Ok(count)
     }
 
@@ -112,7 +103,7 @@ impl Write for WriteHalf {
 impl Drop for WriteHalf {
     fn drop(&mut self) {
         if let Some(shared) = self.tls.take() {
-            shared.lock().send_close_notify();
+            shared.lock().close();
             // A peer that takes no bytes isn't waited for: it finds out by the socket's end.
             if self.socket.set_write_timeout(Some(LAST)).is_ok() {
                 let _ = self.seal(&shared, &[]).and_then(|_| self.send());

@@ -1,10 +1,9 @@
-use super::tls;
+use super::tls::Tls;
 use hyper::http::uri::Scheme;
 use hyper::Uri;
-use rustls::ClientConfig;
+use openssl::error::ErrorStack;
 use std::fmt;
 use std::io;
-use std::net::IpAddr;
 use std::path::PathBuf;
 use std::time::Duration;
 use thiserror::Error;
@@ -45,10 +44,11 @@ impl Access {
         }
     }
 
-    /// How TLS is spoken: where no member asks for it, nobody is trusted.
-    pub(super) fn tls(&self) -> Result<ClientConfig, StartError> {
-        let is_asked = self.endpoints.iter().any(|it| it.starts_with("https:"));
-        tls::config(is_asked, self.roots.as_deref(), self.identity.as_ref())
+    /// How to speak TLS, if a member's address asks for it. Otherwise no file is read.
+    pub(super) fn tls(&self) -> Result<Option<Tls>, StartError> {
+        let is_asked = self.members()?.iter().any(|it| it.starts_with("https:"));
+        let tls = is_asked.then(|| Tls::new(self.roots.as_deref(), self.identity.as_ref()));
+        tls.transpose()
     }
 }
 
@@ -70,11 +70,8 @@ fn member(endpoint: &str) -> Result<String, StartError> {
     else {
         return Err(bad());
     };
-    let host = authority.host().trim_matches(['[', ']']);
-    if *scheme == Scheme::HTTPS && host.parse::<IpAddr>().is_ok() {
-        return Err(StartError::NoName(endpoint.to_owned()));
-    }
-    match *scheme == Scheme::HTTP || *scheme == Scheme::HTTPS {
+    let is_spoken = *scheme == Scheme::HTTP || *scheme == Scheme::HTTPS;
+    match is_spoken && !authority.host().is_empty() {
         true => Ok(format!("{scheme}://{authority}")),
         false => Err(bad()),
     }
@@ -89,14 +86,12 @@ pub enum StartError {
     /// An address can't be read.
     #[error("{0} is no address of a member, as http://10.0.0.1:2379 is")]
     BadEndpoint(String),
-    /// An address asks for TLS, and has no name.
-    #[error(
-        "{0} has no name, of which a certificate could be: write it as https://etcd.example:2379"
-    )]
-    NoName(String),
     /// A file of certificates or of a key can't be used.
     #[error("the file {0} can't be used: {1}")]
     BadFile(PathBuf, String),
+    /// OpenSSL gives no TLS.
+    #[error("OpenSSL gives no TLS: {0}")]
+    Tls(#[from] ErrorStack),
     /// The system gives no thread.
     #[error("the system gives no thread: {0}")]
     Thread(#[from] io::Error),

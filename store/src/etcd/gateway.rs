@@ -1,12 +1,11 @@
 use super::call_error::{CallError, Refusal};
+use super::connector::Connector;
 use super::pulse::Pulse;
 use super::stream::{Stream, LONGEST};
 use super::wire::{Range, Streamed};
 use super::{Access, StartError};
 use hyper::body::HttpBody;
-use hyper::client::HttpConnector;
 use hyper::{header, Body, Client, Request, Response};
-use hyper_rustls::{HttpsConnector, HttpsConnectorBuilder};
 use serde::de::{DeserializeOwned, IgnoredAny};
 use serde::{Deserialize, Serialize};
 use std::future::Future;
@@ -26,13 +25,15 @@ const LONG: Duration = Duration::from_secs(30);
 const SHORT: Duration = Duration::from_secs(2);
 /// How long a member may take to keep a lease, so that another one keeps it in time.
 const BRIEF: Duration = Duration::from_secs(1);
+/// How long a member may take to be reached, and then for the handshake of TLS.
+const REACH: Duration = Duration::from_secs(1);
 /// What has a member end a stream once it reaches none that leads.
 const HAS_LEADER: (&str, &str) = ("Grpc-Metadata-hasleader", "true");
 
 /// The gateways of the members: a call goes to the member that answered last, and to the next where it can't be
 /// reached.
 pub(super) struct Gateway {
-    client: Client<HttpsConnector<HttpConnector>>,
+    client: Client<Connector>,
     members: Vec<String>,
     current: AtomicUsize,
     access: Access,
@@ -54,19 +55,8 @@ struct Authenticated {
 
 impl Gateway {
     pub(super) fn new(access: Access) -> Result<Gateway, StartError> {
-        let mut connector = HttpConnector::new();
-        connector.enforce_http(false);
-        connector.set_nodelay(true);
-        connector.set_keepalive(Some(Duration::from_secs(5)));
-        connector.set_connect_timeout(Some(access.patience.min(Duration::from_secs(1))));
-        let https = HttpsConnectorBuilder::new()
-            .with_tls_config(access.tls()?)
-            .https_or_http()
-            .enable_http1();
-        let (client, members) = (
-            Client::builder().build(https.wrap_connector(connector)),
-            access.members()?,
-        );
+        let connector = Connector::new(access.tls()?, access.patience.min(REACH));
+        let (client, members) = (Client::builder().build(connector), access.members()?);
         Ok(Gateway {
             client,
             pulses: members.iter().map(|_| Pulse::default()).collect(),

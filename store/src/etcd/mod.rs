@@ -2,7 +2,9 @@
 mod access;
 mod call_error;
 mod caller;
+mod connector;
 mod gateway;
+mod link;
 mod pulse;
 mod stream;
 mod tls;

@@ -93,7 +93,7 @@ impl Answers {
 mod tests {
     use super::*;
     use crate::body::MAX_TEXT;
-    use crate::command::data::DataWord;
+    use crate::command::by_key::ByKey;
     use crate::resp::MAX_REPLY;
     use std::sync::mpsc::channel;
 
@@ -122,7 +122,7 @@ mod tests {
 
     #[test]
     fn parts_of_one_reply_have_its_bound() {
-        let join = Join::Each(DataWord::MGet);
+        let join = Join::Each(ByKey::MGet);
         // Each text has 10 bytes more as a part of the reply.
         let mut lengths = vec![MAX_TEXT; 128];
         lengths[127] = MAX_REPLY - b"*128\r\n".len() - 127 * (MAX_TEXT + 10) - 10;
@@ -137,7 +137,7 @@ mod tests {
     }
 
     /// What a command with a key for each of these parts is answered, but for where its advice begins.
-    fn told_of(word: DataWord, parts: &[&str]) -> String {
+    fn told_of(word: ByKey, parts: &[&str]) -> String {
         let (tell, told) = channel();
         let reply_to = ReplyTo::process(move |bytes| tell.send(bytes).unwrap());
         let join = Join::Each(word);
@@ -153,25 +153,17 @@ mod tests {
     fn a_refusal_of_one_key_hides_no_write_of_another() {
         let in_part = "-UNKNOWN some of these keys are written, or may be, and others aren't";
         for (word, parts, answer) in [
-            (DataWord::MSet, &["+OK", "-STOREDOWN a"][..], in_part),
-            (DataWord::MSet, &["-STOREDOWN a", "-UNKNOWN b"], in_part),
-            (DataWord::Del, &[":0", "-PEERDOWN a", ":1"], in_part),
-            (DataWord::Del, &["-UNKNOWN a", "-UNKNOWN b"], in_part),
+            (ByKey::MSet, &["+OK", "-STOREDOWN a"][..], in_part),
+            (ByKey::MSet, &["-STOREDOWN a", "-UNKNOWN b"], in_part),
+            (ByKey::Del, &[":0", "-PEERDOWN a", ":1"], in_part),
+            (ByKey::Del, &["-UNKNOWN a", "-UNKNOWN b"], in_part),
             (
-                DataWord::MSet,
+                ByKey::MSet,
                 &["-SHARDPAUSED a", "-STOREDOWN b"],
                 "-SHARDPAUSED a",
             ),
-            (
-                DataWord::MGet,
-                &["*1\r\n:1", "-STOREDOWN a"],
-                "-STOREDOWN a",
-            ),
-            (
-                DataWord::Exists,
-                &[":1", "-SHARDPAUSED a"],
-                "-SHARDPAUSED a",
-            ),
+            (ByKey::MGet, &["*1\r\n:1", "-STOREDOWN a"], "-STOREDOWN a"),
+            (ByKey::Exists, &[":1", "-SHARDPAUSED a"], "-SHARDPAUSED a"),
         ] {
             assert_eq!(told_of(word, parts), answer, "{parts:?}");
         }

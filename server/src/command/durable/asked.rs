@@ -7,6 +7,7 @@ use super::query::Query;
 use super::together::Together;
 use super::walk::{Walk, Walker};
 use crate::cluster::Cluster;
+use crate::command::by_key::ByKey;
 use crate::command::data::DataWord;
 use crate::command::transaction::Transaction;
 use crate::io::ReplyTo;
@@ -28,7 +29,7 @@ enum What {
     /// A command with keys of this shard, to which its client gave this number.
     Numbered(u16, Numbered, (DataWord, OwnedCommand)),
     /// One command with keys of several shards, each by itself.
-    Each(DataWord, Vec<(u16, OwnedCommand)>),
+    Each(ByKey, Vec<(u16, OwnedCommand)>),
     /// The commands of EXEC.
     Together(u16, Box<Transaction>),
     /// What goes over shards, one after another.
@@ -62,7 +63,7 @@ impl Asked {
     /// A command by its keys: for each its shard, and the command for it alone.
     pub(in crate::command) fn each(
         protocol: Protocol,
-        word: DataWord,
+        word: ByKey,
         parts: Vec<(u16, OwnedCommand)>,
     ) -> Asked {
         let what = What::Each(word, parts);
@@ -110,7 +111,7 @@ impl Asked {
             What::Each(word, parts) => {
                 let answers = Answers::new(parts.len(), 1, protocol, Join::Each(word), reply_to);
                 for (place, (shard, command)) in parts.into_iter().enumerate() {
-                    let step = Keyed::step((word, command), shard, answers.clone(), place);
+                    let step = Keyed::step((word.word(), command), shard, answers.clone(), place);
                     durable.submit(shard, vec![step]);
                 }
             }
@@ -154,7 +155,7 @@ fn submit_numbered(
 /// Has all shards count their keys, each by itself.
 fn count(durable: &Durable, protocol: Protocol, reply_to: ReplyTo) {
     let shards = durable.shards();
-    let join = Join::Each(DataWord::Exists);
+    let join = Join::Each(ByKey::Exists);
     let answers = Answers::new(shards.into(), 1, protocol, join, reply_to);
     for shard in 0..shards {
         let answers = answers.clone();

@@ -46,7 +46,15 @@ pub(super) fn keys_of<'a>(
     let (step, most) = match word {
         DataWord::MSet => (2, usize::MAX),
         DataWord::MGet | DataWord::Del | DataWord::Exists => (1, usize::MAX),
-        _ => (1, 1),
+        DataWord::Append
+        | DataWord::Decr
+        | DataWord::DecrBy
+        | DataWord::Get
+        | DataWord::Incr
+        | DataWord::IncrBy
+        | DataWord::Set
+        | DataWord::StrLen
+        | DataWord::Type => (1, 1),
     };
     let keys = command.from(1).iter().step_by(step).take(most);
     keys.map(Key::from).collect::<Vec<_>>().into_iter()

@@ -3,6 +3,7 @@ use super::ranging::Ranging;
 use super::scanning::Scanning;
 use super::Asked;
 use crate::body::MAX_TEXT;
+use crate::command::by_key::ByKey;
 use crate::command::cursors::{Cursors, OwnCursors};
 use crate::command::data::DataWord;
 use crate::command::reader::Reader;
@@ -87,7 +88,17 @@ fn run_of(
 fn texts_of(word: DataWord, command: Command<'_>) -> usize {
     match word {
         DataWord::MGet | DataWord::Exists => command.len() - 1,
-        _ => 1,
+        DataWord::Append
+        | DataWord::Decr
+        | DataWord::DecrBy
+        | DataWord::Del
+        | DataWord::Get
+        | DataWord::Incr
+        | DataWord::IncrBy
+        | DataWord::MSet
+        | DataWord::Set
+        | DataWord::StrLen
+        | DataWord::Type => 1,
     }
 }
 
@@ -96,14 +107,14 @@ type Parts = Vec<(u16, OwnedCommand)>;
 
 /// The command by its keys.
 fn each(
-    word: DataWord,
+    word: ByKey,
     command: Command<'_>,
     keyspace: &Keyspace,
     protocol: Protocol,
 ) -> Result<Asked, Fault> {
     let parts = match word {
-        DataWord::MSet => pairs(command, keyspace)?,
-        _ => keys(command, keyspace)?,
+        ByKey::MSet => pairs(command, keyspace)?,
+        ByKey::Del | ByKey::Exists | ByKey::MGet => keys(command, keyspace)?,
     };
     Ok(Asked::each(protocol, word, parts))
 }
@@ -167,7 +178,8 @@ fn asked_by(
             }
             Ok(Some(Asked::together(protocol, shard, transaction)))
         }
-        _ => Ok(None),
+        // Of these nothing is asked of shards.
+        Word::Data(_) | Word::Talk(_) | Word::Multi | Word::Discard | Word::Control => Ok(None),
     }
 }
 
@@ -201,7 +213,7 @@ fn called(
     };
     let inner = command.from(4);
     let spec = Spec::of(inner)?;
-    let (Word::Data(word), Some(shard)) = (spec.word, spec.place(inner, keyspace)?.one()?) else {
+    let (Some(word), Some(shard)) = (spec.word.data(), spec.place(inner, keyspace)?.one()?) else {
         return Err(Fault::NotNumbered);
     };
     if written_once(word, inner).is_none() {
@@ -214,9 +226,18 @@ fn called(
 
 /// Whether a transaction may have the command: one with keys, or that is answered from itself.
 fn may_queue(command: Command<'_>) -> Result<(), Fault> {
+    use TalkWord::*;
     match Spec::queued(command)?.word {
-        Word::Data(_) | Word::Talk(TalkWord::Ping | TalkWord::Echo | TalkWord::Select) => Ok(()),
-        _ => Err(Fault::NotDurable("a transaction of this command")),
+        Word::Data(_) | Word::Talk(Ping | Echo | Select) => Ok(()),
+        Word::Talk(
+            Acl | Auth | Client | Command | Config | DbSize | Hello | Info | Quit | Reset,
+        )
+        | Word::Multi
+        | Word::Exec
+        | Word::Discard
+        | Word::Scan
+        | Word::ScanRange
+        | Word::Control => Err(Fault::NotDurable("a transaction of this command")),
     }
 }
 

@@ -1,4 +1,4 @@
-use crate::command::data::DataWord;
+use crate::command::by_key::ByKey;
 use crate::command::Fault;
 use crate::resp::{Replies, MAX_ARGUMENTS, MAX_REPLY};
 
@@ -13,7 +13,7 @@ pub(super) enum Join {
     /// One after another: each answers a command, or all.
     InOrder,
     /// To one command with several keys, of which each part answers that for one.
-    Each(DataWord),
+    Each(ByKey),
 }
 
 impl Join {
@@ -45,12 +45,11 @@ fn in_order(parts: Vec<Option<Replies>>, empty: Replies) -> Replies {
 
 /// The answer to the command of which these are for each of its keys: a refusal of one is that of all, unless the
 /// others may have been written.
-fn of_each(word: DataWord, parts: Vec<Option<Replies>>, mut answer: Replies) -> Replies {
+fn of_each(word: ByKey, parts: Vec<Option<Replies>>, mut answer: Replies) -> Replies {
     let count = parts.len();
     let mut parts: Vec<Replies> = parts.into_iter().flatten().collect();
     if let Some(place) = parts.iter().position(|it| it.error_count() > 0) {
-        let writes = matches!(word, DataWord::MSet | DataWord::Del);
-        if writes && count > 1 && parts.iter().any(may_be_made) {
+        if word.writes() && count > 1 && parts.iter().any(may_be_made) {
             answer.error(Fault::InPart);
             return answer;
         }
@@ -58,14 +57,16 @@ fn of_each(word: DataWord, parts: Vec<Option<Replies>>, mut answer: Replies) -> 
     }
     let (is_whole, mark) = (parts.len() == count, answer.mark());
     match word {
-        DataWord::MSet => answer.ok(),
-        DataWord::MGet => {
+        ByKey::MSet => answer.ok(),
+        ByKey::MGet => {
             answer.array(count);
             for part in parts {
                 answer.append(&part.unsent()[ARRAY_OF_ONE.len()..]);
             }
         }
-        _ => answer.count(parts.iter().map(|it| count_of(it.unsent())).sum()),
+        ByKey::Del | ByKey::Exists => {
+            answer.count(parts.iter().map(|it| count_of(it.unsent())).sum())
+        }
     }
     if !is_whole || answer.is_too_large(mark) {
         answer.take_back(mark);

@@ -98,11 +98,20 @@ impl Keyed {
             DataWord::Del => {
                 answer.count(replies.iter().filter(|it| **it == Reply::Done).count());
             }
-            _ => match replies.first() {
-                Some(Reply::Count(sum)) => answer.number(*sum),
-                Some(Reply::Overflow) => return Err(Fault::Overflow),
-                _ => return Err(Fault::NotInteger),
-            },
+            DataWord::Decr | DataWord::DecrBy | DataWord::Incr | DataWord::IncrBy => {
+                match replies.first() {
+                    Some(Reply::Count(sum)) => answer.number(*sum),
+                    Some(Reply::Overflow) => return Err(Fault::Overflow),
+                    _ => return Err(Fault::NotInteger),
+                }
+            }
+            // These write nothing, or read first.
+            DataWord::Append
+            | DataWord::Exists
+            | DataWord::Get
+            | DataWord::MGet
+            | DataWord::StrLen
+            | DataWord::Type => return Err(Fault::NotNumbered),
         }
         Ok(())
     }

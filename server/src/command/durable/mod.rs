@@ -18,4 +18,4 @@ mod walk;
 
 pub use asked::Asked;
 pub(super) use gather::gather;
-pub use spelling::step_of_spelled;
+pub use spelling::{is_numbered, step_of_spelled, table_of_spelled};

@@ -8,7 +8,7 @@ use super::query::Query;
 use super::together::Together;
 use crate::cluster::Cluster;
 use crate::command::data::DataWord;
-use crate::command::spec::{Place, Spec, Word};
+use crate::command::spec::{Place, Spec, FIRST_TABLE, TABLE};
 use crate::command::transaction::Transaction;
 use crate::io::ReplyTo;
 use crate::keyspace::Keyspace;
@@ -104,6 +104,28 @@ pub fn step_of_spelled(
     }
 }
 
+/// Whether the work that is spelled so has a number of its client, by which it may have been made before.
+pub fn is_numbered(bytes: &[u8]) -> bool {
+    bytes.get(1) == Some(&NUMBERED)
+}
+
+/// The first version of the table of commands that has all commands of the work that is spelled so.
+pub fn table_of_spelled(bytes: &[u8]) -> u16 {
+    let kind = bytes.get(1).copied();
+    let mut rest = match kind {
+        Some(KEYED | TOGETHER) => &bytes[2..],
+        Some(NUMBERED) => number_of(&bytes[2..]).map_or(&[][..], |it| it.1),
+        _ => &[],
+    };
+    let mut table = FIRST_TABLE;
+    while let Some((command, end)) = OwnedCommand::first_spelled(rest) {
+        let found = Spec::named(command.command().get(0));
+        table = table.max(found.map_or(TABLE, |it| it.since));
+        rest = &rest[end..];
+    }
+    table
+}
+
 /// The number that a client gave, and what follows it.
 fn number_of(bytes: &[u8]) -> Option<(Numbered, &[u8])> {
     let (client, rest) = bytes.split_first_chunk()?;
@@ -117,10 +139,8 @@ fn command_of(bytes: &[u8], shard: u16, keyspace: &Keyspace) -> Option<(DataWord
     let command = OwnedCommand::spelled(bytes)?;
     let spec = Spec::of(command.command()).ok()?;
     let place = spec.place(command.command(), keyspace).ok()?;
-    match (spec.word, place) {
-        (Word::Data(word), Place::Shard(of)) if of == shard => Some((word, command)),
-        _ => None,
-    }
+    let word = spec.word.data().filter(|_| place == Place::Shard(shard))?;
+    Some((word, command))
 }
 
 /// The transaction whose keys are of this shard alone.
@@ -203,6 +223,7 @@ mod tests {
         for bytes in &spelled {
             let step = place.step(bytes, 0).unwrap();
             assert_eq!(&step.work.spell(), bytes);
+            assert_eq!(table_of_spelled(bytes), FIRST_TABLE);
             assert!(place.step(bytes, 1).is_none());
         }
         let listing = spell_listing(Protocol::Two, &Query::Count);

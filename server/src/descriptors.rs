@@ -1,0 +1,123 @@
+//! How many files the system lets the process have open, and for what some of them are kept.
+use rustix::process::{getrlimit, setrlimit, Resource, Rlimit};
+
+/// Kept for what the process opens by itself: its log, listeners, files of the store and of dumps.
+const OWN: usize = 64;
+/// How many a thread for clients has.
+const OF_THREAD: usize = 4;
+/// How many connections the page has at most.
+pub const MOST_OF_PAGE: usize = 256;
+/// How many a process that has just connected may take, and how many of these there are at most.
+const STRANGERS: usize = 3 * 64;
+/// How many each other process of the cluster takes: a connection to it and one of it, each with copies.
+const OF_PEER: usize = 6;
+
+/// What descriptors are kept for, beside clients.
+#[derive(Clone, Copy, Debug)]
+pub struct Needs {
+    /// Threads for clients.
+    pub threads: usize,
+    /// Whether there is a page.
+    pub has_page: bool,
+    /// Other processes of the cluster, if it has several.
+    pub peers: Option<usize>,
+}
+
+impl Needs {
+    /// How many descriptors that takes.
+    fn count(self) -> usize {
+        let page = if self.has_page { MOST_OF_PAGE } else { 0 };
+        let peers = self.peers.map_or(0, |it| STRANGERS + OF_PEER * it);
+        OWN + OF_THREAD * self.threads + page + peers
+    }
+}
+
+/// How the process' descriptors are shared out.
+#[derive(Clone, Copy, Debug, PartialEq, Eq)]
+pub struct Descriptors {
+    /// How many there are in all.
+    pub most: usize,
+    /// How many connections of clients may have.
+    pub of_clients: usize,
+    /// How many connections to the page may have.
+    pub of_page: usize,
+}
+
+impl Descriptors {
+    /// Raises the process' soft limit to its hard one, as Redis does, and shares out what there is then.
+    pub fn raised(needs: Needs) -> Descriptors {
+        Descriptors::shared(raised(), needs)
+    }
+
+    /// Shares out so many. Clients get at least half, however few there are.
+    fn shared(most: usize, needs: Needs) -> Descriptors {
+        let kept = needs.count().min(most / 2);
+        Descriptors {
+            most,
+            of_clients: most - kept,
+            of_page: MOST_OF_PAGE.min(kept / 2).max(1),
+        }
+    }
+}
+
+/// How many descriptors the process may have, once that is as many as it may ask for.
+fn raised() -> usize {
+    let Rlimit { current, maximum } = getrlimit(Resource::Nofile);
+    let raised = Rlimit {
+        current: maximum,
+        maximum,
+    };
+    let current = match setrlimit(Resource::Nofile, raised) {
+        Ok(()) => maximum,
+        Err(error) => {
+            tracing::warn!(%error, "the soft limit of open files stays");
+            current
+        }
+    };
+    // None is no limit.
+    current.map_or(usize::MAX, |it| usize::try_from(it).unwrap_or(usize::MAX))
+}
+
+#[cfg(test)]
+mod tests {
+    use super::*;
+
+    const NEEDS: Needs = Needs {
+        threads: 3,
+        has_page: true,
+        peers: None,
+    };
+
+    #[test]
+    fn what_is_kept_back_isnt_for_clients() {
+        let shared = Descriptors::shared(1_024, NEEDS);
+        assert_eq!(shared.of_clients, 1_024 - 64 - 12 - 256);
+        let without_page = Needs {
+            has_page: false,
+            ..NEEDS
+        };
+        let shared = Descriptors::shared(1_024, without_page);
+        assert_eq!(shared.of_clients, 1_024 - 64 - 12);
+        let among_others = Needs {
+            peers: Some(2),
+            ..NEEDS
+        };
+        let shared = Descriptors::shared(65_536, among_others);
+        assert_eq!(shared.of_clients, 65_536 - 64 - 12 - 256 - 192 - 12);
+        assert_eq!(shared.of_page, MOST_OF_PAGE);
+    }
+
+    #[test]
+    fn few_descriptors_are_halved() {
+        let shared = Descriptors::shared(100, NEEDS);
+        assert_eq!((shared.of_clients, shared.of_page), (50, 25));
+    }
+
+    #[test]
+    fn the_soft_limit_is_the_hard_one() {
+        let most = raised();
+        let limit = getrlimit(Resource::Nofile);
+        assert_eq!(limit.current, limit.maximum);
+        assert!(limit.current.is_none_or(|it| it as usize == most));
+    }
+}

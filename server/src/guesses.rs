@@ -1,0 +1,122 @@
+//! How guesses of passwords are slowed.
+use std::collections::HashMap;
+use std::net::IpAddr;
+use std::sync::{Mutex, PoisonError};
+use std::time::{Duration, Instant};
+
+/// How many wrong passwords cost nothing, as of who mistypes one.
+const FREE: u32 = 3;
+/// For how long a guess waits at first, each next one twice as long, and at most.
+const FIRST: Duration = Duration::from_millis(10);
+const LONGEST: Duration = Duration::from_secs(1);
+/// After how long without a wrong password those before are forgotten.
+const FORGOTTEN: Duration = Duration::from_secs(60);
+/// How many origins are known at a time.
+const MOST: usize = 4_096;
+
+/// Where clients connect from: an address, or of version 6 the network that one place has.
+#[derive(Clone, Copy, Debug, PartialEq, Eq, Hash)]
+pub struct Origin(u64);
+
+impl From<IpAddr> for Origin {
+    fn from(address: IpAddr) -> Origin {
+        match address.to_canonical() {
+            IpAddr::V4(four) => Origin(u32::from(four).into()),
+            // No network of these begins with so many zeros.
+            IpAddr::V6(six) => Origin((u128::from(six) >> 64) as u64),
+        }
+    }
+}
+
+/// From where wrong passwords came lately.
+#[derive(Debug, Default)]
+pub struct Guesses {
+    wrong: Mutex<HashMap<Origin, Wrong>>,
+}
+
+#[derive(Clone, Copy, Debug)]
+struct Wrong {
+    count: u32,
+    last: Instant,
+}
+
+impl Wrong {
+    fn is_forgotten(&self) -> bool {
+        self.last.elapsed() >= FORGOTTEN
+    }
+}
+
+impl Guesses {
+    /// For how long a guess from there waits before it is looked at, of a connection that gave so many wrong ones.
+    pub fn wait(&self, origin: Origin, of_connection: u32) -> Duration {
+        let wrong = self.wrong.lock().unwrap_or_else(PoisonError::into_inner);
+        let found = wrong.get(&origin).filter(|it| !it.is_forgotten());
+        let of_origin = found.map_or(0, |it| it.count);
+        wait_after(of_origin.max(of_connection))
+    }
+
+    /// Notes that a wrong password came from there. Where too many origins are known the oldest is forgotten.
+    pub fn note_wrong(&self, origin: Origin) {
+        let mut wrong = self.wrong.lock().unwrap_or_else(PoisonError::into_inner);
+        if wrong.len() >= MOST && !wrong.contains_key(&origin) {
+            wrong.retain(|_, it| !it.is_forgotten());
+            let oldest = wrong.iter().min_by_key(|it| it.1.last).map(|it| *it.0);
+            oldest
+                .filter(|_| wrong.len() >= MOST)
+                .map(|it| wrong.remove(&it));
+        }
+        let last = Instant::now();
+        let found = wrong.entry(origin).or_insert(Wrong { count: 0, last });
+        let before = if found.is_forgotten() { 0 } else { found.count };
+        let count = before.saturating_add(1);
+        *found = Wrong { count, last };
+    }
+}
+
+/// For how long a guess waits after so many wrong ones.
+fn wait_after(wrong: u32) -> Duration {
+    match wrong.checked_sub(FREE) {
+        None => Duration::ZERO,
+        Some(more) => LONGEST.min(FIRST.saturating_mul(1 << more.min(16))),
+    }
+}
+
+#[cfg(test)]
+mod tests {
+    use super::*;
+
+    fn origin(address: &str) -> Origin {
+        address.parse::<IpAddr>().unwrap().into()
+    }
+
+    #[test]
+    fn each_wrong_password_makes_the_next_guess_wait_longer() {
+        let (guesses, here, there) = (Guesses::default(), origin("10.0.0.1"), origin("10.0.0.2"));
+        let waits = (0..12).map(|_| {
+            guesses.note_wrong(here);
+            guesses.wait(here, 0).as_millis()
+        });
+        let wanted = [0, 0, 10, 20, 40, 80, 160, 320, 640, 1_000, 1_000, 1_000];
+        assert_eq!(waits.collect::<Vec<_>>(), wanted);
+        assert_eq!(guesses.wait(there, 2), Duration::ZERO);
+        assert_eq!(guesses.wait(there, 4), 2 * FIRST);
+        (0..200).for_each(|_| guesses.note_wrong(here));
+        assert_eq!(guesses.wait(here, u32::MAX), LONGEST);
+    }
+
+    #[test]
+    fn a_place_has_one_origin() {
+        assert_eq!(origin("::ffff:10.0.0.1"), origin("10.0.0.1"));
+        assert_eq!(origin("2001:db8:1:2:3::4"), origin("2001:db8:1:2::"));
+        assert_ne!(origin("2001:db8:1:2::"), origin("2001:db8:1:3::"));
+    }
+
+    #[test]
+    fn no_more_origins_are_known_than_there_is_room_for() {
+        let guesses = Guesses::default();
+        for number in 0..3 * MOST as u32 {
+            guesses.note_wrong(IpAddr::V4(number.into()).into());
+        }
+        assert_eq!(guesses.wrong.lock().unwrap().len(), MOST);
+    }
+}

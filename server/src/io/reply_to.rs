@@ -1,0 +1,121 @@
+use super::inlet::{Delivery, Inlet};
+use crate::stats::ErrorCounts;
+use std::fmt;
+use std::sync::Arc;
+
+/// How much of an answer stands in the log.
+const MOST_LOGGED: usize = 200;
+
+/// Where an answer goes, once.
+pub struct ReplyTo {
+    to: To,
+    /// What was asked for, where the log says what it came to.
+    asked: Option<Box<str>>,
+}
+
+enum To {
+    /// To a connection of a thread.
+    Connection {
+        inlet: Arc<Inlet>,
+        place: usize,
+        id: u64,
+    },
+    /// To another process.
+    Process(Box<dyn FnOnce(Vec<u8>) + Send>),
+    /// To another process, which asks elsewhere where nothing is done.
+    Asking(Box<dyn FnOnce(Option<Vec<u8>>) + Send>),
+}
+
+impl From<To> for ReplyTo {
+    fn from(to: To) -> ReplyTo {
+        let asked = None;
+        ReplyTo { to, asked }
+    }
+}
+
+impl ReplyTo {
+    /// To the connection with this number, at this place of the thread.
+    pub(super) fn connection(inlet: Arc<Inlet>, place: usize, id: u64) -> ReplyTo {
+        To::Connection { inlet, place, id }.into()
+    }
+
+    /// To another process, by who is given the answer.
+    pub fn process(tell: impl FnOnce(Vec<u8>) + Send + 'static) -> ReplyTo {
+        To::Process(Box::new(tell)).into()
+    }
+
+    /// To another process, by who is given the answer, or none where nothing was done: then it asks elsewhere.
+    pub fn asking_process(tell: impl FnOnce(Option<Vec<u8>>) + Send + 'static) -> ReplyTo {
+        To::Asking(Box::new(tell)).into()
+    }
+
+    /// Whether another process asked, which asks elsewhere where nothing is done.
+    pub fn asks_elsewhere(&self) -> bool {
+        matches!(self.to, To::Asking(_))
+    }
+
+    /// The same where the log says what the answer to these words is.
+    pub fn logged(self, asked: String) -> ReplyTo {
+        ReplyTo {
+            asked: Some(asked.into()),
+            ..self
+        }
+    }
+
+    /// Tells a process that asks elsewhere then that nothing was done.
+    ///
+    /// # Errors
+    ///
+    /// It itself, where no such process asked.
+    pub fn give_back(self) -> Result<(), ReplyTo> {
+        match self.to {
+            To::Asking(tell) => {
+                tell(None);
+                Ok(())
+            }
+            to => Err(ReplyTo { to, ..self }),
+        }
+    }
+
+    /// Counts the errors of an answer.
+    pub fn note_errors(&self, errors: ErrorCounts) {
+        if let To::Connection { inlet, .. } = &self.to {
+            inlet.stats().note_errors(errors);
+        }
+    }
+
+    /// Sends the answer.
+    pub fn send(self, bytes: Vec<u8>) {
+        self.send_of(bytes, 0);
+    }
+
+    /// Sends the answer to so many commands that weren't counted yet.
+    pub fn send_of(self, bytes: Vec<u8>, commands: u64) {
+        if let Some(asked) = &self.asked {
+            let line = bytes.split(|it| *it == b'\r').next().unwrap_or_default();
+            let told = line[..line.len().min(MOST_LOGGED)].escape_ascii();
+            tracing::info!(%asked, %told, "the control has answered");
+        }
+        match self.to {
+            To::Connection { inlet, place, id } => inlet.change(|it| {
+                it.answers.push(Delivery {
+                    place,
+                    id,
+                    bytes,
+                    commands,
+                });
+            }),
+            To::Process(tell) => tell(bytes),
+            To::Asking(tell) => tell(Some(bytes)),
+        }
+    }
+}
+
+impl fmt::Debug for ReplyTo {
+    fn fmt(&self, f: &mut fmt::Formatter<'_>) -> fmt::Result {
+        match &self.to {
+            To::Connection { place, id, .. } => write!(f, "ReplyTo({place}, {id})"),
+            To::Process(_) | To::Asking(_) => f.write_str("ReplyTo(process)"),
+        }
+    }
+}

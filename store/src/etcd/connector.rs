@@ -1,0 +1,74 @@
+use super::link::Link;
+use super::tls::Tls;
+use hyper::client::HttpConnector;
+use hyper::http::uri::Scheme;
+use hyper::service::Service;
+use hyper::Uri;
+use std::error::Error;
+use std::future::Future;
+use std::pin::Pin;
+use std::task::{Context, Poll};
+use std::time::Duration;
+use tokio::net::TcpStream;
+use tokio::time::timeout;
+use tokio_openssl::SslStream;
+
+/// Why a member isn't reached.
+pub(super) type Unreached = Box<dyn Error + Send + Sync>;
+
+/// Makes connections to members, by TLS if their addresses say so.
+#[derive(Clone)]
+pub(super) struct Connector {
+    plain: HttpConnector,
+    /// How to speak TLS, if an address asks for it.
+    tls: Option<Tls>,
+    /// How long the handshake may take.
+    patience: Duration,
+}
+
+impl Connector {
+    /// Gives a member this time to be reached, and the same again for the handshake.
+    pub(super) fn new(tls: Option<Tls>, patience: Duration) -> Connector {
+        let mut plain = HttpConnector::new();
+        plain.enforce_http(false);
+        plain.set_nodelay(true);
+        plain.set_keepalive(Some(Duration::from_secs(5)));
+        plain.set_connect_timeout(Some(patience));
+        Connector {
+            plain,
+            tls,
+            patience,
+        }
+    }
+}
+
+impl Service<Uri> for Connector {
+    type Response = Link;
+    type Error = Unreached;
+    type Future = Pin<Box<dyn Future<Output = Result<Link, Unreached>> + Send>>;
+
+    fn poll_ready(&mut self, context: &mut Context<'_>) -> Poll<Result<(), Unreached>> {
+        self.plain.poll_ready(context).map_err(Into::into)
+    }
+
+    fn call(&mut self, member: Uri) -> Self::Future {
+        let (tls, patience) = (self.tls.clone(), self.patience);
+        let reaching = self.plain.call(member.clone());
+        Box::pin(async move {
+            let socket = reaching.await?;
+            if member.scheme() != Some(&Scheme::HTTPS) {
+                return Ok(Link::Plain(socket));
+            }
+            let tls = tls.ok_or("no TLS is spoken here")?;
+            let host = member.host().unwrap_or_default();
+            timeout(patience, met(&tls, host, socket)).await?
+        })
+    }
+}
+
+/// Does the handshake with the member of this name or address.
+async fn met(tls: &Tls, host: &str, socket: TcpStream) -> Result<Link, Unreached> {
+    let mut stream = SslStream::new(tls.session(host)?, socket)?;
+    Pin::new(&mut stream).connect().await?;
+    Ok(Link::Tls(Box::new(stream)))
+}
