@@ -1,5 +1,6 @@
 //! What bench_publish of crate/ does, in Rust: reads of a map of 4,096 routes beside a publisher at the pace that it is given,
-//! by arc-swap (the publisher copies the map) and by a lock for readers and a writer; and look-ups of bounds alone.
+//! by arc-swap (the publisher copies the map) and by a lock for readers and a writer; and look-ups of bounds alone; and
+//! reads of routes by the library's router, of shards whose numbers are known.
 
 use arc_swap::ArcSwap;
 use std::hint::black_box;
@@ -108,6 +109,25 @@ fn look_up_all(bounds: &[Vec<u8>], from: usize) -> (u64, u64) {
     (start.elapsed().as_nanos() as u64, sum)
 }
 
+/// Reads the routes of shards chosen at random by a router of the library, and sums their generations.
+fn read_by_the_library() -> (u64, u64) {
+    let board = durkenzo::Board::builder().servers(1).build(vec![(); usize::from(SHARDS)]).expect("a board");
+    let routes = durkenzo::Routes::new(board.count()).expect("a map");
+    let mut pass = board.pass(1).expect("a pass");
+    for shard in 0..SHARDS {
+        board.control().assign(shard, 1).expect("a vacant shard");
+        routes.publish(&mut pass, shard).expect("a new route");
+    }
+    let mut router = routes.router().expect("a router");
+    let (mut choice, mut sum) = (FIRST_CHOICE, 0);
+    let start = Instant::now();
+    for _ in 0..READS {
+        choice = next(choice);
+        sum += router.route((choice >> 40) as u16 & (SHARDS - 1)).map_or(0, |it| it.generation);
+    }
+    (start.elapsed().as_nanos() as u64, sum)
+}
+
 fn publish_until(routes: &impl Routes, pace: Pace, stop: &AtomicBool) -> u64 {
     if pace == Pace::AtRest {
         return 0;
@@ -164,6 +184,10 @@ fn main() {
             let (nanoseconds, sum) = look_up_all(&bounds_of(from), from);
             println!("{} {}", nanoseconds / (READS / 1000), sum);
         }
-        _ => panic!("arc-swap, lock or bounds"),
+        "library" => {
+            let (nanoseconds, sum) = read_by_the_library();
+            println!("{} {}", nanoseconds / (READS / 1000), sum);
+        }
+        _ => panic!("arc-swap, lock, bounds or library"),
     }
 }

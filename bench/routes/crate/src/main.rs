@@ -1,12 +1,15 @@
 //! Times the reads of a published map of 4,096 shards beside a publisher at the pace that it is given, or the look-ups of a
-//! layout alone. Without arguments it only says how it is run, so that its output is the same each time.
+//! layout alone, or the reads of routes of shards whose numbers are known. Without arguments it only says how it is run,
+//! so that its output is the same each time.
 #![tactic(auto)]
 
-ghost use Rattle.std.specs.Prelude.{◌≤◌, ◌<◌};
+ghost use Rattle.std.specs.Prelude.{◌≡◌, ◌≤◌, ◌<◌, IfSome};
 
 use sm_ownership::route::Route;
 use sm_publish::publisher::Publisher;
 use sm_publish::router::Router;
+use sm_publish::word_publisher::WordPublisher;
+use sm_publish::word_router::WordRouter;
 use sm_ranges::layout::Layout;
 use sm_ranges::server_id::ServerId;
 use sm_ranges::shard_id::ShardId;
@@ -46,6 +49,10 @@ enum Task {
     ShortBounds,
     /// The same with bounds of 40 bytes that differ in the last two.
     LongBounds,
+    /// The reads of one router of a map in two copies, of shards whose numbers are known.
+    Copies,
+    /// The same of a map with a word for each shard.
+    Words,
 }
 
 /// A router, the state of its pseudo-random choice of keys, and what it has measured.
@@ -78,7 +85,9 @@ fn next(state: u64) -> u64 {
     state ^ (state << 17)
 }
 
-fn route_of(shard: u16, generation: u64) -> Option<Route> {
+fn route_of(shard: u16, generation: u64) -> Option<Route>
+    ensures { IfSome result (λ route. route.generation ≡ generation) }
+{
     Some(Route {
         shard: ShardId::new(shard)?,
         server: ServerId::new(1)?,
@@ -131,6 +140,71 @@ fn look_up_all<R: Clock>(rt: &R, layout: &Layout, from: usize) -> io::Result<(u6
     let start = Instant::now(rt)?;
     let sum = look_up_each(layout, from);
     Ok((nanoseconds_since(rt, start)?, sum))
+}
+
+/// A shard chosen at random, by the state of that choice.
+fn shard_of(choice: u64) -> Option<ShardId> {
+    ShardId::new(((choice >> 40) & 4095) as u16)
+}
+
+/// Reads the routes of shards chosen at random, and answers the sum of their generations.
+fn read_copies(router: &mut Router) -> u64 {
+    let mut choice = FIRST_CHOICE;
+    let mut sum = 0u64;
+    for _ in 0..READS {
+        choice = next(choice);
+        if let Some(shard) = shard_of(choice)
+            && let Some(route) = router.shard_route(shard)
+        {
+            sum = sum.wrapping_add(route.generation);
+        }
+    }
+    sum
+}
+
+/// The same by a router of words.
+fn read_words(router: &mut WordRouter) -> u64 {
+    let mut choice = FIRST_CHOICE;
+    let mut sum = 0u64;
+    for _ in 0..READS {
+        choice = next(choice);
+        if let Some(shard) = shard_of(choice)
+            && let Some(route) = router.route(shard)
+        {
+            sum = sum.wrapping_add(route.generation);
+        }
+    }
+    sum
+}
+
+/// Publishes each shard once, and times the reads: nanoseconds and the sum of the generations.
+fn time_copies<R: Clock + Wait>(rt: &R, alloc: Global) -> Option<(u64, u64)> {
+    let (mut publisher, mut routers) = Publisher::new(rt, alloc, SHARDS as usize, 1).ok()?;
+    publish_all(rt, &mut publisher);
+    let timed = match routers.pop() {
+        Some(router) => time_router(rt, router),
+        None => None,
+    };
+    publisher.end(rt);
+    timed
+}
+
+fn time_router<R: Clock>(rt: &R, mut router: Router) -> Option<(u64, u64)> {
+    let start = Instant::now(rt).ok()?;
+    let sum = read_copies(&mut router);
+    Some((nanoseconds_since(rt, start).ok()?, sum))
+}
+
+/// The same by words.
+fn time_words<R: Clock>(rt: &R, alloc: Global) -> Option<(u64, u64)> {
+    let mut publisher = WordPublisher::new(alloc, SHARDS as usize).ok()?;
+    for shard in 0..SHARDS {
+        let _refused = publisher.publish(route_of(shard, 1)?).is_err();
+    }
+    let mut router = publisher.router().ok()?;
+    let start = Instant::now(rt).ok()?;
+    let sum = read_words(&mut router);
+    Some((nanoseconds_since(rt, start).ok()?, sum))
 }
 
 /// Sleeps until so many milliseconds have passed since the start.
@@ -275,6 +349,8 @@ fn asked(words: &[String]) -> Option<Task> {
     match first {
         "bounds" if second == "2" => Some(Task::ShortBounds),
         "bounds" if second == "40" => Some(Task::LongBounds),
+        "shards" if second == "copies" => Some(Task::Copies),
+        "shards" if second == "words" => Some(Task::Words),
         _ => reads_of(first, second),
     }
 }
@@ -294,7 +370,7 @@ fn time_look_ups<R: Clock>(rt: &R, alloc: Global, from: usize) -> Option<(u64, u
     look_up_all(rt, &layout, from).ok()
 }
 
-/// Prints picoseconds and the sum of the shards.
+/// Prints picoseconds and the sum.
 fn print_look_ups(rt: &impl Print, timed: Option<(u64, u64)>) -> anyhow::Result<ExitCode> {
     let Some((nanoseconds, sum)) = timed else {
         return Ok(ExitCode::FAILURE);
@@ -366,6 +442,8 @@ fn run<R: Threads + Sync + Clock + Wait + Print>(
         Task::Reads { readers, pace } => { print_reads(rt, &time_reads(rt, alloc, readers, pace)) }
         Task::ShortBounds => print_look_ups(rt, time_look_ups(rt, alloc, LONG_BOUND - 2)),
         Task::LongBounds => print_look_ups(rt, time_look_ups(rt, alloc, 0)),
+        Task::Copies => print_look_ups(rt, time_copies(rt, alloc)),
+        Task::Words => print_look_ups(rt, time_words(rt, alloc)),
     }
 }
 
@@ -374,7 +452,9 @@ fn main(rt: HostRuntime) -> anyhow::Result<ExitCode> {
     match asked(&words) {
         Some(task) => run(&rt, rt.alloc(), task),
         None => {
-            println!(rt; "usage: bench_publish READERS rest|millisecond|always, or bounds 2|40")?;
+            println!(rt;
+                "usage: bench_publish READERS rest|millisecond|always, or bounds 2|40, or shards copies|words"
+            )?;
             Ok(ExitCode::SUCCESS)
         }
     }
