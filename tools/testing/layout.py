@@ -1,5 +1,5 @@
-"""Sees whether each crate is as `rt fmt` lays it out, its lines within their columns, and all used that its files take
-over. `rt` has no way to ask, but the program behind it has."""
+"""Sees whether the forms that were asked for are there, whether each crate is as `rt fmt` lays it out, its lines within
+their columns, and all used that its files take over. `rt` has no way to ask, but the program behind it has."""
 import pathlib
 import shutil
 import subprocess
@@ -32,6 +32,7 @@ def of_benches(room):
 def laid_out(room):
     """Each crate of crates.txt, and each that a bench times, is laid out, those of crates.txt within 120 columns and
     without what they don't use, and so are the packages of Rust. Those of tests are looked at by their tool."""
+    yield tool("asked")
     yield tool("long-lines")
     yield tool("unused")
     for folder in [*(sources.CRATES / it for it in sources.crates()), *of_benches(room)]:

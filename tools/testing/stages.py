@@ -31,6 +31,7 @@ DOCS = (
     "library-codes",
     "licences",
     "names",
+    "readers",
     "version",
 )
 PROVED = sources.CRATES / "sm_cli/out/sm_cli"
