@@ -22,7 +22,7 @@ sys.dont_write_bytecode = True
 import durable
 import scans
 import served
-from served import Refused, main
+from served import Refused, eventually, main
 
 SHARDS = 12
 SERVERS = 3
@@ -99,8 +99,7 @@ class Process(served.Server):
         )
         super().__init__(process, served.port_of(process))
         self.log = []
-        self.reading = threading.Thread(target=lambda: self.log.extend(process.stderr), daemon=True)
-        self.reading.start()
+        self.reading = served.read_all(process, self.log)
 
     def kill(self, how=signal.SIGKILL):
         self.process.send_signal(how)
@@ -173,16 +172,6 @@ def cluster(program, *options, members=1):
                 found.stop()
         finally:
             etcd.stop()
-
-
-def eventually(look, seconds=PATIENCE):
-    """What this gives once it gives something."""
-    end = time.monotonic() + seconds
-    while True:
-        if found := look():
-            return found
-        assert time.monotonic() < end, f"not within {seconds} s: {look.__name__}"
-        time.sleep(0.02)
 
 
 def rows(client):

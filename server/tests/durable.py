@@ -4,6 +4,7 @@
     server/tests/durable.py PROGRAM
 
 A server that is killed at random under load, so often: tools/kills."""
+import collections
 import contextlib
 import itertools
 import json
@@ -318,6 +319,7 @@ def kill(program, data, held, stood, seconds):
     command += ["--log-batches", str(BATCHES)]
     with subprocess.Popen(command, stderr=subprocess.PIPE, stdin=subprocess.DEVNULL, text=True) as process:
         port = served.port_of(process)
+        reading = served.read_all(process, collections.deque(maxlen=0))
         with served.Client(port) as client:
             stood = checked(client, held, stood)
             writers = [Writer(port, it, part) for it, part in enumerate(parts(held))]
@@ -331,6 +333,7 @@ def kill(program, data, held, stood, seconds):
                     stood[shard] = max(stood[shard], int(client.ask("SM", "LOOK", shard).split()[4]))
             process.send_signal(signal.SIGKILL)
             process.wait()
+            reading.join(served.SECONDS)
         for it in writers:
             it.join(served.SECONDS)
             held.update(it.held)

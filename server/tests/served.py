@@ -93,6 +93,16 @@ class Client:
         return line + b"".join(self.bytes_of_one() for _ in range(count))
 
 
+def eventually(look, seconds=SECONDS):
+    """What this gives once it gives something."""
+    end = time.monotonic() + seconds
+    while True:
+        if found := look():
+            return found
+        assert time.monotonic() < end, f"not within {seconds} s: {look.__name__}"
+        time.sleep(0.02)
+
+
 def slowest(clients, seconds):
     """How long the slowest of a hundred PINGs takes that these clients send one after another, for so long."""
     took, end = [], time.monotonic() + seconds
@@ -202,10 +212,7 @@ def served(program, *options, before=(), **how):
     with subprocess.Popen(command, **how) as process:
         try:
             server = Server(process, port_of(process))
-            said = server.said
-            # All is read at once: where nobody reads, a server that says much would wait.
-            reading = threading.Thread(target=said.extend, args=(process.stderr,), daemon=True)
-            reading.start()
+            said, reading = server.said, read_all(process, server.said)
             yield server
             is_alive = server.is_alive()
         finally:
@@ -227,6 +234,14 @@ def free_port():
     with socket.socket() as one:
         one.bind(("127.0.0.1", 0))
         return one.getsockname()[1]
+
+
+def read_all(process, said):
+    """Has a thread keep there what the process says, which it reads at once; the thread. A process that nobody reads
+    drops what it would say, or waits."""
+    reading = threading.Thread(target=said.extend, args=(process.stderr,), daemon=True)
+    reading.start()
+    return reading
 
 
 def port_of(process):
