@@ -17,6 +17,7 @@ mod elsewhere;
 mod join_fault;
 mod key_index;
 pub mod keys;
+mod lease_clock;
 mod listing;
 mod member;
 mod members;

@@ -1,3 +1,4 @@
+use crate::lease_clock::{LeaseClock, Moment};
 use crate::{keys, process, Addresses, JoinFault, Live, Members, OpenFault};
 use durkenzo_store::{
     LeaseError, LeaseId, Outcome, Revision, Seen, Store, Transaction, Watch, WriteError,
@@ -36,6 +37,7 @@ struct Inner {
     process: u64,
     addresses: Addresses,
     length: Duration,
+    clock: LeaseClock,
     state: Mutex<State>,
     /// There is something to write, or the end has come.
     wakes: Condvar,
@@ -49,7 +51,7 @@ struct Inner {
 struct State {
     lease: Option<LeaseId>,
     /// When it was granted or kept last: it goes on for its length from some time after that.
-    kept: Instant,
+    kept: Moment,
     /// The revision of the key as it was written last.
     written: Revision,
     /// The revision that it tells, and the one that it is to tell: when it is due.
@@ -57,6 +59,21 @@ struct State {
     followed: Revision,
     due: Option<Instant>,
     is_over: bool,
+}
+
+impl State {
+    /// Nothing is written yet, and there is no lease.
+    fn new(now: Moment) -> State {
+        State {
+            lease: None,
+            kept: now,
+            written: Revision::NEVER,
+            told: Revision::NEVER,
+            followed: Revision::NEVER,
+            due: None,
+            is_over: false,
+        }
+    }
 }
 
 /// What was seen of all servers' keys, and of the leader's.
@@ -85,6 +102,19 @@ impl Member {
         lease: Duration,
         on_change: Box<dyn Fn() + Send + Sync>,
     ) -> Result<Member, JoinFault> {
+        let clock = LeaseClock::default();
+        Member::join_by(clock, store, server, addresses, lease, on_change)
+    }
+
+    /// Joins as [`Member::join`] does, with a lease that this clock judges.
+    fn join_by(
+        clock: LeaseClock,
+        store: Arc<dyn Store>,
+        server: u16,
+        addresses: Addresses,
+        lease: Duration,
+        on_change: Box<dyn Fn() + Send + Sync>,
+    ) -> Result<Member, JoinFault> {
         let process = process::begin(&*store)?;
         let inner = Arc::new(Inner {
             store,
@@ -92,15 +122,8 @@ impl Member {
             process,
             addresses,
             length: lease.max(Duration::from_secs(1)),
-            state: Mutex::new(State {
-                lease: None,
-                kept: Instant::now(),
-                written: Revision::NEVER,
-                told: Revision::NEVER,
-                followed: Revision::NEVER,
-                due: None,
-                is_over: false,
-            }),
+            state: Mutex::new(State::new(clock.now())),
+            clock,
             wakes: Condvar::new(),
             seen: Mutex::default(),
             is_replaced: AtomicBool::new(false),
@@ -175,11 +198,17 @@ impl Member {
         self.inner.is_replaced.load(Ordering::Acquire)
     }
 
-    /// Whether the server's key is there by this process's clock, and less than a lease's length has passed since then.
-    pub(crate) fn is_kept_since(&self, since: Instant) -> bool {
+    /// This moment, by the clock that judges the lease.
+    pub(crate) fn now(&self) -> Moment {
+        self.inner.clock.now()
+    }
+
+    /// Whether the server's key is there by the lease's clock, and less than a lease's length has passed since then.
+    pub(crate) fn is_kept_since(&self, since: Moment) -> bool {
         let (state, length) = (self.inner.state(), self.inner.length);
         let is_there = state.lease.is_some() && state.written > Revision::NEVER && !state.is_over;
-        is_there && state.kept.elapsed() < length && since.elapsed() < length
+        let now = self.now();
+        is_there && now.since(state.kept) < length && now.since(since) < length
     }
 
     /// The number of the first process whose clients aren't to be forgotten, as its server is there.
@@ -214,7 +243,7 @@ impl Inner {
 
     /// Takes the server's key, once nobody has it.
     fn begin(&self) -> Result<(), JoinFault> {
-        let mut kept = Instant::now();
+        let mut kept = self.clock.now();
         let lease = self.store.grant(self.length)?;
         let end = Instant::now() + self.length + LATE;
         loop {
@@ -235,7 +264,7 @@ impl Inner {
                 Ok(Err(_)) | Err(JoinFault::Write(WriteError::Unknown(_))) => thread::sleep(PAUSE),
                 Err(fault) => return Err(fault),
             }
-            kept = Instant::now();
+            kept = self.clock.now();
             self.store.keep(lease)?;
         }
     }
@@ -314,6 +343,8 @@ impl Inner {
     }
 
     /// Keeps the lease, and writes the key as often as it has more to tell, until the end, which is that of the lease.
+    ///
+    /// It waits by a clock that stands while the machine is suspended: then the lease is only kept later.
     fn keep(&self) {
         let mut kept = Instant::now();
         loop {
@@ -352,7 +383,7 @@ impl Inner {
 
     /// The lease, which is kept or is another one; none where there is none now.
     fn renewed(&self, lease: Option<LeaseId>) -> Option<LeaseId> {
-        let mut kept = Instant::now();
+        let mut kept = self.clock.now();
         if let Some(lease) = lease {
             match self.store.keep(lease) {
                 Err(LeaseError::Ended(_)) => {}
@@ -364,7 +395,7 @@ impl Inner {
                 Err(_) => return Some(lease),
             }
         }
-        kept = Instant::now();
+        kept = self.clock.now();
         let granted = self.store.grant(self.length).ok();
         let mut state = self.state();
         (state.lease, state.kept, state.told) = (granted, kept, Revision::NEVER);
@@ -480,5 +511,64 @@ impl fmt::Debug for Member {
             .field("server", &self.inner.server)
             .field("process", &self.inner.process)
             .finish_non_exhaustive()
+    }
+}
+
+#[cfg(test)]
+mod tests {
+    use super::*;
+    use crate::lease_clock::Machine;
+    use durkenzo_store::Embedded;
+
+    /// So long that the thread that keeps the lease doesn't keep it within a test.
+    const LENGTH: Duration = Duration::from_secs(600);
+
+    /// A member on this machine, and the moment after it joined.
+    fn joined(machine: &Machine) -> (Member, Moment) {
+        let store: Arc<dyn Store> = Arc::new(Embedded::in_memory());
+        let addresses = Addresses::default();
+        let on_change = Box::new(|| {});
+        let member = Member::join_by(machine.clock(), store, 1, addresses, LENGTH, on_change);
+        let member = member.unwrap();
+        let now = member.now();
+        assert!(member.is_kept_since(now));
+        (member, now)
+    }
+
+    /// Whether the lease counts as over, and doesn't any more once it was kept again.
+    fn is_over_until_kept(member: &Member, since: Moment) -> bool {
+        let is_over = !member.is_kept_since(since) && !member.is_kept_since(member.now());
+        let lease = member.inner.state().lease;
+        assert_eq!(member.inner.renewed(lease), lease);
+        is_over && member.is_kept_since(member.now())
+    }
+
+    #[test]
+    fn a_lease_is_over_after_its_length_until_it_is_kept() {
+        let machine = Machine::default();
+        let (member, since) = joined(&machine);
+        machine.go_on(LENGTH / 2);
+        assert!(member.is_kept_since(since));
+        machine.go_on(LENGTH / 2);
+        assert!(is_over_until_kept(&member, since));
+    }
+
+    #[test]
+    fn a_lease_is_over_after_a_pause_of_the_guest_until_it_is_kept() {
+        let machine = Machine::default();
+        let (member, since) = joined(&machine);
+        machine.go_on(LENGTH / 2);
+        machine.pause(LENGTH / 2);
+        assert!(is_over_until_kept(&member, since));
+    }
+
+    #[test]
+    fn a_step_back_leaves_a_lease_its_length() {
+        let machine = Machine::default();
+        let (member, since) = joined(&machine);
+        machine.set_back(10 * LENGTH);
+        assert!(member.is_kept_since(since));
+        machine.go_on(LENGTH);
+        assert!(is_over_until_kept(&member, since));
     }
 }

@@ -64,7 +64,7 @@ pub struct JoinOptions {
     pub lease: u64,
 
     /// How reads that come alone are answered: by a transaction, or while the lease is kept from memory, which may miss
-    /// what other servers wrote in the last --lease seconds
+    /// what other servers wrote in the last --lease seconds, and in a paused guest more until its clock is set
     #[arg(
         long,
         value_name = "exact|lease",

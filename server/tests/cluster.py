@@ -6,6 +6,7 @@ migrations lose no addition.
 
 Three processes and a member of etcd run on loopback, in a folder that is removed."""
 import contextlib
+import os
 import pathlib
 import random
 import shutil
@@ -24,6 +25,8 @@ import scans
 import served
 from served import Refused, eventually, main
 
+# Has a program see its machine as one that was suspended.
+SUSPENDED = pathlib.Path(__file__).resolve().parents[2] / "tools/suspended.c"
 SHARDS = 12
 SERVERS = 3
 LEASE = 2
@@ -94,9 +97,8 @@ class Process(served.Server):
 
     def __init__(self, program, cluster, server, options=()):
         # It ends by SIGTERM with 0, whatever a test does meanwhile.
-        process = subprocess.Popen(
-            command(program, cluster, server, options), stderr=subprocess.PIPE, stdin=subprocess.DEVNULL, text=True
-        )
+        how = {"stderr": subprocess.PIPE, "stdin": subprocess.DEVNULL, "text": True, "env": cluster.env}
+        process = subprocess.Popen(command(program, cluster, server, options), **how)
         super().__init__(process, served.port_of(process))
         self.log = []
         self.reading = served.read_all(process, self.log)
@@ -119,8 +121,8 @@ def command(program, cluster, server, options=()):
 class Cluster:
     """Processes over members of etcd, by the numbers of their servers."""
 
-    def __init__(self, program, etcd, options):
-        self.program, self.etcd, self.options, self.processes = program, etcd, options, {}
+    def __init__(self, program, etcd, options, env):
+        self.program, self.etcd, self.options, self.env, self.processes = program, etcd, options, env, {}
 
     def begin(self, server, *options):
         self.processes[server] = Process(self.program, self, server, (*self.options, *options))
@@ -153,12 +155,12 @@ class Cluster:
 
 
 @contextlib.contextmanager
-def cluster(program, *options, members=1):
+def cluster(program, *options, members=1, env=None):
     with tempfile.TemporaryDirectory(prefix="sm-cluster-") as room:
         etcd = Etcd(members, room)
         try:
             etcd.wait_until_up()
-            found = Cluster(program, etcd, options)
+            found = Cluster(program, etcd, options, env)
             try:
                 for server in range(1, SERVERS + 1):
                     found.begin(server)
@@ -306,23 +308,52 @@ def at(process, key):
 
 def a_process_past_its_lease_tells_what_others_wrote(program):
     with cluster(program, "--reads", "lease") as several:
-        gone = next(it for it in several.processes if it != several.leader())
-        other = next(it for it in several.processes if it != gone)
-        with several.client(gone) as client, several.client(other) as writer:
-            owned = [it for it, (_, owner) in enumerate(shards(writer)) if owner == str(gone)]
-            keys = [f"key:{it}" for it in range(60)]
-            client.piped([("SET", it, "old") for it in keys])
-            assert client.piped([("GET", it) for it in keys]) == [b"old"] * len(keys)
-            before = reads_by_lease(several.processes[gone])
-            assert owned and before > 0
-            several.processes[gone].process.send_signal(signal.SIGSTOP)
-            several.settled(without=gone)
-            assert writer.piped([("SET", it, "new") for it in keys]) == ["OK"] * len(keys)
-            several.processes[gone].process.send_signal(signal.SIGCONT)
-            told = client.piped([("GET", it) for it in keys])
-            # One that is refused tells nothing.
-            assert all(it == b"new" or isinstance(it, Refused) for it in told), told
-            return f"{sum(it == b'new' for it in told)} of {len(keys)} answered at once"
+        return told_past_its_lease(several, lambda process, seconds: None)
+
+
+def a_machine_that_was_suspended_tells_what_others_wrote(program):
+    if not shutil.which("cc"):
+        return "cc isn't installed"
+    with tempfile.TemporaryDirectory(prefix="sm-suspended-") as room:
+        library = pathlib.Path(room) / "suspended.so"
+        how = ["cc", "-O2", "-Wall", "-Wextra", "-Werror", "-shared", "-fPIC", "-o", library]
+        subprocess.run([*how, SUSPENDED], check=True)
+        env = {**os.environ, "LD_PRELOAD": str(library), "SUSPENDED": room}
+
+        def suspend(process, seconds):
+            with open(f"{room}/{process.pid}", "r+b") as behind:
+                behind.write(int(seconds * 1e9).to_bytes(8, sys.byteorder))
+
+        with cluster(program, "--reads", "lease", env=env) as several:
+            return told_past_its_lease(several, suspend)
+
+
+def told_past_its_lease(several, wake):
+    """Stops a process until others have written its keys, for longer than a lease, and says how many of them it answers
+    then; a command waits there already. `wake` is called with the process, and how long it stood, before it goes on."""
+    gone = next(it for it in several.processes if it != several.leader())
+    other = next(it for it in several.processes if it != gone)
+    process = several.processes[gone].process
+    with several.client(gone) as client, several.client(other) as writer:
+        owned = {it for it, (_, owner) in enumerate(shards(writer)) if owner == str(gone)}
+        keys = sorted((f"key:{it}" for it in range(60)), key=lambda it: writer.ask("SM", "KEY", it) not in owned)
+        client.piped([("SET", it, "old") for it in keys])
+        assert client.piped([("GET", it) for it in keys]) == [b"old"] * len(keys)
+        before = reads_by_lease(several.processes[gone])
+        assert owned and before > 0
+        began = time.monotonic()
+        process.send_signal(signal.SIGSTOP)
+        several.settled(without=gone)
+        assert writer.piped([("SET", it, "new") for it in keys]) == ["OK"] * len(keys)
+        time.sleep(LEASE)
+        for it in keys:
+            client.send("GET", it)
+        wake(process, time.monotonic() - began)
+        process.send_signal(signal.SIGCONT)
+        told = [client.read() for _ in keys]
+        # One that is refused tells nothing.
+        assert all(it == b"new" or isinstance(it, Refused) for it in told), told
+        return f"{sum(it == b'new' for it in told)} of {len(keys)} answered at once"
 
 
 def processes_speak_tls_and_know_a_secret(program):
@@ -800,6 +831,7 @@ TESTS = [
     what_many_write_at_once_fits_etcd,
     reads_by_lease_make_no_transaction,
     a_process_past_its_lease_tells_what_others_wrote,
+    a_machine_that_was_suspended_tells_what_others_wrote,
     migrations_lose_no_addition,
     shards_spread_over_servers_again,
     kills_of_a_process_lose_nothing,

@@ -1,32 +1,27 @@
 use super::{At, Seat, Shard};
-use crate::Reads;
-use std::time::Instant;
+use crate::lease_clock::Moment;
+use crate::{Member, Reads};
 
 /// Since when this process's server knows by a transaction what it knows.
 #[derive(Debug, Default)]
 pub(super) struct Leasing {
     /// When the transaction was sent that is under way, where it compares the record and the head.
-    sent: Option<Instant>,
+    sent: Option<Moment>,
     /// When that was sent which compared last, and the revisions that held then.
-    compared: Option<(At, Instant)>,
+    compared: Option<(At, Moment)>,
     /// How many requests were answered without one.
     count: u64,
 }
 
 impl Leasing {
-    /// A transaction is sent, which compares the record and the head, or doesn't.
-    pub(super) fn note_sent(&mut self, compares: bool) {
-        self.sent = compares.then(Instant::now);
-    }
-
     /// When the transaction was sent that is over now: till it is known that it was made, nothing is.
-    pub(super) fn take_sent(&mut self) -> Option<Instant> {
+    pub(super) fn take_sent(&mut self) -> Option<Moment> {
         self.compared = None;
         self.sent.take()
     }
 
     /// It was made, so at some time since then these revisions held.
-    pub(super) fn note_held(&mut self, at: At, sent: Option<Instant>) {
+    pub(super) fn note_held(&mut self, at: At, sent: Option<Moment>) {
         self.compared = sent.map(|it| (at, it));
     }
 }
@@ -37,14 +32,21 @@ impl Shard {
         self.leasing.count
     }
 
+    /// This process's server, where it may answer reads by its lease.
+    fn leaser(&self) -> Option<&Member> {
+        let own = self.own.as_deref();
+        own.filter(|_| self.tuning.reads == Reads::Lease)
+    }
+
+    /// Notes that a transaction is sent now, which compares the record and the head, or doesn't.
+    pub(super) fn note_sent(&mut self, compares: bool) {
+        self.leasing.sent = self.leaser().filter(|_| compares).map(Member::now);
+    }
+
     /// Whether this process's server may answer reads by what it knows: nobody else has its place as long as its lease
     /// is kept, and where the shard went to another one by a change that it hasn't seen, that was so lately.
     pub(super) fn is_leased(&self) -> bool {
-        let Some(own) = self
-            .own
-            .as_ref()
-            .filter(|_| self.tuning.reads == Reads::Lease)
-        else {
+        let Some(own) = self.leaser() else {
             return false;
         };
         let (Some((held, since)), Some(Seat::Ready(_, at))) =

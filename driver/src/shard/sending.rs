@@ -3,6 +3,7 @@ use super::{At, Deed, Seat, Shard, Ticket};
 use crate::core_fault::CoreFault;
 use crate::decision::Sent;
 use crate::keys;
+use crate::lease_clock::Moment;
 use crate::proved::Core;
 use crate::round::Round;
 use crate::work::NotDone;
@@ -43,8 +44,7 @@ impl Shard {
             self.log.bytes = self.log.bytes.saturating_sub(self.log_before.bytes);
         }
         // What only names a base compares the head alone.
-        self.leasing
-            .note_sent(sent.number > 0 || sent.head.is_empty());
+        self.note_sent(sent.number > 0 || sent.head.is_empty());
         let ticket = Ticket { server, number };
         deeds.push(Deed::Submit(ticket, self.transaction(sent)));
         Ok(())
@@ -109,7 +109,7 @@ impl Shard {
         &mut self,
         ticket: Ticket,
         (mut core, mut at, writes): (Core, At, bool),
-        (revision, sent_at): (Revision, Option<Instant>),
+        (revision, sent_at): (Revision, Option<Moment>),
         deeds: &mut Vec<Deed>,
     ) {
         let server = ticket.server;

@@ -1,0 +1,12 @@
+use std::time::Duration;
+
+/// A moment of a [`LeaseClock`](super::LeaseClock): moments of different clocks can't be compared.
+#[derive(Clone, Copy, Debug, PartialEq, Eq, PartialOrd, Ord)]
+pub(crate) struct Moment(pub(super) Duration);
+
+impl Moment {
+    /// Returns how much time has passed since an earlier moment.
+    pub(crate) fn since(self, earlier: Moment) -> Duration {
+        self.0.saturating_sub(earlier.0)
+    }
+}
