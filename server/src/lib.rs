@@ -25,6 +25,7 @@ pub mod join;
 pub mod joining;
 pub mod keep_alive;
 pub mod keyspace;
+pub mod log;
 pub mod observer;
 pub mod open_fault;
 pub mod options;

@@ -1,14 +1,16 @@
 //! The program: `./sm serve` in the repository.
 use clap::Parser;
 use durkenzo_server::options::Options;
-use durkenzo_server::{run, NAME};
+use durkenzo_server::{log, run, NAME};
 use std::process::ExitCode;
 
 fn main() -> ExitCode {
-    match run::run(&Options::parse()) {
+    let options = Options::parse();
+    let _written = log::WrittenAtEnd;
+    match log::begin(&options).and_then(|()| run::run(&options)) {
         Ok(()) => ExitCode::SUCCESS,
         Err(fault) => {
-            eprintln!("{NAME}: {fault}");
+            log::say(&format!("{NAME}: {fault}"));
             ExitCode::FAILURE
         }
     }

@@ -10,12 +10,11 @@ use crate::descriptors::{Descriptors, Needs};
 use crate::io::{Acceptor, Handshaker, Inlet, Worker};
 use crate::join::Joined;
 use crate::keyspace::Keyspace;
-use crate::options::{LogFormat, Options};
+use crate::options::Options;
 use crate::stored;
 use durkenzo_driver::Control;
 use mio::Poll;
 use std::error::Error;
-use std::io::IsTerminal;
 use std::net::SocketAddr;
 use std::sync::mpsc::{channel, Receiver, Sender};
 use std::sync::Arc;
@@ -32,7 +31,6 @@ const MOST_USUAL_THREADS: usize = 4;
 
 /// Serves until a signal ends it.
 pub fn run(options: &Options) -> Result<(), Fault> {
-    begin_log(options)?;
     let mut attendant = Attendant::new()?;
     let configuration = fitted(options)?;
     let address = SocketAddr::new(options.bind, options.port);
@@ -157,19 +155,6 @@ fn controlling(
         controller.assign_all()?;
     }
     Ok(Box::new(move || controller.run(asked)))
-}
-
-fn begin_log(options: &Options) -> Result<(), Fault> {
-    let filter = tracing_subscriber::EnvFilter::try_new(&options.log)?;
-    let log = tracing_subscriber::fmt()
-        .with_env_filter(filter)
-        .with_writer(std::io::stderr)
-        .with_ansi(std::io::stderr().is_terminal())
-        .with_target(false);
-    match options.log_format {
-        LogFormat::Text => log.try_init(),
-        LogFormat::Json => log.json().try_init(),
-    }
 }
 
 /// How many threads there are for clients.

@@ -16,7 +16,7 @@ import time
 import urllib.error
 import urllib.request
 
-from served import Refused, free_port, main, served
+from served import SECONDS, Client, Refused, eventually, free_port, main, port_of, read_all, served
 
 TOOL = pathlib.Path(__file__).resolve().parents[2] / "tools/serve"
 FAKETIME = pathlib.Path("/usr/lib/x86_64-linux-gnu/faketime/libfaketime.so.1")
@@ -212,6 +212,44 @@ def who_asks_the_control_is_in_the_log(program):
         assert not any("SHARDS" in it for it in server.said)
 
 
+@contextlib.contextmanager
+def unread(program, count):
+    """A server that nobody reads the log of, once it has answered so many commands that are logged; its process, and
+    how many lines it says it has dropped."""
+    port = free_port()
+    command = [program, "--port", "0", "--http-port", str(port), "--log-format", "json"]
+    with subprocess.Popen(command, stderr=subprocess.PIPE, stdin=subprocess.DEVNULL, text=True) as process:
+        try:
+            with Client(port_of(process)) as client:
+                for it in range(count):
+                    assert client.ask("SM", "RESUME" if it % 2 else "PAUSE", 0) == "OK"
+            dropped = re.search(r"(?m)^durkenzo_log_lines_dropped_total (\d+)$", got(port, "/metrics"))
+            yield process, int(dropped[1])
+        finally:
+            process.kill()
+
+
+def a_log_that_nobody_reads_keeps_nobody_waiting(program):
+    count = 2500
+    with unread(program, count) as (process, dropped):
+        assert dropped > 0
+        process.terminate()
+        assert process.wait(SECONDS) == 0
+    with unread(program, count) as (process, dropped):
+        reading = read_all(process, said := [])
+        eventually(lambda: any("were dropped" in it for it in said))
+        process.terminate()
+        assert process.wait(SECONDS) == 0
+        reading.join(SECONDS)
+    # Each line is whole, each command has two, and all that are missing are counted.
+    fields = [json.loads(it)["fields"] for it in said]
+    told = [it["lines"] for it in fields if "were dropped" in it["message"]]
+    logged = sum("SM " in it.get("asked", "") for it in fields)
+    assert told == [dropped] and logged + dropped == 2 * count, (told, dropped, logged)
+    assert fields[-1]["message"] == "stopped", fields[-1]
+    return f"{dropped} of {2 * count} lines dropped"
+
+
 def wrong_options_are_told_before_a_build(program):
     """By ./sm serve, which knows all options of the program from its sources."""
     # There a build would end by what it lacks.
@@ -268,6 +306,7 @@ TESTS = [
     loads_stay_within_settings,
     the_page_has_no_dates_before_1970,
     who_asks_the_control_is_in_the_log,
+    a_log_that_nobody_reads_keeps_nobody_waiting,
     wrong_options_are_told_before_a_build,
     what_is_not_accepted_is_told,
 ]

@@ -1,5 +1,6 @@
 use crate::cluster::Cluster;
 use crate::command::memory_used;
+use crate::log;
 use crate::peers::Peers;
 use crate::snapshot::Snapshot;
 use crate::stats::{Stats, LATENCY_BOUNDS};
@@ -18,6 +19,7 @@ const WAITED: &str = "Commands that began to wait for a shard that nobody execut
 const REFUSED: &str = "Commands that waited in vain";
 const LATENCY: &str =
     "Seconds from when commands were there to be read, or began to wait, until they were answered";
+const DROPPED: &str = "Lines that are missing in the log, because nobody read it";
 const WAITING: &str = "Connections whose next command waits for a shard";
 const OF_THREADS: [OfThreads; 10] = [
     ("commands_total", DONE, |it| it.commands.get()),
@@ -89,6 +91,8 @@ pub(super) fn text(cluster: &Cluster, snapshot: &Snapshot) -> prometheus::Result
     }
     let uptime = Family::new(&registry, "uptime_seconds", "Seconds since the start", &[])?;
     uptime.set(&[], cluster.started.elapsed().as_secs());
+    let dropped = Family::new(&registry, "log_lines_dropped_total", DROPPED, &[])?;
+    dropped.set(&[], log::dropped());
     let memory = Family::new(&registry, "memory_bytes", "Memory of the process", &[])?;
     memory.set(&[], memory_used());
     let mut text = Vec::new();
