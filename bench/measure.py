@@ -49,6 +49,15 @@ def lib(crate):
     return folder / "out"
 
 
+def over_library(is_unproved):
+    """Has what cargo builds from here on link the library of boards: the one that DURKENZO_LIB names, or the proved one,
+    which is proved and built first, or another without proof."""
+    if is_unproved:
+        os.environ["DURKENZO_LIB"] = str(unproved_libraries())
+    elif "DURKENZO_LIB" not in os.environ:
+        lib("sm_c")
+
+
 def unproved_libraries():
     """Builds the libraries that programs in Rust and C link without proof, and returns the folder that holds them."""
     return told_unbuilt(without_proof.libraries)

@@ -15,6 +15,7 @@ from testing import (
     server,
     simulation,
     tests,
+    unlinked,
 )
 from testing.part import Part, verdict
 from testing.program import EXAMPLES, Program, opens_nothing, tool
@@ -88,13 +89,18 @@ def soaked(room):
     yield tool("soak", "--seconds", 5, path)
 
 
+def ordinary_rust():
+    """What needs no library, and what is said where there is none."""
+    return [Part("ordinary Rust", alone.passed), Part("crates without a library", unlinked.passed)]
+
+
 def without_proof(room, names, is_proved):
     """The stage before any proof: pages, tests, and the program as sources alone make it."""
     with_proof = lambda _room: [tool("run-tests", "--proved", *names)]
     proved = [Part("tests, proved", with_proof)] if is_proved else []
     library_part = Part("the library, built without proof", lambda _room: [tool("unproved", "--library")])
     programs = [built("sm_cli", f"{room}/sm_cli"), library_part, Part("a cluster by chance, unproved", soaked)]
-    return [Part("tests", tests.work(names)), Part("ordinary Rust", alone.passed), *programs, *proved, *pages()]
+    return [Part("tests", tests.work(names)), *ordinary_rust(), *programs, *proved, *pages()]
 
 
 def unproved_program(room):

@@ -1,0 +1,112 @@
+//! What the build scripts of the library's crates share: they find the static libraries, and build nothing.
+use std::path::PathBuf;
+use std::{env, fmt, process};
+
+/// The variable that names the folder of the libraries.
+const NAMED: &str = "DURKENZO_LIB";
+/// The toolchain's C library, which each of ours needs.
+const OF_THE_KIT: &str = "libc_c";
+/// The file beside libraries that weren't proved.
+const MARK: &str = "UNPROVED";
+
+/// What makes a library that isn't there.
+const HOW: &str =
+    ", and a build script builds none. Build the libraries first, in a clone of Durkenzo:
+
+    export DURKENZO_LIB=$(tools/unproved --library)   # without proof, in 2 processor minutes
+    (cd crates/CRATE && rt lib)   # or proved, in some 35: DURKENZO_LIB unset, and rt on the PATH
+
+Or unpack an archive of ./dist, and have DURKENZO_LIB name its folder lib/durkenzo.";
+
+/// Why nothing is linked.
+pub enum Refusal {
+    /// The libraries are machine code of another target.
+    Target(String),
+    /// A library is in none of these folders.
+    Absent(String, Vec<PathBuf>),
+}
+
+impl fmt::Display for Refusal {
+    fn fmt(&self, f: &mut fmt::Formatter<'_>) -> fmt::Result {
+        match self {
+            Refusal::Target(target) => write!(
+                f,
+                "its proved libraries are for Linux on x86_64 only, and this is a build for {target}"
+            ),
+            Refusal::Absent(library, folders) => {
+                let looked = folders.iter().map(|it| format!(" in {}", it.display()));
+                let proved = if library == OF_THE_KIT { "sm_c" } else { library };
+                write!(f, "there is no lib{library}.a{}", looked.collect::<Vec<_>>().join(" or"))?;
+                write!(f, "{}", HOW.replace("CRATE", proved))
+            }
+        }
+    }
+}
+
+/// Returns the target of this build if the libraries aren't for it.
+fn other_target() -> Option<String> {
+    let is = |name: &str, wanted: &str| env::var(name).is_ok_and(|it| it == wanted);
+    let is_ours = is("CARGO_CFG_TARGET_OS", "linux") && is("CARGO_CFG_TARGET_ARCH", "x86_64");
+    (!is_ours).then(|| env::var("TARGET").expect("cargo sets it"))
+}
+
+/// Returns where the toolchain keeps its C library: in `c/` beside the `bin/` of `rt`.
+fn kit() -> Option<PathBuf> {
+    let paths = env::var_os("PATH")?;
+    let mut programs = env::split_paths(&paths).map(|it| it.join("rt"));
+    let rt = programs.find(|it| it.is_file())?;
+    Some(rt.canonicalize().ok()?.parent()?.parent()?.join("c"))
+}
+
+/// Returns where the crate that makes the library leaves it once it is proved, if this is in the repository.
+fn proved(library: &str) -> Option<PathBuf> {
+    let here = PathBuf::from(env::var_os("CARGO_MANIFEST_DIR").expect("cargo sets it"));
+    let folder = here.ancestors().nth(3)?.join("crates").join(library);
+    folder.is_dir().then(|| folder.join("out"))
+}
+
+/// Returns where the library may be: in the folder that is named or where it was proved, and the toolchain's in its own.
+fn folders(library: &str) -> Vec<PathBuf> {
+    let first = env::var_os(NAMED)
+        .map(PathBuf::from)
+        .or_else(|| proved(library));
+    let last = kit().filter(|_| library == OF_THE_KIT);
+    first.into_iter().chain(last).collect()
+}
+
+/// Links the library; returns whether it was proved.
+fn linked(library: &str) -> Result<bool, Refusal> {
+    let (folders, name) = (folders(library), format!("lib{library}.a"));
+    let Some(folder) = folders.iter().find(|it| it.join(&name).is_file()) else {
+        return Err(Refusal::Absent(library.into(), folders));
+    };
+    println!("cargo:rerun-if-changed={}", folder.join(&name).display());
+    println!("cargo:rustc-link-search=native={}", folder.display());
+    println!("cargo:rustc-link-lib=static={library}");
+    Ok(!folder.join(MARK).is_file())
+}
+
+/// Links these libraries and the toolchain's; returns whether they were proved. On docs.rs nothing is linked.
+fn all_linked(libraries: &[&str]) -> Result<bool, Refusal> {
+    if env::var_os("DOCS_RS").is_some() {
+        return Ok(true);
+    }
+    if let Some(target) = other_target() {
+        return Err(Refusal::Target(target));
+    }
+    let mut are_proved = true;
+    for library in libraries.iter().chain([&OF_THE_KIT]) {
+        are_proved &= linked(library)?;
+    }
+    Ok(are_proved)
+}
+
+/// Links these libraries, or ends the build with what is missing. Returns whether they were proved.
+pub fn link(libraries: &[&str]) -> bool {
+    println!("cargo:rerun-if-env-changed={NAMED}");
+    println!("cargo:rerun-if-env-changed=DOCS_RS");
+    all_linked(libraries).unwrap_or_else(|refusal| {
+        eprintln!("{}: {refusal}", env!("CARGO_PKG_NAME"));
+        process::exit(1)
+    })
+}

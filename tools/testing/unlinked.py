@@ -1,0 +1,79 @@
+"""What cargo says of the library's crates where there is no library to link: which tool makes one, at once. It proves
+nothing, and writes nothing beside its own folder."""
+import os
+import pathlib
+import shutil
+import subprocess
+
+import limited
+import sources
+from testing.part import Verdict, verdict
+
+CRATES = ("durkenzo", "durkenzo-store-sys")
+FOLDER = "library/rust"
+NAMED = "DURKENZO_LIB"
+# As long as a crowded machine may take to compile a build script.
+SECONDS = 120
+MADE = ("tools/unproved --library", f"export {NAMED}=")
+# What would prove leaves a file.
+PROVER = '#!/bin/sh\ntouch "${0%/*}/was-called"\nexit 1\n'
+OTHER_TARGET = "aarch64-unknown-linux-gnu"
+
+
+class Copy:
+    """The crates in a repository where nothing was built, with an `rt` that tells whether it was called."""
+
+    def __init__(self, room):
+        self.top, self.bin, self.target = room / "top", room / "bin", room / "target"
+        for name in CRATES:
+            ignored = shutil.ignore_patterns("target")
+            shutil.copytree(sources.TOP / FOLDER / name, self.top / FOLDER / name, ignore=ignored)
+        (self.top / "crates/sm_c").mkdir(parents=True)
+        self.bin.mkdir()
+        (self.bin / "rt").write_text(PROVER, encoding="utf-8")
+        (self.bin / "rt").chmod(0o755)
+
+    def files(self):
+        return sorted(map(str, self.top.rglob("*")))
+
+    def checked(self, crate, *words, **env):
+        """Has cargo check the crate; returns the finished run."""
+        plain = {key: it for key, it in os.environ.items() if key not in (NAMED, "DOCS_RS")}
+        path = f"{self.bin}:{plain['PATH']}"
+        env = {**plain, "PATH": path, "CARGO_TARGET_DIR": str(self.target), **env}
+        command = ["cargo", "check", "--offline", *words]
+        return limited.run(command, SECONDS, cwd=self.top / FOLDER / crate, env=env, text=True)
+
+
+def refused(copy, crate, name, wanted, *words, **env):
+    """The verdict on a check that has to be refused by words that name what is wanted."""
+    ran = copy.checked(crate, *words, **env)
+    lacking = [it for it in wanted if it not in ran.stderr]
+    is_well = ran.returncode != 0 and not lacking
+    return verdict(f"{crate} {name}", is_well, f"it ended with {ran.returncode} and doesn't say {lacking}:\n{ran.stderr[-2000:]}")
+
+
+def verdicts(copy, empty):
+    before = copy.files()
+    for crate in CRATES:
+        yield refused(copy, crate, "without a library", MADE)
+        yield refused(copy, crate, "with a folder that lacks one", [*MADE, str(empty)], **{NAMED: str(empty)})
+        yield refused(copy, crate, "on another target", ["x86_64", OTHER_TARGET], "--target", OTHER_TARGET)
+        ran = copy.checked(crate, DOCS_RS="1")
+        yield verdict(f"{crate} for docs.rs", ran.returncode == 0, ran.stderr[-2000:])
+    yield verdict("a build script proves nothing", not (copy.bin / "was-called").exists())
+    new = sorted(set(copy.files()) - set(before))
+    yield verdict("a build script writes nothing beside its own folder", not new, f"there came {', '.join(new)}")
+
+
+def passed(room):
+    """All of it; nothing where cargo isn't."""
+    if not shutil.which("cargo"):
+        return
+    room = pathlib.Path(room)
+    empty = room / "empty"
+    empty.mkdir()
+    try:
+        yield from verdicts(Copy(room), empty)
+    except subprocess.TimeoutExpired as late:
+        yield Verdict("a build script ends at once", f"{' '.join(late.cmd)} hadn't ended after {SECONDS} s")
