@@ -1,6 +1,8 @@
 //! One server each of several processes over one store: what is asked of any of them is done once, while shards move,
 //! processes die, and the control passes on.
 mod common;
+#[path = "../../store/tests/beside/plain.rs"]
+mod plain;
 
 use common::cluster::{append, assign, campaign, kill, settle, Dice, Line, Net, Node, LEASE};
 use common::handing::{Handed, Handing};
@@ -10,6 +12,7 @@ use durkenzo_driver::{
     Request,
 };
 use durkenzo_store::{Done, Embedded, Put, Store, Transaction};
+use plain::Plain;
 use std::collections::HashSet;
 use std::sync::atomic::{AtomicBool, Ordering};
 use std::sync::{Arc, Mutex};
@@ -44,7 +47,17 @@ fn words_of(durable: &Durable, shard: u16, key: &[u8]) -> Vec<String> {
 
 #[test]
 fn any_process_takes_any_work() {
-    let nodes = Net::of_three(&in_memory(), SHARDS);
+    takes_any_work(&in_memory());
+}
+
+#[test]
+fn any_process_takes_any_work_over_a_store_of_others() {
+    let store: Arc<dyn Store> = Arc::new(Plain::new());
+    takes_any_work(&store);
+}
+
+fn takes_any_work(store: &Arc<dyn Store>) {
+    let nodes = Net::of_three(store, SHARDS);
     let mut control = campaign(&nodes[0]);
     assign(&mut control, SHARDS);
     for shard in 0..SHARDS {

@@ -9,7 +9,9 @@
 //! | [`Embedded::in_folder`] | in a folder, by SQLite | what was told as made, with [`Sync::Always`] |
 //! | [`Etcd`] | on the members of a cluster of etcd | what was told as made |
 //!
-//! No store decides anything: what may be sent, and what an answer means, the proved cores say.
+//! No store decides anything: what may be sent, and what an answer means, the proved cores say. So any store may take
+//! their place: implement [`Store`], whose parts are all public. Each revision that writes must be greater than those
+//! before it, and a watch must tell each change in its order; a [`Watch`] is made by [`Watch::ended_by`].
 //!
 //! ```
 //! use durkenzo_store::{Embedded, Outcome, Revision, Store, Transaction};

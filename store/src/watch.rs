@@ -31,8 +31,20 @@ pub struct Watch {
 }
 
 impl Watch {
-    /// One that is ended so.
-    pub(crate) fn ended_by(end: impl FnOnce() + Send + 'static) -> Watch {
+    /// Returns a watch that runs this, once, when it is dropped: for [`Store::watch`](crate::Store::watch) of a store of
+    /// your own.
+    ///
+    /// ```
+    /// use durkenzo_store::Watch;
+    /// use std::sync::mpsc;
+    ///
+    /// let (tell, told) = mpsc::channel();
+    /// let watch = Watch::ended_by(move || drop(tell.send("ended")));
+    /// assert!(told.try_recv().is_err());
+    /// drop(watch);
+    /// assert_eq!(told.recv(), Ok("ended"));
+    /// ```
+    pub fn ended_by(end: impl FnOnce() + Send + 'static) -> Watch {
         Watch {
             end: Some(Box::new(end)),
         }

@@ -11,6 +11,7 @@ use std::sync::atomic::{AtomicU32, Ordering};
 use std::thread;
 use std::time::{Duration, Instant};
 
+pub mod plain;
 pub mod relay;
 
 /// How long an answer is waited for, on a machine that may be busy.
@@ -222,8 +223,9 @@ impl Chance {
     }
 }
 
-/// Has a test run over each store: in memory, in a folder, and on etcd where that is installed.
+/// Has a test run over each store: in memory, in a folder, on etcd where that is installed, and one that isn't ours.
 pub fn over_each(test: impl Fn(&dyn Store)) {
+    test(&plain::Plain::new());
     test(&Embedded::in_memory());
     let folder = Folder::new();
     test(&folder.open());
