@@ -1,6 +1,7 @@
 """Tests of the Python face of the library."""
 import contextlib
 import gc
+import pathlib
 import pydoc
 import sqlite3
 import threading
@@ -127,6 +128,34 @@ class Boards(unittest.TestCase):
                 self.assertEqual(put(20, permit.generation), 1)
             self.assertEqual(put(30, old), 0)
         self.assertEqual(store.execute("SELECT balance FROM accounts").fetchall(), [(20,)])
+
+    def test_bodies_are_given_back(self):
+        bodies = [["a"], ["b"]]
+        board = Board(bodies, servers=1)
+        board.control.assign(1, 1)
+        one = board.new_pass(1)
+        with one.admit(1) as permit:
+            permit.body.append("c")
+        self.assertRaises(durkenzo.PassOpen, board.into_bodies)
+        self.assertEqual(one.run(1, len), 2)
+        one.close()
+        with contextlib.suppress(ZeroDivisionError), board.new_pass(1):
+            _ = 1 // 0
+        board.new_pass(1)
+        gc.collect()
+        given = board.into_bodies()
+        self.assertEqual(given, [["a"], ["b", "c"]])
+        self.assertIs(given[0], bodies[0])
+        for call in (board.into_bodies, lambda: board.new_pass(1), lambda: board.control.assign(0, 1)):
+            self.assertRaises(durkenzo.WrongHandle, call)
+
+    def test_a_board_ends_with_its_block(self):
+        with Board([0], servers=1) as board, Service(Layout([b""]), servers=1) as service, Map() as held:
+            board.control.assign(0, 1)
+            service.control.assign(0, 1)
+            held.put(b"a", b"b")
+        for call in (lambda: board.new_pass(1), lambda: service.new_pass(1), lambda: held.get(b"a")):
+            self.assertRaises(durkenzo.WrongHandle, call)
 
     def test_sizes_and_restarts(self):
         self.assertRaises(durkenzo.NoShard, Board, [], servers=1)
@@ -410,6 +439,10 @@ class Names(unittest.TestCase):
         for it in durkenzo.DurkenzoError.__subclasses__():
             self.assertIn(it.__name__, durkenzo.__all__)
             self.assertIn(f"class {it.__name__}(", told)
+
+    def test_of_the_version(self):
+        version = pathlib.Path(__file__).resolve().parent.parent.parent / "VERSION"
+        self.assertEqual(durkenzo.__version__, version.read_text(encoding="utf-8").strip())
 
     def test_of_codes(self):
         error = durkenzo.errors.error_of(9_999, None)

@@ -17,6 +17,7 @@ from __future__ import annotations
 
 import ctypes
 import itertools
+import weakref
 from dataclasses import dataclass
 from types import TracebackType
 from typing import Callable, Generic, Iterable, TypeVar
@@ -25,18 +26,19 @@ from . import errors
 from ._kept import Kept as _Kept, check as _check
 from ._library import LIBRARY, Handle, Part, RecordParts
 from .errors import *
-from .errors import BadArgument, Busy, IsAdmitted, NotAdmitted, Raced
+from .errors import BadArgument, Busy, DurkenzoError, IsAdmitted, NotAdmitted, Raced, WrongHandle
 from ._map import Map
 from ._reply import ReplyKind, RequestKind, Value
 from ._routes import Publisher, Route, Router
 from ._service import Answer, BadSettings, Envelope, Forward, KeptFull, Reply, Request, Sent, ServicePass
 from ._service import TooManyHops, WrongShard, _RULES
+from ._version import __version__ as __version__
 from .record import Phase, Record
 
 __all__ = ["Board", "Control", "Layout", "MAX_GENERATION", "Map", "Note", "Pass", "Permit", "Phase", "Plan", "Record"]
 __all__ += ["Answer", "Envelope", "Forward", "Reply", "ReplyKind", "Request", "RequestKind", "Sent", "Service"]
 __all__ += ["Publisher", "Route", "Router"]
-__all__ += ["ServicePass", "Value", "BadSettings", "KeptFull", "TooManyHops", "WrongShard"]
+__all__ += ["ServicePass", "Value", "BadSettings", "KeptFull", "PassOpen", "TooManyHops", "WrongShard"]
 __all__ += errors.__all__
 
 T = TypeVar("T")
@@ -110,6 +112,7 @@ class Pass(_Kept, Generic[T]):
         self._board = board
         with board._lock:
             _check(LIBRARY.durkenzo_pass(ctypes.byref(board._handle), ctypes.byref(self._handle), server))
+            board._passes.add(self)
 
     def look(self, shard: int) -> Record:
         """Returns the shard's record, as the pass then sees it. Raises UnknownShard."""
@@ -160,12 +163,7 @@ class Pass(_Kept, Generic[T]):
         with self._lock:
             self._turn += 1
             super().close()
-
-    def __enter__(self) -> Pass[T]:
-        return self
-
-    def __exit__(self, kind: type[BaseException] | None, error: BaseException | None, at: TracebackType | None) -> None:
-        self.close()
+            self._board._passes.discard(self)
 
 
 @dataclass(frozen=True)
@@ -306,6 +304,10 @@ def _check_settings(code: int) -> None:
     _check(code)
 
 
+class PassOpen(DurkenzoError):
+    """A pass of the board is open: close it first."""
+
+
 class Board(_Kept, Generic[T]):
     """A board: a body for each shard, and who may use it. Threads may share it: each call takes its lock."""
 
@@ -335,6 +337,8 @@ class Board(_Kept, Generic[T]):
     def _begin(self, bodies: Iterable[T]) -> tuple[ctypes.Array[ctypes.c_uint64], int]:
         """Keeps the bodies, and returns their numbers, and how many they are."""
         self._bodies = list(bodies)
+        # Those that aren't closed.
+        self._passes: weakref.WeakSet[Pass[T]] = weakref.WeakSet()
         self.control: Control[T] = Control(self)
         count = len(self._bodies)
         return (ctypes.c_uint64 * count)(*range(count)), count
@@ -345,6 +349,17 @@ class Board(_Kept, Generic[T]):
     def new_pass(self, server: int) -> Pass[T]:
         """Returns a new pass, admitted as this server. Raises BadArgument or NoMemory."""
         return Pass(self, server)
+
+    def into_bodies(self) -> list[T]:
+        """Closes the board, and returns its bodies in the order of their shards. Raises PassOpen while a pass of it is
+        open, which leaves the board as it was, or WrongHandle if the board is closed."""
+        with self._lock:
+            if not self._handle.full:
+                raise WrongHandle()
+            if self._passes:
+                raise PassOpen()
+            self.close()
+            return self._bodies
 
 
 class Layout(_Kept):

@@ -3,10 +3,15 @@ from __future__ import annotations
 
 import ctypes
 import threading
+from types import TracebackType
+from typing import TypeVar
 
 from ._library import LIBRARY, Handle, RecordParts
 from .errors import error_of
 from .record import Record
+
+
+K = TypeVar("K", bound="Kept")
 
 
 def check(code: int, parts: RecordParts | None = None) -> None:
@@ -16,7 +21,7 @@ def check(code: int, parts: RecordParts | None = None) -> None:
 
 
 class Kept:
-    """What the library keeps for an object, which lets it go at the end.
+    """What the library keeps for an object, which lets it go at the end: of its `with` block, or of its life.
 
     A handle is used by one call at a time, and other threads run while ctypes is in a call. So whoever gives the handle
     to the library, or puts another one in its place, holds the lock of its object; a new object needs none. Of several
@@ -30,6 +35,12 @@ class Kept:
         """Lets go what the library keeps for this. An admission ends. Further calls raise WrongHandle."""
         with self._lock:
             LIBRARY.durkenzo_close(ctypes.byref(self._handle))
+
+    def __enter__(self: K) -> K:
+        return self
+
+    def __exit__(self, kind: type[BaseException] | None, error: BaseException | None, at: TracebackType | None) -> None:
+        self.close()
 
     def __del__(self) -> None:
         # What was refused before it was made has no lock, and keeps nothing.

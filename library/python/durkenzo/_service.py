@@ -4,7 +4,6 @@ from __future__ import annotations
 import ctypes
 import struct
 from dataclasses import dataclass
-from types import TracebackType
 from typing import TYPE_CHECKING, Union
 
 from ._kept import Kept, check
@@ -269,9 +268,3 @@ class ServicePass(Kept):
             at = ctypes.byref(self._handle)
             check(LIBRARY.durkenzo_checkpoint(at, shard, ctypes.byref(generation), ctypes.byref(read)), read)
         return generation.value
-
-    def __enter__(self) -> ServicePass:
-        return self
-
-    def __exit__(self, kind: type[BaseException] | None, error: BaseException | None, at: TracebackType | None) -> None:
-        self.close()
