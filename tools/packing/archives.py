@@ -36,6 +36,9 @@ def tarred(files, top, epoch):
             tar.addfile(entry(f"{top}/{folder}".rstrip("/"), 0o755, epoch, tarfile.DIRTYPE))
         for name, file in sorted(files.items()):
             info = entry(f"{top}/{name}", file.mode, epoch)
-            info.size = len(file.content)
+            if file.target:
+                info.mode, info.type, info.linkname = 0o777, tarfile.SYMTYPE, file.target
+            else:
+                info.size = len(file.content)
             tar.addfile(info, io.BytesIO(file.content))
     return zipped(made.getvalue(), epoch, level=6)

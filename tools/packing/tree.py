@@ -1,4 +1,5 @@
 """The files of a package below its prefix, as they are installed: programs, libraries, headers, pages, completions."""
+import os
 import pathlib
 import shutil
 import subprocess
@@ -49,6 +50,11 @@ def programs(room, given):
         yield f"bin/{path.name}", File(room.stripped(path, "--strip-all"), 0o755)
 
 
+def link(file):
+    """The link, which leads to the same place of what is packed."""
+    return File(b"", target=os.readlink(file))
+
+
 def shared(room, given):
     """Has `make` build the shared object and the archive of all; returns the folder."""
     built = room.folder / "library"
@@ -65,7 +71,9 @@ def headers(given):
 def libraries(room, given):
     """What a program in C links, and in lib/durkenzo what DURKENZO_LIB names for one in Rust."""
     built = shared(room, given)
-    yield "lib/libdurkenzo.so", File(room.stripped(built / "libdurkenzo.so", "--strip-unneeded"))
+    for file in sorted(built.glob("libdurkenzo.so*")):
+        is_link = file.is_symlink()
+        yield f"lib/{file.name}", link(file) if is_link else File(room.stripped(file, "--strip-unneeded"))
     yield "lib/libdurkenzo.a", File(room.stripped(built / "libdurkenzo.a", "--strip-debug"))
     for file in sorted(given.libraries.iterdir()):
         is_archive = file.suffix == ".a"

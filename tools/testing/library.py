@@ -5,13 +5,16 @@ where nothing is kept. So where it left none, the library and what stands on it 
 without proof."""
 import os
 import pathlib
+import re
 import shutil
 import subprocess
+import zipfile
 
 import exported
 import limited
 import runs
 import sources
+from packing import made
 from testing.part import Verdict, verdict
 
 FOLDER = sources.TOP / "library"
@@ -76,10 +79,42 @@ def of_program(room, prefix, flags, name, wanted):
         yield ran(f"the C {name} under valgrind", watched, room, wanted, **env)
 
 
+def wanted_version():
+    """The version that is told of what stands on the libraries: it says so if they aren't proved."""
+    is_marked = NAMED in os.environ and (pathlib.Path(os.environ[NAMED]) / exported.MARK).is_file()
+    return made.VERSION + (made.UNPROVED if is_marked else "")
+
+
+def output_of(*command, **env):
+    """What the command writes, or nothing where it can't."""
+    done = subprocess.run(list(map(str, command)), env={**os.environ, **env}, capture_output=True, text=True)
+    return done.stdout
+
+
+def of_object(prefix, version):
+    """The shared object's name has its interface's number, links lead to it, and it exports its calls alone; each header
+    is there, and pkg-config tells the version."""
+    folder, numbers = prefix / "lib", version.partition("+")[0]
+    name = re.search(r"SONAME +(\S+)", output_of("objdump", "-p", folder / "libdurkenzo.so"))
+    wanted, file = f"libdurkenzo.so.{numbers.partition('.')[0]}", f"libdurkenzo.so.{numbers}"
+    is_named = name and name[1] == wanted and (folder / file).is_file()
+    leads = {os.path.realpath(folder / it) for it in ("libdurkenzo.so", wanted)} == {os.path.realpath(folder / file)}
+    yield verdict("the shared object's name and links", bool(is_named and leads), f"{sorted(folder.glob('*.so*'))}")
+    lines = output_of("nm", "-D", "--defined-only", folder / "libdurkenzo.so").splitlines()
+    others = [it for it in lines if not it.split()[-1].startswith("durkenzo_")]
+    yield verdict("what the shared object exports", bool(lines) and not others, "\n".join(others))
+    lacking = {it.name for it in (FOLDER / "c").glob("*.h")} - {it.name for it in (prefix / "include").iterdir()}
+    yield verdict("headers are installed", not lacking, f"there is no {', '.join(sorted(lacking))}")
+    if shutil.which("pkg-config"):
+        told = output_of("pkg-config", "--modversion", "durkenzo", PKG_CONFIG_PATH=f"{folder}/pkgconfig").strip()
+        yield verdict("the version that pkg-config tells", told == version, f"{told}, and not {version}")
+
+
 def in_c(room):
     """The prefix is what `make install` fills, and the compiler finds it as a user's does."""
     prefix = room / "prefix"
     yield ran("make install", ["make", "install", f"BUILD={room}/build", f"PREFIX={prefix}"], FOLDER)
+    yield from of_object(prefix, wanted_version())
     if shutil.which("pkg-config"):
         found = ["pkg-config", "--cflags", "--libs", "durkenzo"]
         flags = subprocess.run(
@@ -106,10 +141,23 @@ def wheel_maker():
     return None
 
 
+def of_platform(wheel, version):
+    """The wheel says that it is for this platform, and for any Python; and what a page about it shows."""
+    with zipfile.ZipFile(wheel) as packed:
+        texts = {pathlib.Path(it).name: packed.read(it).decode() for it in packed.namelist() if ".dist-info/" in it}
+    is_platform = "Root-Is-Purelib: false" in texts["WHEEL"] and "Tag: py3-none-linux_" in texts["WHEEL"]
+    yield verdict("the wheel is one of this platform", is_platform, texts["WHEEL"])
+    wanted = (f"Version: {version}\n", "Classifier: Typing :: Typed", "Description-Content-Type: text/markdown")
+    lacking = [it for it in wanted if it not in texts["METADATA"]]
+    yield verdict("what the wheel tells of itself", not lacking, f"{lacking} isn't in\n{texts['METADATA']}")
+
+
 def in_wheel(room, python):
     """The wheel brings its shared object: its example runs in a fresh environment with no variable set."""
     venv = room / "venv"
     yield ran("make wheel", ["make", "wheel", f"BUILD={room}/build", f"PYTHON={python}"], FOLDER)
+    for wheel in (room / "build/wheel").glob("*.whl"):
+        yield from of_platform(wheel, wanted_version())
     yield ran("a fresh venv", [python, "-m", "venv", "--without-pip", venv], room)
     install = [python, "-m", "pip", "--python", venv / "bin/python", "install", "--quiet", "--no-index"]
     yield ran("the wheel is installed", [*install, *(room / "build/wheel").glob("*.whl")], room)

@@ -68,6 +68,11 @@ def with_libraries(tree):
     return lambda name: ["env", "-i", shutil.which("chroot"), tree, f"/bin/{name}"]
 
 
+def version_of(how):
+    """The version that is told of what is packed so."""
+    return made.VERSION + (made.UNPROVED if how == "unproved" else "")
+
+
 def programs(tree, room, how):
     """Each program does its first example, with no file but its own and what it loads."""
     command = with_libraries(tree)
@@ -76,7 +81,7 @@ def programs(tree, room, how):
         yield Verdict(f"{script.name}, packed {how}", fault_of([*command("sm_cli"), "model"], 0, output, "", script))
     for name in ("sm_cli", "durkenzo-server"):
         told = runs.finished(list(map(str, [*command(name), "--version"]))).output.decode().split()
-        wanted = made.VERSION + (made.UNPROVED if how == "unproved" else "")
+        wanted = version_of(how)
         yield verdict(f"{name} --version, packed {how}", told[-1:] == [wanted], " ".join(told))
     yield Verdict(f"the server, packed {how}", served_fault(command("durkenzo-server"), room))
 
@@ -97,8 +102,9 @@ def served_fault(command, room):
     return None if said[::2] == [1, 2] else f"it answered {said}"
 
 
-def libraries(tree, room, folder):
+def libraries(tree, room, folder, version):
     """Its C example and its Rust example link the packed library, and the wheel brings its own."""
+    yield from library.of_object(tree, version)
     plain = {"PATH": PLAIN, "PKG_CONFIG_PATH": str(tree / "lib/pkgconfig")}
     if shutil.which("gcc", path=PLAIN) and shutil.which("pkg-config", path=PLAIN):
         words = ["pkg-config", "--cflags", "--libs", "durkenzo"]
@@ -115,6 +121,7 @@ def libraries(tree, room, folder):
     words = ["cargo", "run", "--quiet", "--offline", "--jobs", "2", "--example", "counters"]
     yield library.ran("the packed crate's example", words, crate, library.COUNTED, **env)
     for wheel in folder.glob("*.whl"):
+        yield from library.of_platform(wheel, version)
         yield from of_wheel(wheel, room)
 
 
@@ -208,7 +215,7 @@ def passed(wanted):
             return
         yield is_same(room / "one", room / "two")
         tree = unpacked(room / "one", room / "root")
-        yield from libraries(tree, room, room / "one")
+        yield from libraries(tree, room, room / "one", version_of(how))
         yield from pages(tree, room)
         yield from deployed(tree, room)
         yield from programs(tree, room, how)
