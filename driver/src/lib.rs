@@ -9,6 +9,7 @@
 mod addresses;
 mod base_parts;
 mod command;
+mod command_fault;
 mod control;
 mod core_fault;
 mod decision;
@@ -36,6 +37,7 @@ mod work;
 
 pub use addresses::Addresses;
 pub use command::{Command, Next};
+pub use command_fault::CommandFault;
 pub use control::Control;
 pub(crate) use core_fault::CoreFault;
 pub use durable::{Durable, Reads, Tuning};

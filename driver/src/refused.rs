@@ -1,13 +1,14 @@
 use crate::core_fault::CoreFault;
+use crate::CommandFault;
 use durkenzo_store::{ReadError, WriteError};
 use thiserror::Error;
 
 /// Why the control doesn't do what it is asked for.
 #[derive(Debug, Error)]
 pub enum Refused {
-    /// The proved control refuses it, by this code of `durkenzo_control.h`.
-    #[error("the control refuses it by code {0}")]
-    Judged(u32),
+    /// The proved control refuses it.
+    #[error("the control refuses it: {0}")]
+    Judged(CommandFault),
     /// What lies in the store isn't what commands lead to.
     #[error("what lies in the store is wrong: {0}")]
     Damaged(String),
@@ -25,18 +26,18 @@ pub enum Refused {
     Write(#[from] WriteError),
 }
 
-/// The codes of the control's own faults, and those of settings.
-const FIRST_REFUSAL: u32 = 10;
-const LAST_REFUSAL: u32 = 49;
-const NOT_FOLLOWED: u32 = 96;
-
 impl Refused {
     pub(crate) fn of(fault: CoreFault) -> Refused {
         match fault.0 .0 {
-            code @ (FIRST_REFUSAL..=LAST_REFUSAL | NOT_FOLLOWED) => Refused::Judged(code),
+            // A rule of settings.
             70..=83 => Refused::OtherSettings,
             93..=95 => Refused::Damaged("records and states don't go together".to_owned()),
-            code => Refused::Damaged(format!("the proved control answered code {code}")),
+            code => match CommandFault::of(code) {
+                CommandFault::Other(code) => {
+                    Refused::Damaged(format!("the proved control answered code {code}"))
+                }
+                fault => Refused::Judged(fault),
+            },
         }
     }
 
@@ -44,5 +45,28 @@ impl Refused {
     pub(crate) fn in_vain() -> Refused {
         let why = "it was sent as often as may be";
         WriteError::Unknown(why.to_owned()).into()
+    }
+}
+
+#[cfg(test)]
+mod tests {
+    use super::*;
+    use durkenzo_store_sys::Code;
+
+    #[test]
+    fn a_refusal_is_told_by_its_reason() {
+        let told = |code| Refused::of(CoreFault(Code(code))).to_string();
+        assert_eq!(
+            told(12),
+            "the control refuses it: the server owns the shard"
+        );
+        let unread = "the control refuses it: a follower hasn't read that the shard is taken";
+        assert_eq!(told(96), unread);
+        // Codes of which no command is refused.
+        for code in [3, 15, 27, 50, 92] {
+            let wrong =
+                format!("what lies in the store is wrong: the proved control answered code {code}");
+            assert_eq!(told(code), wrong);
+        }
     }
 }

@@ -3,13 +3,11 @@ use crate::dump::DumpFault;
 use crate::snapshot::ShardRow;
 use crate::wait::NotAdmitted;
 use durkenzo::{ChangeFault, PassFault, PlanFault, RestartFault, UnknownShard};
-use durkenzo_driver::Refused;
+use durkenzo_driver::{CommandFault, Refused};
 use durkenzo_store::WriteError;
 use std::error::Error;
 use std::fmt;
 
-/// The code by which the store's control refuses what a process hasn't read yet.
-const NOT_FOLLOWED: u32 = 96;
 /// The name of what it may do later.
 const NOT_NOW: &str = "NotNow";
 
@@ -148,9 +146,9 @@ impl Refusal {
     /// Why the store's control doesn't change a shard that stands so.
     pub fn of_stored(refused: &Refused, row: Option<&ShardRow>) -> Refusal {
         match refused {
-            Refused::Judged(code) => match change_fault(*code) {
+            Refused::Judged(why) => match change_fault(*why) {
                 Some(fault) => Refusal::of_change(fault, row),
-                None => Refusal::for_now(*code),
+                None => Refusal::for_now(*why),
             },
             other => Refusal::of_store(other),
         }
@@ -159,19 +157,21 @@ impl Refusal {
     /// Why the store's control doesn't make a step of the server's restart.
     pub fn of_stored_step(refused: &Refused, server: u16) -> Refusal {
         match refused {
-            Refused::Judged(code) => match restart_fault(*code) {
+            Refused::Judged(why) => match restart_fault(*why) {
                 Some(fault) => Refusal::of_restart(fault, server),
-                None => Refusal::for_now(*code),
+                None => Refusal::for_now(*why),
             },
             other => Refusal::of_store(other),
         }
     }
 
-    /// That the store's control refuses what it may do later, by this code.
-    fn for_now(code: u32) -> Refusal {
-        let reason = match code {
-            NOT_FOLLOWED => "a process hasn't read yet that the shard was taken".to_owned(),
-            code => format!("the control refuses it for now, by code {code}"),
+    /// That the store's control refuses for this reason what it may do later.
+    fn for_now(why: CommandFault) -> Refusal {
+        let reason = match why {
+            CommandFault::NotFollowed => {
+                "a process hasn't read yet that the shard was taken".to_owned()
+            }
+            why => format!("the control refuses it for now: {why}"),
         };
         Refusal::new(NOT_NOW, reason, "try again")
     }
@@ -240,34 +240,34 @@ impl Refusal {
     }
 }
 
-/// The fault of a change that has this code, but for those of admissions.
-fn change_fault(code: u32) -> Option<ChangeFault> {
-    Some(match code {
-        10 => ChangeFault::UnknownShard,
-        11 => ChangeFault::WrongPhase,
-        12 => ChangeFault::SameServer,
-        30 => ChangeFault::UnknownServer,
-        31 => ChangeFault::Leaving,
-        32 => ChangeFault::NoCapacity,
-        33 => ChangeFault::DomainLimit,
+/// The fault of a change for this reason, but for those of admissions.
+fn change_fault(why: CommandFault) -> Option<ChangeFault> {
+    Some(match why {
+        CommandFault::UnknownShard => ChangeFault::UnknownShard,
+        CommandFault::WrongPhase => ChangeFault::WrongPhase,
+        CommandFault::SameServer => ChangeFault::SameServer,
+        CommandFault::UnknownServer => ChangeFault::UnknownServer,
+        CommandFault::Leaving => ChangeFault::Leaving,
+        CommandFault::NoCapacity => ChangeFault::NoCapacity,
+        CommandFault::DomainLimit => ChangeFault::DomainLimit,
         _ => return None,
     })
 }
 
-/// The fault of a step of a restart that has this code.
-fn restart_fault(code: u32) -> Option<RestartFault> {
-    Some(match code {
-        30 => RestartFault::UnknownServer,
-        40 => RestartFault::NotUp,
-        41 => RestartFault::NotAsked,
-        42 => RestartFault::GlobalCap,
-        43 => RestartFault::ShardCap,
-        44 => RestartFault::GroupCap,
-        45 => RestartFault::DomainCap,
-        46 => RestartFault::NotApproved,
-        47 => RestartFault::StillServing,
-        48 => RestartFault::AlreadyUp,
-        49 => RestartFault::AlreadyFailed,
+/// The fault of a step of a restart for this reason.
+fn restart_fault(why: CommandFault) -> Option<RestartFault> {
+    Some(match why {
+        CommandFault::UnknownServer => RestartFault::UnknownServer,
+        CommandFault::NotUp => RestartFault::NotUp,
+        CommandFault::NotAsked => RestartFault::NotAsked,
+        CommandFault::GlobalCap => RestartFault::GlobalCap,
+        CommandFault::ShardCap => RestartFault::ShardCap,
+        CommandFault::GroupCap => RestartFault::GroupCap,
+        CommandFault::DomainCap => RestartFault::DomainCap,
+        CommandFault::NotApproved => RestartFault::NotApproved,
+        CommandFault::StillServing => RestartFault::StillServing,
+        CommandFault::AlreadyUp => RestartFault::AlreadyUp,
+        CommandFault::AlreadyFailed => RestartFault::AlreadyFailed,
         _ => return None,
     })
 }
@@ -348,12 +348,19 @@ mod tests {
 
     #[test]
     fn what_a_process_has_not_read_is_refused_for_now_alone() {
-        let of = |code| Refusal::from(Refused::Judged(code));
-        assert!(of(NOT_FOLLOWED).is_for_now() && !of(11).is_for_now());
+        let of = |why| Refusal::from(Refused::Judged(why));
+        let unread = of(CommandFault::NotFollowed);
+        assert!(unread.is_for_now() && !of(CommandFault::WrongPhase).is_for_now());
         assert_eq!(
-            of(NOT_FOLLOWED).to_string(),
+            unread.to_string(),
             "REFUSED NotNow: a process hasn't read yet that the shard was taken; try: try again"
         );
-        assert!(of(11).to_string().starts_with("REFUSED WrongPhase: "));
+        let wrong = of(CommandFault::WrongPhase).to_string();
+        assert!(wrong.starts_with("REFUSED WrongPhase: "));
+        assert_eq!(
+            of(CommandFault::Busy).to_string(),
+            "REFUSED NotNow: the control refuses it for now: the record has an admission, or has changed: it is to be \
+             read again; try: try again"
+        );
     }
 }
