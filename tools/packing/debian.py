@@ -2,6 +2,7 @@
 import email.utils
 import hashlib
 import os
+import pathlib
 import re
 import subprocess
 
@@ -16,15 +17,15 @@ Architecture: {architecture}
 Maintainer: {maintainer}
 Installed-Size: {size}
 Depends: {depends}
-Suggests: redis-tools
+Suggests: etcd-server, redis-tools
 Description: shard manager with a proved core{mark}
  Each range of keys, a shard, is written by one server at a time: also while it
  moves, while a server restarts, and where a client holds an old map. The core
  is proved, function by function; what stands round it is tested.
  .
  durkenzo-server serves Redis clients from several servers, in one process, or
- in processes of their own over etcd; its unit isn't enabled. sm_cli runs
- scripts on the same proved parts.
+ in processes of their own over etcd; no unit is enabled. sm_cli runs scripts
+ on the same proved parts.
 """
 MARK = " (built without proof)"
 CHANGES = """durkenzo ({version}) unstable; urgency=medium
@@ -44,11 +45,11 @@ License: Expat
 License: Expat
 {text}
 """
-# A removed server ends before its program does; a unit that came or went is read again.
+# A server ends before its program is removed; a unit that came or went is read again.
 STOP = """#!/bin/sh
 set -e
 if [ "$1" = remove ] && [ -d /run/systemd/system ]; then
-    deb-systemd-invoke stop durkenzo.service >/dev/null || true
+    deb-systemd-invoke stop durkenzo.service durkenzo-cluster.service durkenzo-etcd.service >/dev/null || true
 fi
 """
 RELOAD = """#!/bin/sh
@@ -58,7 +59,10 @@ if [ -d /run/systemd/system ]; then
 fi
 """
 SCRIPTS = {"prerm": STOP, "postinst": RELOAD, "postrm": RELOAD}
-UNIT = "lib/systemd/system/durkenzo.service"
+UNITS = ("server/durkenzo.service.in", "deploy/durkenzo-cluster.service.in", "deploy/durkenzo-etcd.service")
+# What an administrator writes, which an upgrade leaves alone; addresses and passwords are for root.
+SETTINGS = {"deploy/etcd.env": 0o600, "deploy/server.env": 0o600, "deploy/tls.conf.in": 0o644}
+OVERRIDES = "usr/share/lintian/overrides/durkenzo"
 
 
 def copyright_of():
@@ -91,6 +95,21 @@ def depends(room, given):
     return ", ".join(f"{it}{least if it == 'libc6' else ''}" for it in sorted(packages))
 
 
+def units():
+    """The units of systemd, and the settings of a cluster's, of which lintian may know that some are for root alone."""
+    found = {f"lib/systemd/system/{pathlib.Path(it).name.removesuffix('.in')}": tree.filled(it, "/usr") for it in UNITS}
+    settings = {
+        f"etc/durkenzo/{pathlib.Path(it).name.removesuffix('.in')}": tree.filled(it, "/usr", mode)
+        for it, mode in SETTINGS.items()
+    }
+    lines = [
+        f"durkenzo: non-standard-file-perm {file.mode:04o} != 0644 [{name}]\n"
+        for name, file in settings.items()
+        if file.mode != 0o644
+    ]
+    return found | settings | {OVERRIDES: tree.File("".join(lines).encode())}
+
+
 def files_of(room, given):
     """All files of the package, below its root."""
     found = {f"usr/{name}": file for name, file in tree.of_debian(room, given).items()}
@@ -100,8 +119,7 @@ def files_of(room, given):
     changes = CHANGES.format(version=given.version, maintainer=MAINTAINER, date=date)
     found[f"usr/{tree.DOCS}/changelog.gz"] = tree.File(archives.zipped(changes.encode(), 0))
     found[f"usr/{tree.DOCS}/copyright"] = tree.File(copyright_of().encode())
-    found[UNIT] = tree.unit("/usr")
-    return found
+    return found | units()
 
 
 def control(room, given, files):
@@ -115,8 +133,12 @@ def control(room, given, files):
         depends=depends(room, given),
         mark=MARK if given.version.endswith(made.UNPROVED) else "",
     )
-    sums = "".join(f"{hashlib.md5(it.content).hexdigest()}  {name}\n" for name, it in sorted(files.items()))
+    settings = [it for it in sorted(files) if it.startswith("etc/")]
+    sums = "".join(
+        f"{hashlib.md5(it.content).hexdigest()}  {name}\n" for name, it in sorted(files.items()) if name not in settings
+    )
     yield "control", tree.File(text.encode())
+    yield "conffiles", tree.File("".join(f"/{it}\n" for it in settings).encode())
     yield "md5sums", tree.File(sums.encode())
     for name, script in SCRIPTS.items():
         yield name, tree.File(script.encode(), 0o755)

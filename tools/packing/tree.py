@@ -101,10 +101,10 @@ def pages(room, given, zsh_folder):
     yield MANUAL.format(ALIAS), File(f".so man1/{given.server.name}.1\n".encode())
 
 
-def unit(prefix):
-    """The unit of systemd, which runs the server below this prefix."""
-    text = (TOP / "server/durkenzo.service.in").read_text(encoding="utf-8")
-    return File(text.replace("@PREFIX@", prefix).encode())
+def filled(name, prefix, mode=0o644):
+    """A file of the repository, as a unit of systemd, that names programs below this prefix."""
+    text = (TOP / name).read_text(encoding="utf-8")
+    return File(text.replace("@PREFIX@", prefix).encode(), mode)
 
 
 def examples():
@@ -126,10 +126,14 @@ def licences():
 
 
 def docs():
-    """The names of all pages and pictures, and of what a cluster's machines are installed by, as a page says."""
+    """The names of all pages and pictures."""
     found = sorted(it for it in (TOP / "docs").rglob("*") if it.suffix in (".md", ".svg"))
-    found += sorted((TOP / "deploy").iterdir())
     return ["README.md", "CHANGELOG.md", "SECURITY.md", *(str(it.relative_to(TOP)) for it in found)]
+
+
+def deployed():
+    """The names of what installs the units of a cluster, as a page says."""
+    return [str(it.relative_to(TOP)) for it in sorted((TOP / "deploy").iterdir())]
 
 
 def of_archive(room, given):
@@ -140,8 +144,8 @@ def of_archive(room, given):
         **dict(pages(room, given, "site-functions")),
         **dict(examples()),
         **dict(licences()),
-        **dict(texts(["LICENSE", *docs()])),
-        "lib/systemd/system/durkenzo.service": unit("/usr/local"),
+        **dict(texts(["LICENSE", *docs(), *deployed()])),
+        "lib/systemd/system/durkenzo.service": filled("server/durkenzo.service.in", "/usr/local"),
     }
 
 

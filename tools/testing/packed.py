@@ -181,8 +181,19 @@ def completions(tree):
 
 
 def of_debian(folder):
-    """lintian finds no fault of the package."""
+    """lintian finds no fault of the package, in which the units of a cluster are, with their settings."""
     packages = [*folder.glob("*.deb")]
+    for package in packages:
+        listed = subprocess.run(["dpkg-deb", "--contents", package], capture_output=True, text=True).stdout
+        modes = {line.split()[5].removeprefix("."): line.split()[0] for line in listed.splitlines()}
+        units = [f"/lib/systemd/system/durkenzo{it}.service" for it in ("", "-cluster", "-etcd")]
+        settings = ["/etc/durkenzo/etcd.env", "/etc/durkenzo/server.env", "/etc/durkenzo/tls.conf"]
+        lacking = [it for it in units + settings if it not in modes]
+        yield verdict("the package's units and settings", not lacking, f"it lacks {', '.join(lacking)}")
+        kept = subprocess.run(["dpkg-deb", "--info", package, "conffiles"], capture_output=True, text=True).stdout
+        yield verdict("an upgrade leaves settings alone", kept.split() == settings, kept)
+        shown = [it for it in settings[:2] if modes.get(it) != "-rw-------"]
+        yield verdict("settings with passwords are for root", not shown, f"{', '.join(shown)} may be read by others")
     if packages and shutil.which("lintian"):
         ran = subprocess.run(["lintian", "--fail-on", "error,warning", *packages], capture_output=True, text=True)
         yield verdict("lintian of the package", not ran.returncode, f"{ran.stdout}{ran.stderr}"[-2000:])
