@@ -16,11 +16,39 @@ use crate::resp::{OwnedCommand, Protocol};
 use durkenzo_driver::{Numbered, Step};
 use std::sync::Arc;
 
-/// Kinds of works.
-const KEYED: u8 = b'k';
-const NUMBERED: u8 = b'n';
-const TOGETHER: u8 = b't';
-const LISTING: u8 = b'l';
+/// A kind of works, which stands behind the version.
+#[derive(Clone, Copy, Debug, PartialEq, Eq)]
+enum Kind {
+    /// A command with keys of one shard.
+    Keyed,
+    /// The same, with its client's number.
+    Numbered,
+    /// The commands of EXEC.
+    Together,
+    /// A query of a shard's keys.
+    Listing,
+}
+
+impl Kind {
+    const ALL: [Kind; 4] = [Kind::Keyed, Kind::Numbered, Kind::Together, Kind::Listing];
+
+    /// The byte that it is spelled by.
+    fn byte(self) -> u8 {
+        match self {
+            Kind::Keyed => b'k',
+            Kind::Numbered => b'n',
+            Kind::Together => b't',
+            Kind::Listing => b'l',
+        }
+    }
+
+    /// The version, the kind of the work that is spelled so, and what follows; none where it is of no kind.
+    fn of(bytes: &[u8]) -> Option<(u8, Kind, &[u8])> {
+        let ([version, byte], rest) = bytes.split_first_chunk()?;
+        let kind = Kind::ALL.into_iter().find(|it| it.byte() == *byte)?;
+        Some((*version, kind, rest))
+    }
+}
 
 /// A command with keys of one shard.
 pub(super) fn spell_keyed(
@@ -30,9 +58,9 @@ pub(super) fn spell_keyed(
 ) -> Vec<u8> {
     let mut bytes = vec![version_of(protocol)];
     match numbered {
-        None => bytes.push(KEYED),
+        None => bytes.push(Kind::Keyed.byte()),
         Some(Numbered { client, number }) => {
-            bytes.push(NUMBERED);
+            bytes.push(Kind::Numbered.byte());
             bytes.extend(client.to_be_bytes());
             bytes.extend(number.to_be_bytes());
         }
@@ -43,7 +71,7 @@ pub(super) fn spell_keyed(
 
 /// The commands of EXEC.
 pub(super) fn spell_together(protocol: Protocol, transaction: &Transaction) -> Vec<u8> {
-    let mut bytes = vec![version_of(protocol), TOGETHER];
+    let mut bytes = vec![version_of(protocol), Kind::Together.byte()];
     for command in transaction.commands() {
         bytes.extend(command.spell());
     }
@@ -52,7 +80,7 @@ pub(super) fn spell_together(protocol: Protocol, transaction: &Transaction) -> V
 
 /// A query of a shard's keys.
 pub(super) fn spell_listing(protocol: Protocol, query: &Query) -> Vec<u8> {
-    let mut bytes = vec![version_of(protocol), LISTING];
+    let mut bytes = vec![version_of(protocol), Kind::Listing.byte()];
     bytes.extend(query.spell());
     bytes
 }
@@ -72,58 +100,66 @@ pub fn step_of_spelled(
     cluster: &Arc<Cluster>,
     reply_to: ReplyTo,
 ) -> Option<Step> {
-    let (head, rest) = bytes.split_first_chunk()?;
-    let [version, kind] = *head;
+    let (version, kind, rest) = Kind::of(bytes)?;
     let protocol = match version {
         2 => Protocol::Two,
         3 => Protocol::Three,
         _ => return None,
     };
-    if kind == LISTING {
-        let query = Query::spelled(rest)?;
-        return Some(Listing::told_to(query, shard, protocol, reply_to));
-    }
-    let answers = || Answers::new(1, 1, protocol, Join::InOrder, reply_to);
+    let answers = |reply_to| Answers::new(1, 1, protocol, Join::InOrder, reply_to);
     match kind {
-        KEYED => {
+        Kind::Keyed => {
             let command = command_of(rest, shard, keyspace)?;
-            Some(Keyed::step(command, shard, answers(), 0))
+            Some(Keyed::step(command, shard, answers(reply_to), 0))
         }
-        NUMBERED => {
+        Kind::Numbered => {
             let (numbered, rest) = number_of(rest)?;
             let command = command_of(rest, shard, keyspace)?;
-            Keyed::numbered(numbered, command, shard, answers()).ok()
+            Keyed::numbered(numbered, command, shard, answers(reply_to)).ok()
         }
-        TOGETHER => {
+        Kind::Together => {
             let transaction = transaction_of(rest, shard, keyspace)?;
             let keys = keys_of_all(transaction.data());
-            let step = Together::step(transaction, cluster.clone(), shard, keys, answers());
-            Some(step)
+            let answers = answers(reply_to);
+            Some(Together::step(
+                transaction,
+                cluster.clone(),
+                shard,
+                keys,
+                answers,
+            ))
         }
-        _ => None,
+        Kind::Listing => {
+            let query = Query::spelled(rest)?;
+            Some(Listing::told_to(query, shard, protocol, reply_to))
+        }
     }
 }
 
 /// Whether the work that is spelled so has a number of its client, by which it may have been made before.
 pub fn is_numbered(bytes: &[u8]) -> bool {
-    bytes.get(1) == Some(&NUMBERED)
+    matches!(Kind::of(bytes), Some((_, Kind::Numbered, _)))
 }
 
 /// The first version of the table of commands that has all commands of the work that is spelled so.
 pub fn table_of_spelled(bytes: &[u8]) -> u16 {
-    let kind = bytes.get(1).copied();
-    let mut rest = match kind {
-        Some(KEYED | TOGETHER) => &bytes[2..],
-        Some(NUMBERED) => number_of(&bytes[2..]).map_or(&[][..], |it| it.1),
-        _ => &[],
-    };
-    let mut table = FIRST_TABLE;
+    let (mut rest, mut table) = (commands_of(bytes), FIRST_TABLE);
     while let Some((command, end)) = OwnedCommand::first_spelled(rest) {
         let found = Spec::named(command.command().get(0));
         table = table.max(found.map_or(TABLE, |it| it.since));
         rest = &rest[end..];
     }
     table
+}
+
+/// The commands of the work that is spelled so, one behind the other; nothing where it has none.
+fn commands_of(bytes: &[u8]) -> &[u8] {
+    let found = Kind::of(bytes).and_then(|(_, kind, rest)| match kind {
+        Kind::Keyed | Kind::Together => Some(rest),
+        Kind::Numbered => number_of(rest).map(|it| it.1),
+        Kind::Listing => None,
+    });
+    found.unwrap_or_default()
 }
 
 /// The number that a client gave, and what follows it.
@@ -228,6 +264,10 @@ mod tests {
         }
         let listing = spell_listing(Protocol::Two, &Query::Count);
         assert_eq!(place.step(&listing, 1).unwrap().work.spell(), listing);
+        assert_eq!(table_of_spelled(&listing), FIRST_TABLE);
+        let of_all = spelled.iter().chain([&listing]);
+        let kinds: Vec<_> = of_all.map(|it| Kind::of(it).unwrap().1).collect();
+        assert_eq!(kinds, Kind::ALL);
         let begin = place.step(&spelled[1], 0).unwrap().begin;
         assert!(matches!(begin, Begin::Numbered(it, _) if it == numbered));
     }
