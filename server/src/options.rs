@@ -40,9 +40,13 @@ pub struct Options {
     #[arg(long, value_name = "PORT", default_value_t = 7379, help_heading = NETWORK)]
     pub port: u16,
 
-    /// Port of the page, /metrics and /healthz, at the same address; 0 is none
+    /// Port of the page, /metrics and /healthz, which ask for no password; 0 is none
     #[arg(long, value_name = "PORT", default_value_t = 7380, help_heading = NETWORK)]
     pub http_port: u16,
+
+    /// Their address [default: as --bind, but 127.0.0.1 if clients need a password and no certificate]
+    #[arg(long, value_name = "ADDRESS", help_heading = NETWORK)]
+    pub http_bind: Option<IpAddr>,
 
     /// Most connections at a time, 1 or more; fewer where the system lets the process have fewer files open
     #[arg(

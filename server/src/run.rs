@@ -11,11 +11,12 @@ use crate::io::{Acceptor, Handshaker, Inlet, Worker};
 use crate::join::Joined;
 use crate::keyspace::Keyspace;
 use crate::options::Options;
+use crate::safety::Safety;
 use crate::stored;
 use durkenzo_driver::Control;
 use mio::Poll;
 use std::error::Error;
-use std::net::SocketAddr;
+use std::net::{IpAddr, Ipv4Addr, Ipv6Addr, SocketAddr};
 use std::sync::mpsc::{channel, Receiver, Sender};
 use std::sync::Arc;
 use std::thread::{self, JoinHandle};
@@ -38,7 +39,8 @@ pub fn run(options: &Options) -> Result<(), Fault> {
     let listener = Acceptor::bind(address).map_err(told)?;
     // A process joins others once nothing of this machine keeps it from serving.
     if options.http_port > 0 {
-        attendant.bind_page(SocketAddr::new(options.bind, options.http_port))?;
+        let address = page_address(options, &configuration.safety);
+        attendant.bind_page(SocketAddr::new(address, options.http_port))?;
     }
     let joined = joined(options, &configuration, listener.local_addr()?)?;
     let storage = storage(options, &configuration, joined.as_ref())?;
@@ -155,6 +157,16 @@ fn controlling(
         controller.assign_all()?;
     }
     Ok(Box::new(move || controller.run(asked)))
+}
+
+/// Where the page is. It asks for no password: so where clients need one, it is on this machine, if nothing else is said.
+fn page_address(options: &Options, safety: &Safety) -> IpAddr {
+    let usual = match options.bind {
+        it if it.is_loopback() || !safety.is_by_password_alone() => it,
+        IpAddr::V4(_) => Ipv4Addr::LOCALHOST.into(),
+        IpAddr::V6(_) => Ipv6Addr::LOCALHOST.into(),
+    };
+    options.http_bind.unwrap_or(usual)
 }
 
 /// How many threads there are for clients.

@@ -126,7 +126,16 @@ impl Safety {
 
     /// Whether anybody who reaches the server may do what its clients do.
     pub fn is_open(&self) -> bool {
-        self.password.is_none() && !self.tls.as_ref().is_some_and(ClientsTls::asks_clients)
+        self.password.is_none() && !self.asks_certificates()
+    }
+
+    /// Whether clients show by a password alone that they may.
+    pub fn is_by_password_alone(&self) -> bool {
+        self.password.is_some() && !self.asks_certificates()
+    }
+
+    fn asks_certificates(&self) -> bool {
+        self.tls.as_ref().is_some_and(ClientsTls::asks_clients)
     }
 
     /// Whether a client that has just come has to do something first before it is answered.

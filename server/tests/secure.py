@@ -17,10 +17,12 @@ import urllib.error
 import urllib.request
 
 import redis
-from served import SECONDS, Client, Refused, assailed, main, packed, served, slowest_beside
+from served import SECONDS, Client, Refused, assailed, free_port, main, packed, served, slowest_beside
 
 SM = pathlib.Path(__file__).resolve().parent.parent.parent / "sm"
 HOST = "127.0.0.1"
+# Another address of this machine, at which a server is that listens at all.
+ELSEWHERE = "127.0.0.2"
 SEED = 20_261_126
 # Connections by TLS at a time, and what one may take of memory.
 MANY = 500
@@ -158,6 +160,25 @@ def clients_of_redis_speak_tls(program):
         del shell[-2:]
         ran = subprocess.run(shell, input="", capture_output=True, text=True, timeout=20)
         assert ran.returncode == 1 and "certificate" in ran.stderr, ran
+
+
+def the_page_is_on_this_machine_where_clients_need_a_password(program):
+    """It asks for no password, so from another address it is reached only if that is asked for."""
+
+    def answers(host, port):
+        for _ in range(20):
+            with contextlib.suppress(OSError):
+                with urllib.request.urlopen(f"http://{host}:{port}/state.json", timeout=SECONDS) as answer:
+                    return answer.status == 200
+            time.sleep(0.05)
+        return False
+
+    asked, password = ("--http-bind", "0.0.0.0"), {"DURKENZO_PASSWORD": "secret"}
+    for options, variables, is_everywhere in [((), {}, True), ((), password, False), (asked, password, True)]:
+        port = free_port()
+        with environment(**variables), served(program, "--bind", "0.0.0.0", "--http-port", port, *options):
+            assert answers(HOST, port), f"no page on this machine, with {variables} and {options}"
+            assert answers(ELSEWHERE, port) == is_everywhere, f"from elsewhere, with {variables} and {options}"
 
 
 def the_page_speaks_tls_too(program):
@@ -578,6 +599,7 @@ TESTS = [
 ]
 BY_TLS = [
     clients_of_redis_speak_tls,
+    the_page_is_on_this_machine_where_clients_need_a_password,
     the_page_speaks_tls_too,
     who_shows_no_certificate_gets_nothing,
     what_is_no_tls_gets_nothing,
