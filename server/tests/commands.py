@@ -61,6 +61,46 @@ EXISTS b c d e f nothing b
 DEL b c d e f nothing b
 TYPE a
 TYPE nothing
+SETNX fresh x
+SETNX newer 12
+SETNX newer x
+SETNX newer
+INCR newer
+GETRANGE newer 0 0
+GETRANGE newer -1 9
+SET range hello
+GETRANGE range 1 3
+GETRANGE range -3 -2
+GETRANGE range -2 -3
+GETRANGE range -99 -98
+GETRANGE range 3 99
+GETRANGE range 5 5
+GETRANGE range 9223372036854775807 -9223372036854775808
+GETRANGE range -9223372036854775808 9223372036854775807
+GETRANGE range 0
+GETRANGE range 0 x
+GETRANGE nothing 0 x
+GETRANGE nothing 0 -1
+SUBSTR range 2 -1
+GETSET range 7
+GETSET nothing new
+GETSET nothing
+GETDEL nothing
+GETDEL nothing
+GETDEL range newer
+TOUCH range newer b c d e f nothing b
+TOUCH
+MULTI
+SETNX {m}n 1
+SETNX {m}n 2
+GETSET {m}n 3
+GETRANGE {m}n 0 -1
+GETDEL {m}n
+TOUCH {m}n
+UNLINK {m}n
+EXEC
+UNLINK range newer b c d e f nothing b
+UNLINK
 PING
 PING hello
 PING a b

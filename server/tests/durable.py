@@ -73,7 +73,7 @@ def restarts_keep_all(program):
 
 
 def commands_answer_as_in_memory(program):
-    with folder() as data, over(program, data) as durable, served.served(program) as memory:
+    with folder() as data, over(program, data) as durable, served.served(program, "--shards", SHARDS) as memory:
         with durable.client() as one, memory.client() as other:
             for seed in range(3):
                 lines = random_lines(random.Random(seed), 700)
@@ -106,7 +106,7 @@ def transactions_have_a_bound(program):
 
 def answers_have_a_bound(program):
     """That to a command over several shards, and those to many commands of a client that reads nothing."""
-    with folder() as data, over(program, data) as durable, served.served(program) as memory:
+    with folder() as data, over(program, data) as durable, served.served(program, "--shards", SHARDS) as memory:
         with durable.client() as one, memory.client() as other:
             many = ("MGET", *["a", "b"] * 63, "a", "c")
             for length, is_refused in ((64_377, False), (64_378, True)):
@@ -143,7 +143,7 @@ def a_refusal_of_one_key_hides_no_write_of_another(program):
 
 
 def commands_of_a_transaction_are_counted_once(program):
-    with folder() as data, over(program, data) as durable, served.served(program) as memory:
+    with folder() as data, over(program, data) as durable, served.served(program, "--shards", SHARDS) as memory:
         for server in (durable, memory):
             with server.client() as client:
                 lines = [("INFO",), ("MULTI",), *[("INCR", "a")] * 7, ("EXEC",), ("INFO",)]
@@ -241,10 +241,13 @@ def random_lines(chance, count):
             ("INCRBY", key, text), ("DECRBY", key, text), ("DEL", key, other), ("EXISTS", key, other, key),
             ("TYPE", key), ("MGET", key, other, "none"), ("MSET", key, text, other, "z"), ("SET", key, text, "NX"),
             ("SET", key, text, "XX", "GET"), ("SET", key, text, "EX", 3), ("DEL", key), ("DEL", key, "{t}1", "{t}2"),
+            ("GETSET", key, text), ("GETDEL", key), ("SETNX", key, text), ("GETRANGE", key, chance.randint(-4, 4), text),
+            ("SUBSTR", key, 1, -2), ("TOUCH", key, other), ("UNLINK", key, other, "{t}1"),
         ]
         found.append(chance.choice(simple))
         if chance.random() < 0.1:
             inner = [("INCR", "{t}1"), ("APPEND", "{t}2", text), ("GET", "{t}1"), ("DEL", "{t}2"), ("PING",)]
+            inner += [("GETSET", "{t}1", text), ("GETDEL", "{t}2"), ("SETNX", "{t}2", text), ("TOUCH", "{t}1", "{t}2")]
             found += [("MULTI",), *chance.sample(inner, 3), ("EXEC",)]
     return found
 

@@ -34,9 +34,13 @@ impl ByKey {
             | DataWord::Decr
             | DataWord::DecrBy
             | DataWord::Get
+            | DataWord::GetDel
+            | DataWord::GetRange
+            | DataWord::GetSet
             | DataWord::Incr
             | DataWord::IncrBy
             | DataWord::Set
+            | DataWord::SetNx
             | DataWord::StrLen
             | DataWord::Type => None,
         }

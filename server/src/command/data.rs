@@ -20,11 +20,15 @@ pub enum DataWord {
     Del,
     Exists,
     Get,
+    GetDel,
+    GetRange,
+    GetSet,
     Incr,
     IncrBy,
     MGet,
     MSet,
     Set,
+    SetNx,
     StrLen,
     Type,
 }
@@ -39,7 +43,11 @@ pub fn execute(
     let mark = replies.mark();
     let done = match word {
         DataWord::Get => get(body, command.get(1), replies),
+        DataWord::GetDel => take(body, command.get(1), replies),
+        DataWord::GetRange => get_range(body, command, replies),
+        DataWord::GetSet => swap(body, command, replies),
         DataWord::Set => set(body, command, replies),
+        DataWord::SetNx => set_new(body, command, replies),
         DataWord::Incr => add(body, command.get(1), Some(1), replies),
         DataWord::Decr => add(body, command.get(1), Some(-1), replies),
         DataWord::IncrBy => add(body, command.get(1), number::parse(command.get(2)), replies),
@@ -219,6 +227,79 @@ fn set(body: &mut dyn ShardBody, command: Command<'_>, replies: &mut Replies) ->
     Ok(())
 }
 
+/// Has the key hold the text where it holds nothing, and answers whether it held nothing.
+fn set_new(
+    body: &mut dyn ShardBody,
+    command: Command<'_>,
+    replies: &mut Replies,
+) -> Result<(), Fault> {
+    let (key, text) = (command.get(1), command.get(2));
+    if text.len() > MAX_TEXT {
+        return Err(Fault::TooLong);
+    }
+    let is_new = !is_held(body, key)?;
+    if is_new {
+        put(body, key, text)?;
+    }
+    replies.count(usize::from(is_new));
+    Ok(())
+}
+
+/// Has the key hold the text, and answers what it held.
+fn swap(
+    body: &mut dyn ShardBody,
+    command: Command<'_>,
+    replies: &mut Replies,
+) -> Result<(), Fault> {
+    let (key, text) = (command.get(1), command.get(2));
+    if text.len() > MAX_TEXT {
+        return Err(Fault::TooLong);
+    }
+    get(body, key, replies)?;
+    put(body, key, text)
+}
+
+/// Has the key hold nothing, and answers what it held.
+fn take(body: &mut dyn ShardBody, key: &[u8], replies: &mut Replies) -> Result<(), Fault> {
+    get(body, key, replies)?;
+    delete(body, key).map(drop)
+}
+
+/// Answers the bytes from one place to another, both counted from the end where they are below 0.
+fn get_range(
+    body: &mut dyn ShardBody,
+    command: Command<'_>,
+    replies: &mut Replies,
+) -> Result<(), Fault> {
+    let [start, end] = [2, 3].map(|it| number::parse(command.get(it)).ok_or(Fault::NotInteger));
+    let (start, end) = (start?, end?);
+    match held(body, command.get(1))? {
+        None => replies.bulk(b""),
+        Some(Value::Text(text)) => replies.bulk(part_of(text, start, end)),
+        Some(Value::Count(count)) => {
+            replies.bulk(part_of(Digits::new(count).as_bytes(), start, end));
+        }
+    }
+    Ok(())
+}
+
+/// The bytes of the text from `start` to `end`, which is among them, as Redis counts.
+fn part_of(text: &[u8], start: i64, end: i64) -> &[u8] {
+    let length = text.len() as i64;
+    if start < 0 && end < 0 && start > end {
+        return b"";
+    }
+    let [start, end] = [start, end].map(|it| match it {
+        it if it < 0 => it.saturating_add(length).max(0),
+        it => it,
+    });
+    let end = end.min(length - 1);
+    match start <= end {
+        true => &text[start as usize..=end as usize],
+        false => b"",
+    }
+}
+
 /// Whether each key of MSET has a value, which is short enough, so that all are set or none is.
 pub(super) fn check_values(command: Command<'_>) -> Result<(), Fault> {
     if command.len() % 2 == 0 {
@@ -334,7 +415,7 @@ mod tests {
     }
 
     /// Lines, and what Redis 7 answers each of them.
-    const LINES: [(&str, &str); 34] = [
+    const LINES: [(&str, &str); 57] = [
         ("GET a", "$-1"),
         ("SET a 10", "+OK"),
         ("GET a", "$2 10"),
@@ -368,6 +449,32 @@ mod tests {
         ("SET a 3 NX XX", "-ERR syntax error"),
         ("SET a 3 NY", "-ERR syntax error"),
         ("STRLEN none", ":0"),
+        ("SETNX n 5", ":1"),
+        ("SETNX n 6", ":0"),
+        ("INCR n", ":6"),
+        ("GETSET n hello", "$1 6"),
+        ("GETSET new x", "$-1"),
+        ("GETRANGE n 0 -1", "$5 hello"),
+        ("GETRANGE n 1 3", "$3 ell"),
+        ("GETRANGE n -3 -2", "$2 ll"),
+        ("GETRANGE n -2 -3", "$0"),
+        ("GETRANGE n -99 1", "$2 he"),
+        ("GETRANGE n 3 99", "$2 lo"),
+        ("GETRANGE n 5 9", "$0"),
+        ("GETRANGE n 4 2", "$0"),
+        ("GETRANGE n 0 -99", "$1 h"),
+        ("GETRANGE none 0 -1", "$0"),
+        (
+            "GETRANGE n x 1",
+            "-ERR value is not an integer or out of range",
+        ),
+        ("SUBSTR a 0 0", "$1 3"),
+        ("TOUCH a n none", ":2"),
+        ("GETDEL n", "$5 hello"),
+        ("GETDEL n", "$-1"),
+        ("UNLINK new none", ":1"),
+        ("EXISTS new n", ":0"),
+        ("GET a", "$1 3"),
         (
             "DECRBY a -9223372036854775808",
             "-ERR decrement would overflow",

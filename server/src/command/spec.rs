@@ -116,7 +116,7 @@ pub struct Spec {
 
 /// The version of the table of commands: whoever adds commands raises it, and gives it to them by [`Spec::since`], so
 /// that no process sends them to one that doesn't know them.
-pub const TABLE: u16 = 1;
+pub const TABLE: u16 = 2;
 /// That of 0.1.0, of which its processes don't tell.
 pub const FIRST_TABLE: u16 = 1;
 
@@ -146,8 +146,13 @@ const fn other(name: &'static str, arity: i64, word: Word) -> Spec {
     }
 }
 
+/// One that version 2 of the table added.
+const fn since_2(spec: Spec) -> Spec {
+    Spec { since: 2, ..spec }
+}
+
 /// All commands, by their names.
-pub static COMMANDS: [Spec; 32] = [
+pub static COMMANDS: [Spec; 39] = [
     talk("acl", -2, TalkWord::Acl),
     data("append", 3, Keys::First, true, DataWord::Append),
     talk("auth", -2, TalkWord::Auth),
@@ -163,6 +168,9 @@ pub static COMMANDS: [Spec; 32] = [
     other("exec", 1, Word::Exec),
     data("exists", -2, Keys::All, false, DataWord::Exists),
     data("get", 2, Keys::First, false, DataWord::Get),
+    since_2(data("getdel", 2, Keys::First, true, DataWord::GetDel)),
+    since_2(data("getrange", 4, Keys::First, false, DataWord::GetRange)),
+    since_2(data("getset", 3, Keys::First, true, DataWord::GetSet)),
     talk("hello", -1, TalkWord::Hello),
     data("incr", 2, Keys::First, true, DataWord::Incr),
     data("incrby", 3, Keys::First, true, DataWord::IncrBy),
@@ -177,9 +185,13 @@ pub static COMMANDS: [Spec; 32] = [
     other("scanrange", 4, Word::ScanRange),
     talk("select", 2, TalkWord::Select),
     data("set", -3, Keys::First, true, DataWord::Set),
+    since_2(data("setnx", 3, Keys::First, true, DataWord::SetNx)),
     other("sm", -2, Word::Control),
     data("strlen", 2, Keys::First, false, DataWord::StrLen),
+    since_2(data("substr", 4, Keys::First, false, DataWord::GetRange)),
+    since_2(data("touch", -2, Keys::All, false, DataWord::Exists)),
     data("type", 2, Keys::First, false, DataWord::Type),
+    since_2(data("unlink", -2, Keys::All, true, DataWord::Del)),
 ];
 
 /// How many places the commands' names are spread over, a power of two.
@@ -399,7 +411,7 @@ mod tests {
         assert_eq!(versions.clone().max(), Some(TABLE));
         // How many each version added, from the first.
         let added = (FIRST_TABLE..=TABLE).map(|it| versions.clone().filter(|of| *of == it).count());
-        assert_eq!(added.collect::<Vec<_>>(), [32]);
+        assert_eq!(added.collect::<Vec<_>>(), [32, 7]);
     }
 
     #[test]

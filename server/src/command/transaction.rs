@@ -178,9 +178,10 @@ impl Size {
     fn of_data(word: DataWord, command: Command<'_>) -> Size {
         use DataWord::*;
         match word {
-            Get | MGet | Exists | StrLen | Type => Size::OfRead,
+            Get | GetRange | MGet | Exists | StrLen | Type => Size::OfRead,
+            GetDel | GetSet => Size::OfValue,
             Set if (3..command.len()).any(|it| command.is(it, "GET")) => Size::OfValue,
-            Set | Append | Decr | DecrBy | Del | Incr | IncrBy | MSet => Size::Short,
+            Set | SetNx | Append | Decr | DecrBy | Del | Incr | IncrBy | MSet => Size::Short,
         }
     }
 

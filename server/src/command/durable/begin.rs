@@ -18,10 +18,13 @@ pub(super) fn begin(word: DataWord, command: Command<'_>) -> Begin {
             let opposite = number::parse(command.get(2)).and_then(i64::checked_neg);
             opposite.map(|it| vec![add(command, it)])
         }
-        DataWord::Get | DataWord::MGet | DataWord::Exists | DataWord::StrLen | DataWord::Type => {
-            return Begin::Read(different(keys_of(word, command).collect()))
-        }
-        DataWord::Append => None,
+        DataWord::Get
+        | DataWord::GetRange
+        | DataWord::MGet
+        | DataWord::Exists
+        | DataWord::StrLen
+        | DataWord::Type => return Begin::Read(different(keys_of(word, command).collect())),
+        DataWord::Append | DataWord::GetDel | DataWord::GetSet | DataWord::SetNx => None,
     };
     match writes {
         Some(writes) => Begin::Write(writes),
@@ -50,9 +53,13 @@ pub(super) fn keys_of<'a>(
         | DataWord::Decr
         | DataWord::DecrBy
         | DataWord::Get
+        | DataWord::GetDel
+        | DataWord::GetRange
+        | DataWord::GetSet
         | DataWord::Incr
         | DataWord::IncrBy
         | DataWord::Set
+        | DataWord::SetNx
         | DataWord::StrLen
         | DataWord::Type => (1, 1),
     };

@@ -93,10 +93,14 @@ fn texts_of(word: DataWord, command: Command<'_>) -> usize {
         | DataWord::DecrBy
         | DataWord::Del
         | DataWord::Get
+        | DataWord::GetDel
+        | DataWord::GetRange
+        | DataWord::GetSet
         | DataWord::Incr
         | DataWord::IncrBy
         | DataWord::MSet
         | DataWord::Set
+        | DataWord::SetNx
         | DataWord::StrLen
         | DataWord::Type => 1,
     }

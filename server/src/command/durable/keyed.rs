@@ -109,7 +109,11 @@ impl Keyed {
             DataWord::Append
             | DataWord::Exists
             | DataWord::Get
+            | DataWord::GetDel
+            | DataWord::GetRange
+            | DataWord::GetSet
             | DataWord::MGet
+            | DataWord::SetNx
             | DataWord::StrLen
             | DataWord::Type => return Err(Fault::NotNumbered),
         }
