@@ -50,8 +50,8 @@ def lib(crate):
 
 
 def over_library(is_unproved):
-    """Has what cargo builds from here on link the library of boards: the one that DURKENZO_LIB names, or the proved one,
-    which is proved and built first, or another without proof."""
+    """Has what cargo builds from here on link the library of boards: the one that DURKENZO_LIB names, or the proved
+    one, which is proved and built first, or another without proof."""
     if is_unproved:
         os.environ["DURKENZO_LIB"] = str(unproved_libraries())
     elif "DURKENZO_LIB" not in os.environ:

@@ -92,8 +92,8 @@ def output_of(*command, **env):
 
 
 def of_object(prefix, version):
-    """The shared object's name has its interface's number, links lead to it, and it exports its calls alone; each header
-    is there, and pkg-config tells the version."""
+    """The shared object's name has its interface's number, links lead to it, and it exports its calls alone; each
+    header is there, and pkg-config tells the version."""
     folder, numbers = prefix / "lib", version.partition("+")[0]
     name = re.search(r"SONAME +(\S+)", output_of("objdump", "-p", folder / "libdurkenzo.so"))
     wanted, file = f"libdurkenzo.so.{numbers.partition('.')[0]}", f"libdurkenzo.so.{numbers}"

@@ -49,8 +49,8 @@ def refused(copy, crate, name, wanted, *words, **env):
     """The verdict on a check that has to be refused by words that name what is wanted."""
     ran = copy.checked(crate, *words, **env)
     lacking = [it for it in wanted if it not in ran.stderr]
-    is_well = ran.returncode != 0 and not lacking
-    return verdict(f"{crate} {name}", is_well, f"it ended with {ran.returncode} and doesn't say {lacking}:\n{ran.stderr[-2000:]}")
+    why = f"it ended with {ran.returncode} and doesn't say {lacking}:\n{ran.stderr[-2000:]}"
+    return verdict(f"{crate} {name}", ran.returncode != 0 and not lacking, why)
 
 
 def verdicts(copy, empty):

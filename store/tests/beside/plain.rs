@@ -1,4 +1,4 @@
-//! A store that is implemented outside of the crate, as a user's would be: in memory, by a thread that does all in turn.
+//! A store that is implemented outside of the crate, as a user's would be: in memory, by a thread that does all.
 use durkenzo_store::{
     Change, CompactError, Done, LeaseError, LeaseId, Outcome, Pair, ReadError, Reading, Revision,
     Seen, Store, Transaction, Watch, Watcher, WriteError,
