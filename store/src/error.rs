@@ -21,6 +21,9 @@ pub enum WriteError {
     /// It isn't made, as its lease has ended.
     #[error("its lease has ended")]
     LeaseEnded,
+    /// It isn't made, as what it compares or reads isn't what was written there.
+    #[error("{0}: restore the folder")]
+    Damaged(String),
     /// It isn't made, as the store doesn't let this user write.
     #[error("the store doesn't let this user write: {0}")]
     Denied(String),
@@ -35,6 +38,9 @@ pub enum ReadError {
     /// The store doesn't answer.
     #[error("the store doesn't answer: {0}")]
     Unavailable(String),
+    /// What lies there isn't what was written there.
+    #[error("{0}: restore the folder")]
+    Damaged(String),
     /// The store doesn't let this user read.
     #[error("the store doesn't let this user read: {0}")]
     Denied(String),
@@ -60,7 +66,9 @@ pub enum CompactError {
 impl From<ReadError> for CompactError {
     fn from(error: ReadError) -> CompactError {
         match error {
-            ReadError::Unavailable(reason) => CompactError::Unavailable(reason),
+            ReadError::Unavailable(reason) | ReadError::Damaged(reason) => {
+                CompactError::Unavailable(reason)
+            }
             ReadError::Denied(reason) => CompactError::Denied(reason),
             ReadError::Stopped => CompactError::Stopped,
         }

@@ -104,6 +104,11 @@ pub trait Store: Send + std::marker::Sync {
     /// `Ended` where it had ended; else where the store can't be asked.
     fn revoke(&self, lease: LeaseId) -> Result<(), LeaseError>;
 
+    /// How many bytes there is room for, of what may take what the store keeps back; none where that isn't known.
+    fn left(&self) -> Option<u64> {
+        None
+    }
+
     /// Lets go what was deleted or written over, and has the store take writes again where that makes room.
     ///
     /// # Errors

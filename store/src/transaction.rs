@@ -1,4 +1,4 @@
-use crate::{LeaseId, Reading, Revision};
+use crate::{LeaseId, Reading, Revision, Room};
 
 /// A key whose revision has to be the one that was read.
 #[derive(Clone, Debug, PartialEq, Eq)]
@@ -33,6 +33,8 @@ pub struct Transaction {
     pub deletes: Vec<Vec<u8>>,
     /// What is read where a compare doesn't hold.
     pub reads: Vec<Vec<u8>>,
+    /// Which room what is written may take.
+    pub room: Room,
 }
 
 impl Transaction {
@@ -80,6 +82,26 @@ impl Transaction {
     pub fn or_read(mut self, key: impl Into<Vec<u8>>) -> Transaction {
         self.reads.push(key.into());
         self
+    }
+
+    /// Lets it take the room that the store keeps back.
+    pub fn with_kept_room(mut self) -> Transaction {
+        self.room = Room::KeptBack;
+        self
+    }
+
+    /// Which room it may take: what only deletes makes some.
+    pub fn room(&self) -> Room {
+        match self.puts.is_empty() {
+            true => Room::KeptBack,
+            false => self.room,
+        }
+    }
+
+    /// How many bytes it writes.
+    pub(crate) fn bytes(&self) -> usize {
+        let puts = self.puts.iter();
+        puts.map(|it| it.key.len() + it.value.len()).sum()
     }
 
     /// Whether it writes or deletes anything where it is made.

@@ -2,7 +2,9 @@
 mod beside;
 
 use beside::{Chance, Folder};
-use durkenzo_store::{Embedded, OpenError, Outcome, Store, Sync, Transaction, WriteError};
+use durkenzo_store::{
+    Embedded, OpenError, Outcome, ReadError, Store, Sync, Transaction, WriteError,
+};
 use std::env;
 use std::fs;
 use std::io::{BufRead, BufReader, Write};
@@ -106,7 +108,7 @@ fn refuses_another_version() {
             opened,
             Err(OpenError::OtherVersion {
                 found: 7,
-                known: 1,
+                known: 2,
                 ..
             })
         ),
@@ -130,25 +132,126 @@ fn refuses_a_torn_file() {
     assert!(matches!(opened, Err(OpenError::Damaged(..))), "{opened:?}");
 }
 
-/// A file system of one megabyte, where this may be mounted.
+/// A file of the first version has what it had, and gets checksums with what is written.
 #[test]
-fn reads_go_on_where_the_disk_is_full() {
+fn reads_the_version_without_checksums() {
+    let folder = Folder::new();
+    let file = rusqlite::Connection::open(file(&folder)).expect("it");
+    let words = "
+        CREATE TABLE pairs (
+            key BLOB PRIMARY KEY NOT NULL, value BLOB NOT NULL, revision INTEGER NOT NULL, lease INTEGER
+        );
+        CREATE INDEX leased ON pairs (lease) WHERE lease IS NOT NULL;
+        CREATE TABLE moment (revision INTEGER NOT NULL);
+        INSERT INTO moment VALUES (5);
+        INSERT INTO pairs VALUES (CAST('a' AS BLOB), CAST('1' AS BLOB), 3, NULL);
+        INSERT INTO pairs VALUES (CAST('b' AS BLOB), CAST('2' AS BLOB), 5, NULL);
+        PRAGMA application_id = 1148547691;
+        PRAGMA user_version = 1;
+    ";
+    file.execute_batch(words).expect("it");
+    drop(file);
+    let store = folder.open();
+    store.make(Transaction::new().put("b", "3")).expect("made");
+    drop(store);
+    let store = folder.open();
+    let reading = store.read(&[b"a", b"b"]).expect("a reading");
+    let told = reading
+        .pairs
+        .iter()
+        .map(|it| (&it.value[..], it.revision.0));
+    assert_eq!(told.collect::<Vec<_>>(), [(&b"1"[..], 3), (b"3", 6)]);
+    assert_eq!(reading.revision.0, 6);
+}
+
+/// One bit of the file is another one: then it isn't opened, or what is read is right or refused.
+#[test]
+fn gives_no_bytes_that_were_changed() {
+    let folder = Folder::new();
+    let store = folder.open();
+    for at in 0..40 {
+        let value = vec![at; 100 + 150 * usize::from(at % 9)];
+        let put = Transaction::new().put(format!("key/{at:02}"), value);
+        store.make(put).expect("made");
+    }
+    let right = store.read_all(b"").expect("a reading");
+    drop(store);
+    let (whole, mut chance) = (fs::read(file(&folder)).expect("it"), Chance(5));
+    let (mut damaged, mut closed) = (0, 0);
+    for _ in 0..400 {
+        let mut bytes = whole.clone();
+        let place = chance.below(whole.len() as u64) as usize;
+        bytes[place] ^= 1 << chance.below(8);
+        fs::write(file(&folder), bytes).expect("it");
+        let Ok(store) = Embedded::in_folder(folder.path(), Sync::No) else {
+            closed += 1;
+            continue;
+        };
+        for it in &right.pairs {
+            match store.read(&[&it.key]) {
+                Ok(reading) => assert_eq!(reading.pairs, [it.clone()], "byte {place}"),
+                Err(ReadError::Damaged(why)) => {
+                    let key = String::from_utf8_lossy(&it.key);
+                    assert!(why.contains(&*key), "{why}");
+                    damaged += 1;
+                }
+                Err(error) => panic!("byte {place}: {error}"),
+            }
+        }
+    }
+    assert!(damaged > 50 && closed > 0, "{damaged} and {closed}");
+}
+
+/// A row that was changed is refused in each way to read it, and all others can be read and written.
+#[test]
+fn refuses_only_what_was_changed() {
+    let folder = Folder::new();
+    let store = folder.open();
+    for key in ["a/1", "a/2", "b/1"] {
+        store.make(Transaction::new().put(key, "it")).expect("made");
+    }
+    drop(store);
+    let words = "UPDATE pairs SET value = CAST('at' AS BLOB) WHERE key = CAST('a/2' AS BLOB)";
+    let file = rusqlite::Connection::open(file(&folder)).expect("it");
+    file.execute_batch(words).expect("it");
+    drop(file);
+    let store = folder.open();
+    let is_damaged = |it: Result<_, ReadError>| matches!(it, Err(ReadError::Damaged(_)));
+    assert!(is_damaged(store.read(&[b"a/1", b"a/2"])));
+    assert!(is_damaged(store.read_all(b"a/")));
+    assert!(is_damaged(store.read_range(b"a/", b"c", 9)));
+    assert_eq!(store.read_all(b"b/").expect("a reading").pairs.len(), 1);
+    assert_eq!(store.read_keys(b"a/", b"c").expect("keys").len(), 3);
+    let lost = Transaction::new().compare("b/1", durkenzo_store::Revision::NEVER);
+    let refused = store.make(lost.or_read("a/2"));
+    assert!(
+        matches!(refused, Err(WriteError::Damaged(_))),
+        "{refused:?}"
+    );
+    store
+        .make(Transaction::new().put("a/2", "it"))
+        .expect("made");
+    assert_eq!(store.read_all(b"a/").expect("a reading").pairs.len(), 2);
+}
+
+/// Has a file system of so many megabytes, where one may be mounted.
+fn on_a_disk_of(megabytes: u64, body: impl FnOnce(&Path) + std::panic::UnwindSafe) {
     let folder = Folder::new();
     let mount = Command::new("mount")
-        .args(["-t", "tmpfs", "-o", "size=1m", "none"])
+        .args(["-t", "tmpfs", "-o", &format!("size={megabytes}m"), "none"])
         .arg(folder.path())
         .output();
     if !mount.is_ok_and(|it| it.status.success()) {
         eprintln!("nothing can be mounted here: no disk is full");
         return;
     }
-    let ended = std::panic::catch_unwind(|| fill(folder.path()));
+    let ended = std::panic::catch_unwind(|| body(folder.path()));
     let _ = Command::new("umount").arg(folder.path()).output();
     ended.expect("the disk was full as it should be");
 }
 
-fn fill(folder: &Path) {
-    let store = Embedded::in_folder(folder, Sync::Always).expect("a folder of our own");
+/// Writes until the disk is full, and says how many keys that are.
+fn fill(store: &Embedded) -> usize {
     let refused = (0..1_000).find_map(|at| {
         let outcome = store.make(Transaction::new().put(format!("key/{at}"), vec![7; 50_000]));
         outcome.err().map(|error| (at, error))
@@ -157,6 +260,62 @@ fn fill(folder: &Path) {
         panic!("{refused:?}")
     };
     assert!(at > 2);
+    at
+}
+
+#[test]
+fn reads_go_on_where_the_disk_is_full() {
+    on_a_disk_of(1, reads_go_on);
+}
+
+/// Deletions are made on a full disk, and what may take what is kept back: then there is room again.
+#[test]
+fn a_full_disk_has_room_for_deletions() {
+    for megabytes in [1, 6] {
+        on_a_disk_of(megabytes, deletions_go_on);
+    }
+}
+
+fn deletions_go_on(folder: &Path) {
+    let store = Embedded::in_folder(folder, Sync::Always).expect("a folder of our own");
+    let count = fill(&store);
+    // As much as is asked for again and again.
+    for it in 0..200 {
+        let small = Transaction::new().put("number", it.to_string());
+        store
+            .make(small.with_kept_room())
+            .expect("made by kept room");
+        let large = Transaction::new().put("large", vec![7; 50_000]);
+        let refused = store.make(large);
+        assert!(matches!(refused, Err(WriteError::Full(_))), "{refused:?}");
+    }
+    // What may take it can't use it up.
+    let taken = (0..1_000).find(|it| {
+        let large = Transaction::new().put(format!("more/{it}"), vec![7; 50_000]);
+        store.make(large.with_kept_room()).is_err()
+    });
+    assert!(taken.is_some_and(|it| it > 0), "{taken:?}");
+    for it in 0..count {
+        let delete = Transaction::new().delete(format!("key/{it}"));
+        store.make(delete).expect("deleted on a full disk");
+    }
+    for it in 0..count / 2 {
+        let put = Transaction::new().put(format!("again/{it}"), vec![7; 50_000]);
+        store.make(put).expect("there is room again");
+    }
+    store.compact().expect("compacted");
+    assert_eq!(
+        store.read_all(b"again/").expect("a reading").pairs.len(),
+        count / 2
+    );
+    drop(store);
+    let store = Embedded::in_folder(folder, Sync::Always).expect("a folder of our own");
+    assert!(fill(&store) > count / 4);
+}
+
+fn reads_go_on(folder: &Path) {
+    let store = Embedded::in_folder(folder, Sync::Always).expect("a folder of our own");
+    let at = fill(&store);
     assert_eq!(store.read_all(b"key/").expect("a reading").pairs.len(), at);
     let compares = Transaction::new().compare("nowhere", durkenzo_store::Revision::NEVER);
     assert!(matches!(store.make(compares), Ok(Outcome::Made(_))));

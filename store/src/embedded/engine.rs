@@ -1,15 +1,19 @@
 use super::job::{Job, Ticket};
 use super::leases::Leases;
-use super::tables::{Failure, Tables};
+use super::tables::{Failure, Means, Tables};
 use super::watchers::Watchers;
 use crate::{
-    Change, CompactError, Outcome, Pair, ReadError, Reading, Revision, Transaction, WriteError,
+    Change, CompactError, Outcome, Pair, ReadError, Reading, Revision, Room, Transaction,
+    WriteError,
 };
 use std::sync::mpsc::{Receiver, RecvTimeoutError};
 use std::time::{Duration, Instant};
 
 /// How many jobs are taken at once, at most.
 const MOST_JOBS: usize = 1_024;
+
+/// How many bytes they write before no more are taken.
+const MOST_BYTES: usize = 1 << 20;
 
 /// How often the tables may do what they do from time to time.
 const TICK: Duration = Duration::from_secs(1);
@@ -33,6 +37,8 @@ struct Batch {
 enum Trouble {
     /// The disk is full: none was made.
     Full(String),
+    /// What was to be read isn't what was written there: none was made.
+    Damaged(String),
     /// None was made, and the tables can't be used any more.
     NotMade(String),
     /// They may have been made, and the tables can't be used any more.
@@ -44,6 +50,7 @@ impl From<Failure> for Trouble {
     fn from(failure: Failure) -> Trouble {
         match failure {
             Failure::Full(reason) => Trouble::Full(reason),
+            Failure::Damaged(reason) => Trouble::Damaged(reason),
             Failure::Broken(reason) => Trouble::NotMade(reason),
         }
     }
@@ -90,12 +97,17 @@ impl<T: Tables> Engine<T> {
         };
         let mut jobs = Vec::new();
         let waiting = std::iter::once(first).chain(self.jobs.try_iter());
+        let mut bytes = 0;
         for job in waiting.take(MOST_JOBS) {
             if matches!(job, Job::End) {
                 let is_last = true;
                 return Batch { jobs, is_last };
             }
+            bytes += job.bytes();
             jobs.push(job);
+            if bytes >= MOST_BYTES {
+                break;
+            }
         }
         let is_last = false;
         Batch { jobs, is_last }
@@ -131,14 +143,14 @@ impl<T: Tables> Engine<T> {
             )
     }
 
-    /// Makes these transactions and tells what became of them; where the disk is full, of each by itself.
+    /// Makes these transactions and tells what became of them; where not all can be made, of each by itself.
     fn make_and_tell(&mut self, transactions: &[Transaction], tickets: Vec<Ticket>) -> bool {
         match self.make(transactions) {
             Ok(outcomes) => tickets
                 .into_iter()
                 .zip(outcomes)
                 .for_each(|(ticket, it)| ticket.tell(it)),
-            Err(Trouble::Full(_)) if transactions.len() > 1 => {
+            Err(Trouble::Full(_) | Trouble::Damaged(_)) if transactions.len() > 1 => {
                 let mut alone = transactions.iter().zip(tickets);
                 return alone.all(|(it, ticket)| {
                     self.make_and_tell(std::slice::from_ref(it), vec![ticket])
@@ -147,6 +159,7 @@ impl<T: Tables> Engine<T> {
             Err(trouble) => {
                 let (error, goes_on) = match trouble {
                     Trouble::Full(reason) => (WriteError::Full(reason), true),
+                    Trouble::Damaged(reason) => (WriteError::Damaged(reason), true),
                     Trouble::NotMade(reason) => (WriteError::Unreachable(reason), false),
                     Trouble::Unknown(reason) => (WriteError::Unknown(reason), false),
                 };
@@ -159,14 +172,34 @@ impl<T: Tables> Engine<T> {
         true
     }
 
-    /// Makes these transactions, one after another, by one commit, and tells those who watch.
+    /// Makes these transactions by one commit; if the disk has no room for one that is alone, makes it some.
     fn make(
+        &mut self,
+        transactions: &[Transaction],
+    ) -> Result<Vec<Result<Outcome, WriteError>>, Trouble> {
+        let mut made = self.make_at_once(transactions);
+        if !matches!(made, Err(Trouble::Full(_))) || transactions.len() > 1 {
+            return made;
+        }
+        for means in Means::EACH {
+            self.tables.make_room(means);
+            made = self.make_at_once(transactions);
+            if !matches!(made, Err(Trouble::Full(_))) {
+                break;
+            }
+        }
+        self.tables.take_room_back();
+        made
+    }
+
+    /// Makes these transactions, one after another, by one commit, and tells those who watch.
+    fn make_at_once(
         &mut self,
         transactions: &[Transaction],
     ) -> Result<Vec<Result<Outcome, WriteError>>, Trouble> {
         let writes = transactions.iter().any(Transaction::writes);
         if writes {
-            self.tables.begin()?;
+            self.tables.begin(room_of(transactions))?;
         }
         let mut changes = Vec::new();
         let outcomes = match self.make_each(transactions, &mut changes) {
@@ -266,7 +299,9 @@ impl<T: Tables> Engine<T> {
         match self.tables.commit(moment) {
             Ok(()) => Ok(()),
             Err(Failure::Full(reason)) => Err(self.taken_back(Trouble::Full(reason))),
-            Err(Failure::Broken(reason)) => Err(Trouble::Unknown(reason)),
+            Err(Failure::Damaged(reason) | Failure::Broken(reason)) => {
+                Err(Trouble::Unknown(reason))
+            }
         }
     }
 
@@ -274,7 +309,9 @@ impl<T: Tables> Engine<T> {
     fn taken_back(&mut self, trouble: Trouble) -> Trouble {
         match self.tables.rollback() {
             Ok(()) => trouble,
-            Err(Failure::Full(reason) | Failure::Broken(reason)) => Trouble::NotMade(reason),
+            Err(Failure::Full(reason) | Failure::Damaged(reason) | Failure::Broken(reason)) => {
+                Trouble::NotMade(reason)
+            }
         }
     }
 
@@ -330,6 +367,9 @@ impl<T: Tables> Engine<T> {
                 let made = self.tables.compact();
                 let _ = tell.send(made.map_err(|it| CompactError::from(unavailable(it))));
             }
+            Job::Left(tell) => {
+                let _ = tell.send(self.tables.left());
+            }
             Job::Grant(length, tell) => {
                 let _ = tell.send(self.leases.grant(length, now));
             }
@@ -353,7 +393,21 @@ impl<T: Tables> Engine<T> {
     }
 }
 
+/// The room that all of them may take.
+fn room_of(transactions: &[Transaction]) -> Room {
+    let writing = transactions.iter().filter(|it| it.writes());
+    match writing
+        .map(Transaction::room)
+        .all(|it| it == Room::KeptBack)
+    {
+        true => Room::KeptBack,
+        false => Room::Free,
+    }
+}
+
 fn unavailable(failure: Failure) -> ReadError {
-    let (Failure::Full(reason) | Failure::Broken(reason)) = failure;
-    ReadError::Unavailable(reason)
+    match failure {
+        Failure::Full(reason) | Failure::Broken(reason) => ReadError::Unavailable(reason),
+        Failure::Damaged(reason) => ReadError::Damaged(reason),
+    }
 }

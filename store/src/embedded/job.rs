@@ -20,12 +20,24 @@ pub(super) enum Job {
     Keep(LeaseId, Sender<Result<(), LeaseError>>),
     Revoke(LeaseId, Sender<Result<(), LeaseError>>),
     Compact(Sender<Result<(), CompactError>>),
+    /// How much room is left.
+    Left(Sender<Option<u64>>),
     /// Ends the thread, after all that was asked before.
     End,
 }
 
 /// Who is told what became of a transaction: once, also where its job is dropped.
 pub(super) struct Ticket(Option<Done>);
+
+impl Job {
+    /// How many bytes it writes.
+    pub(super) fn bytes(&self) -> usize {
+        match self {
+            Job::Make(transaction, _) => transaction.bytes(),
+            _ => 0,
+        }
+    }
+}
 
 impl Ticket {
     pub(super) fn new(done: Done) -> Ticket {

@@ -1,5 +1,5 @@
 use super::tables::{Failure, Tables};
-use crate::{LeaseId, Pair, Revision};
+use crate::{LeaseId, Pair, Revision, Room};
 use std::collections::BTreeMap;
 
 /// Tables in memory, where nothing fails.
@@ -53,7 +53,7 @@ impl Tables for Memory {
         Ok(before.map(|(key, _)| key.clone()).collect())
     }
 
-    fn begin(&mut self) -> Result<(), Failure> {
+    fn begin(&mut self, _room: Room) -> Result<(), Failure> {
         Ok(())
     }
 

@@ -1,9 +1,11 @@
 //! A store inside the process: a thread of its own makes what is sent, all that waits at once.
+mod checksum;
 mod engine;
 mod job;
 mod leases;
 mod memory;
 mod open_error;
+mod reserve;
 mod sqlite;
 mod sync;
 mod tables;
@@ -130,6 +132,10 @@ impl Store for Embedded {
     fn revoke(&self, lease: LeaseId) -> Result<(), LeaseError> {
         self.ask(|tell| Job::Revoke(lease, tell))
             .unwrap_or(Err(LeaseError::Stopped))
+    }
+
+    fn left(&self) -> Option<u64> {
+        self.ask(Job::Left)?
     }
 
     fn compact(&self) -> Result<(), CompactError> {

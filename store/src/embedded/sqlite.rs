@@ -1,8 +1,11 @@
-use super::tables::{Failure, Tables};
+use super::checksum::Checksum;
+use super::reserve::{Kept, Reserve};
+use super::tables::{Failure, Means, Tables};
 use super::{OpenError, Sync};
-use crate::{LeaseId, Pair, Revision};
+use crate::{LeaseId, Pair, Revision, Room};
 use rusqlite::{params, Connection, ErrorCode, OptionalExtension, Row};
 use std::fs;
+use std::io;
 use std::path::{Path, PathBuf};
 
 /// The name of the file in the folder.
@@ -10,21 +13,41 @@ const FILE: &str = "durkenzo.sqlite";
 /// What marks the file as ours.
 const APPLICATION: i64 = 0x4475_726b;
 /// The version of its form.
-const VERSION: i64 = 1;
+const VERSION: i64 = 2;
+/// The version before, whose rows have no checksums.
+const UNSUMMED: i64 = 1;
 const SCHEMA: &str = "
-    CREATE TABLE pairs (key BLOB PRIMARY KEY NOT NULL, value BLOB NOT NULL, revision INTEGER NOT NULL, lease INTEGER);
+    CREATE TABLE pairs (key BLOB PRIMARY KEY NOT NULL, value BLOB NOT NULL, revision INTEGER NOT NULL, lease INTEGER,
+        checksum INTEGER);
     CREATE INDEX leased ON pairs (lease) WHERE lease IS NOT NULL;
-    CREATE TABLE moment (revision INTEGER NOT NULL);
-    INSERT INTO moment VALUES (0);
+    CREATE TABLE moment (revision INTEGER NOT NULL, checksum INTEGER);
+    INSERT INTO moment (revision) VALUES (0);
+";
+/// Rows that were there before have no checksum until they are written again.
+const SUMMED: &str = "
+    ALTER TABLE pairs ADD COLUMN checksum INTEGER;
+    ALTER TABLE moment ADD COLUMN checksum INTEGER;
 ";
 const PUT: &str = "
-    INSERT INTO pairs (key, value, revision, lease) VALUES (?1, ?2, ?3, ?4)
-    ON CONFLICT (key) DO UPDATE SET value = excluded.value, revision = excluded.revision, lease = excluded.lease
+    INSERT INTO pairs (key, value, revision, lease, checksum) VALUES (?1, ?2, ?3, ?4, ?5)
+    ON CONFLICT (key) DO UPDATE SET value = excluded.value, revision = excluded.revision, lease = excluded.lease,
+        checksum = excluded.checksum
 ";
+
+/// Why nothing is written where a little room is left.
+const KEPT_BACK: &str = "the disk is full, but for what is kept back so that keys can be deleted";
+/// How many pages SQLite's log has at most before they go to the tables.
+const LOG_PAGES: u64 = 1_000;
 
 /// Tables in a file of SQLite, which this process has for itself.
 pub(super) struct Sqlite {
     connection: Connection,
+    reserve: Reserve,
+    /// What of the reserve is lent to a transaction, if it is, and how much was kept back before.
+    lent: Option<(Means, Kept)>,
+    /// Which room the transaction under way may take, and how many pages there were before it, if that matters.
+    under_way: (Room, u64),
+    page_size: u64,
     moment: Revision,
     sync: Sync,
     is_written: bool,
@@ -35,9 +58,10 @@ impl Sqlite {
     pub(super) fn open(folder: &Path, sync: Sync) -> Result<Sqlite, OpenError> {
         fs::create_dir_all(folder).map_err(|error| OpenError::Folder(folder.to_owned(), error))?;
         let file = folder.join(FILE);
-        opened(&file, sync).map_err(|error| match error {
+        opened(folder, &file, sync).map_err(|error| match error {
             Refused::Sqlite(error) => open_error(folder, file, &error),
             Refused::Form(error) => error(file),
+            Refused::Reserve(error) => OpenError::Folder(folder.to_owned(), error),
         })
     }
 }
@@ -46,6 +70,16 @@ impl Sqlite {
 enum Refused {
     Sqlite(rusqlite::Error),
     Form(Box<dyn FnOnce(PathBuf) -> OpenError>),
+    Reserve(io::Error),
+}
+
+/// How a file is before it is used.
+#[derive(Clone, Copy, PartialEq, Eq)]
+enum Form {
+    New,
+    /// Its rows have no checksums.
+    Unsummed,
+    Summed,
 }
 
 impl From<rusqlite::Error> for Refused {
@@ -54,17 +88,14 @@ impl From<rusqlite::Error> for Refused {
     }
 }
 
-fn opened(file: &Path, sync: Sync) -> Result<Sqlite, Refused> {
+fn opened(folder: &Path, file: &Path, sync: Sync) -> Result<Sqlite, Refused> {
     let connection = Connection::open(file)?;
     connection.set_prepared_statement_cache_capacity(32);
     connection.pragma_update(None, "locking_mode", "EXCLUSIVE")?;
     // As SQLite advises where a file may be spoilt.
     connection.pragma_update(None, "trusted_schema", "OFF")?;
     connection.pragma_update(None, "cell_size_check", "ON")?;
-    let is_new = connection.query_row("SELECT count(*) = 0 FROM sqlite_schema", [], |row| {
-        row.get(0)
-    })?;
-    look_at_marks(&connection, is_new)?;
+    let form = form(&connection)?;
     connection.pragma_update(None, "journal_mode", "WAL")?;
     let level = match sync {
         Sync::Always => "FULL",
@@ -72,10 +103,9 @@ fn opened(file: &Path, sync: Sync) -> Result<Sqlite, Refused> {
         Sync::No => "OFF",
     };
     connection.pragma_update(None, "synchronous", level)?;
-    if is_new {
-        let marks =
-            format!("PRAGMA application_id = {APPLICATION}; PRAGMA user_version = {VERSION};");
-        connection.execute_batch(&format!("BEGIN IMMEDIATE; {SCHEMA} {marks} COMMIT"))?;
+    if form == Form::New {
+        let marks = format!("PRAGMA application_id = {APPLICATION};");
+        connection.execute_batch(&bettered(&format!("{SCHEMA} {marks}")))?;
     }
     // A quicker check doesn't see that an index has lost a key, which then couldn't be read.
     let check = "integrity_check";
@@ -85,41 +115,89 @@ fn opened(file: &Path, sync: Sync) -> Result<Sqlite, Refused> {
             OpenError::Damaged(file, found)
         })));
     }
+    if form == Form::Unsummed {
+        connection.execute_batch(&bettered(SUMMED))?;
+    }
     let moment = moment_without_leases(&connection)?;
+    let reserve = Reserve::open(folder).map_err(Refused::Reserve)?;
+    let page_size = count(&connection, "page_size")?;
+    // What is in the log may have to go to the tables by what is kept back.
+    let most_pages = LOG_PAGES.min(reserve.half() / page_size);
+    connection.pragma_update(None, "wal_autocheckpoint", most_pages)?;
     Ok(Sqlite {
         connection,
+        reserve,
+        lent: None,
+        under_way: (Room::Free, 0),
+        page_size,
         moment,
         sync,
         is_written: true,
     })
 }
 
-/// Refuses a file that isn't ours, or of another version.
-fn look_at_marks(connection: &Connection, is_new: bool) -> Result<(), Refused> {
+/// What gives the file this form of the schema, all at once.
+fn bettered(schema: &str) -> String {
+    format!("BEGIN IMMEDIATE; {schema} PRAGMA user_version = {VERSION}; COMMIT")
+}
+
+/// The count that SQLite tells by this name.
+fn count(connection: &Connection, name: &str) -> rusqlite::Result<u64> {
+    connection.pragma_query_value(None, name, |row| row.get(0))
+}
+
+/// How the file is; refuses one that isn't ours, or of another version.
+fn form(connection: &Connection) -> Result<Form, Refused> {
+    let tables = "SELECT count(*) = 0 FROM sqlite_schema";
+    let is_new = connection.query_row(tables, [], |row| row.get(0))?;
     let number = |name| connection.pragma_query_value(None, name, |row| row.get::<_, i64>(0));
     let (application, found) = (number("application_id")?, number("user_version")?);
     let known = VERSION;
     match application {
-        APPLICATION if found == known => Ok(()),
+        APPLICATION if found == known => Ok(Form::Summed),
+        APPLICATION if found == UNSUMMED => Ok(Form::Unsummed),
         APPLICATION => Err(Refused::Form(Box::new(move |file| {
             OpenError::OtherVersion { file, found, known }
         }))),
-        0 if is_new => Ok(()),
+        0 if is_new => Ok(Form::New),
         _ => Err(Refused::Form(Box::new(OpenError::Foreign))),
     }
 }
 
 /// Deletes the keys under leases, and gives the moment after it.
-fn moment_without_leases(connection: &Connection) -> rusqlite::Result<Revision> {
+fn moment_without_leases(connection: &Connection) -> Result<Revision, Refused> {
     connection.execute_batch("BEGIN IMMEDIATE")?;
+    let mut moment = moment(connection)?;
     if connection.execute("DELETE FROM pairs WHERE lease IS NOT NULL", [])? > 0 {
-        connection.execute("UPDATE moment SET revision = revision + 1", [])?;
+        moment = moment.next();
+        write_moment(connection, moment)?;
     }
-    let moment = connection.query_row("SELECT revision FROM moment", [], |row| {
-        row.get(0).map(revision)
-    })?;
     connection.execute_batch("COMMIT")?;
     Ok(moment)
+}
+
+/// The moment, if its row has what was written.
+fn moment(connection: &Connection) -> Result<Revision, Refused> {
+    let words = "SELECT revision, checksum FROM moment";
+    let (moment, sum) = connection.query_row(words, [], |row| {
+        Ok((row.get(0).map(revision)?, row.get::<_, Option<i64>>(1)?))
+    })?;
+    match sum.is_none_or(|it| it == Checksum::of_moment(moment).number()) {
+        true => Ok(moment),
+        false => Err(Refused::Form(Box::new(|file| {
+            OpenError::Damaged(
+                file,
+                "the number of its last revision was changed".to_owned(),
+            )
+        }))),
+    }
+}
+
+fn write_moment(connection: &Connection, moment: Revision) -> rusqlite::Result<usize> {
+    let sum = Checksum::of_moment(moment).number();
+    let words = "UPDATE moment SET revision = ?1, checksum = ?2";
+    let mut update = connection.prepare_cached(words)?;
+    update.execute([number(moment), sum])
 }
 
 fn open_error(folder: &Path, file: PathBuf, error: &rusqlite::Error) -> OpenError {
@@ -138,6 +216,7 @@ impl From<rusqlite::Error> for Failure {
     fn from(error: rusqlite::Error) -> Failure {
         match error.sqlite_error_code() {
             Some(ErrorCode::DiskFull) => Failure::Full(error.to_string()),
+            None => Failure::Damaged(error.to_string()),
             _ => Failure::Broken(error.to_string()),
         }
     }
@@ -152,12 +231,62 @@ fn revision(number: i64) -> Revision {
     Revision(number.unsigned_abs())
 }
 
-fn pair(row: &Row<'_>) -> rusqlite::Result<Pair> {
-    Ok(Pair {
+/// The pair of a row, if it has the bytes that were written.
+fn pair(row: &Row<'_>) -> Result<Pair, Failure> {
+    let pair = Pair {
         key: row.get(0)?,
         value: row.get(1)?,
         revision: row.get(2).map(revision)?,
-    })
+    };
+    let sum: Option<i64> = row.get(3)?;
+    match sum.is_none_or(|it| it == Checksum::of(&pair).number()) {
+        true => Ok(pair),
+        false => Err(Failure::Damaged(changed(&pair.key))),
+    }
+}
+
+fn changed(key: &[u8]) -> String {
+    format!(
+        "the bytes at {} aren't those that were written",
+        key.escape_ascii()
+    )
+}
+
+impl Sqlite {
+    /// Moves SQLite's log to its tables, which may take what is kept back for that while, and gives back the log's room.
+    fn tidy(&mut self) {
+        self.reserve.lend(Kept::Nothing);
+        // Where that fails, the log stays as it is, and it is tried again.
+        let _ = self.truncate_log();
+        self.reserve.take_back();
+    }
+
+    fn truncate_log(&self) -> rusqlite::Result<()> {
+        let truncate = "PRAGMA wal_checkpoint(TRUNCATE)";
+        self.connection.query_row(truncate, [], |_| Ok(()))
+    }
+
+    /// How many bytes of the tables are free.
+    fn free_within(&self) -> rusqlite::Result<u64> {
+        Ok(count(&self.connection, "freelist_count")? * self.page_size)
+    }
+
+    /// Whether what is kept back stays, or comes back, where the transaction under way is made.
+    fn leaves_what_is_kept(&self) -> rusqlite::Result<bool> {
+        let (room, pages) = self.under_way;
+        let stood = self.lent.map_or(self.reserve.kept(), |it| it.1);
+        let is_short = room == Room::Free && stood < Kept::Whole;
+        let may_grow = match self.lent {
+            None | Some((Means::Log, _)) => !is_short,
+            Some((Means::Half, _)) => room == Room::KeptBack,
+            Some((Means::All, _)) => false,
+        };
+        if !may_grow && count(&self.connection, "page_count")? > pages {
+            return Ok(false);
+        }
+        // Pages that are free within the tables stand for the half that they took.
+        Ok(!is_short || self.free_within()? >= self.reserve.half())
+    }
 }
 
 impl Tables for Sqlite {
@@ -178,30 +307,33 @@ impl Tables for Sqlite {
     fn pair_of(&self, key: &[u8]) -> Result<Option<Pair>, Failure> {
         let mut query = self
             .connection
-            .prepare_cached("SELECT key, value, revision FROM pairs WHERE key = ?1")?;
-        Ok(query.query_row([key], pair).optional()?)
+            .prepare_cached("SELECT key, value, revision, checksum FROM pairs WHERE key = ?1")?;
+        let mut found = query.query_and_then([key], pair)?;
+        found.next().transpose()
     }
 
     fn pairs(&self, prefix: &[u8]) -> Result<Vec<Pair>, Failure> {
-        let sql = "SELECT key, value, revision FROM pairs WHERE key >= ?1 ORDER BY key";
+        let sql = "SELECT key, value, revision, checksum FROM pairs WHERE key >= ?1 ORDER BY key";
         let mut query = self.connection.prepare_cached(sql)?;
+        let mut rows = query.query([prefix])?;
         let mut found = Vec::new();
-        for it in query.query_map([prefix], pair)? {
-            let it = it?;
-            if !it.key.starts_with(prefix) {
+        while let Some(row) = rows.next()? {
+            if !row.get::<_, Vec<u8>>(0)?.starts_with(prefix) {
                 break;
             }
-            found.push(it);
+            found.push(pair(row)?);
         }
         Ok(found)
     }
 
     fn range(&self, from: &[u8], end: &[u8], most: usize) -> Result<Vec<Pair>, Failure> {
-        let words = "SELECT key, value, revision FROM pairs WHERE key >= ?1 AND key < ?2 ORDER BY key LIMIT ?3";
+        let words = "
+            SELECT key, value, revision, checksum FROM pairs WHERE key >= ?1 AND key < ?2 ORDER BY key LIMIT ?3
+        ";
         let mut found = self.connection.prepare_cached(words)?;
         let most = i64::try_from(most).unwrap_or(i64::MAX);
-        let pairs = found.query_map((from, end, most), pair)?;
-        Ok(pairs.collect::<Result<_, _>>()?)
+        let pairs = found.query_and_then((from, end, most), pair)?;
+        pairs.collect()
     }
 
     fn keys(&self, from: &[u8], end: &[u8]) -> Result<Vec<Vec<u8>>, Failure> {
@@ -211,8 +343,18 @@ impl Tables for Sqlite {
         Ok(keys.collect::<Result<_, _>>()?)
     }
 
-    fn begin(&mut self) -> Result<(), Failure> {
-        Ok(self.connection.execute_batch("BEGIN IMMEDIATE")?)
+    fn begin(&mut self, room: Room) -> Result<(), Failure> {
+        if self.lent.is_none() {
+            self.reserve.take_back();
+        }
+        self.connection.execute_batch("BEGIN IMMEDIATE")?;
+        let is_whole = self.lent.is_none() && self.reserve.kept() == Kept::Whole;
+        let pages = match is_whole {
+            true => 0,
+            false => count(&self.connection, "page_count")?,
+        };
+        self.under_way = (room, pages);
+        Ok(())
     }
 
     fn put(&mut self, pair: &Pair, lease: Option<LeaseId>) -> Result<(), Failure> {
@@ -221,7 +363,8 @@ impl Tables for Sqlite {
             pair.key,
             pair.value,
             number(pair.revision),
-            lease.map(|it| it.0)
+            lease.map(|it| it.0),
+            Checksum::of(pair).number()
         ])?;
         Ok(())
     }
@@ -235,9 +378,10 @@ impl Tables for Sqlite {
     }
 
     fn commit(&mut self, moment: Revision) -> Result<(), Failure> {
-        self.connection
-            .prepare_cached("UPDATE moment SET revision = ?1")?
-            .execute([number(moment)])?;
+        write_moment(&self.connection, moment)?;
+        if !self.leaves_what_is_kept()? {
+            return Err(Failure::Full(KEPT_BACK.to_owned()));
+        }
         self.connection.execute_batch("COMMIT")?;
         (self.moment, self.is_written) = (moment, true);
         Ok(())
@@ -251,14 +395,52 @@ impl Tables for Sqlite {
         }
     }
 
+    fn make_room(&mut self, means: Means) {
+        if means == Means::Log {
+            self.tidy();
+        }
+        let stood = self.lent.map_or(self.reserve.kept(), |it| it.1);
+        self.lent = Some((means, stood));
+        match means {
+            Means::Log => {}
+            Means::Half => self.reserve.lend(Kept::Half),
+            Means::All => self.reserve.lend(Kept::Nothing),
+        }
+    }
+
+    fn take_room_back(&mut self) {
+        self.lent = None;
+        self.tidy();
+    }
+
+    fn left(&self) -> Option<u64> {
+        let lends = match self.reserve.kept() {
+            Kept::Whole => self.reserve.half(),
+            Kept::Half | Kept::Nothing => 0,
+        };
+        let within = self.free_within().unwrap_or(0);
+        Some(self.reserve.free() + within + lends)
+    }
+
     fn compact(&mut self) -> Result<(), Failure> {
-        self.connection.execute_batch("VACUUM")?;
-        let truncate = "PRAGMA wal_checkpoint(TRUNCATE)";
-        Ok(self.connection.query_row(truncate, [], |_| Ok(()))?)
+        self.reserve.lend(Kept::Nothing);
+        let vacuumed = self
+            .connection
+            .execute_batch("VACUUM")
+            .map_err(Failure::from);
+        let truncated = self.truncate_log();
+        self.reserve.take_back();
+        match vacuumed {
+            // What was deleted stays free within the file, for what is written next.
+            Err(Failure::Full(_)) => Ok(truncated?),
+            Err(failure) => Err(failure),
+            Ok(()) => Ok(truncated?),
+        }
     }
 
     /// Writes to the disk what was committed since: the log of SQLite first, then its tables.
     fn tick(&mut self) -> Result<(), Failure> {
+        self.reserve.take_back();
         if self.sync == Sync::Second && self.is_written {
             self.connection
                 .query_row("PRAGMA wal_checkpoint(PASSIVE)", [], |_| Ok(()))?;

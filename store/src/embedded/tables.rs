@@ -1,11 +1,28 @@
-use crate::{LeaseId, Pair, Revision};
+use crate::{LeaseId, Pair, Revision, Room};
 
 /// Why tables do nothing.
 pub(super) enum Failure {
     /// The disk is full; after a rollback all is as before.
     Full(String),
+    /// What is to be read isn't what was written there; all else can be read.
+    Damaged(String),
     /// They can't be used any more.
     Broken(String),
+}
+
+/// How room is made for a transaction that a full disk has refused: one after another.
+#[derive(Clone, Copy, Debug, PartialEq, Eq)]
+pub(super) enum Means {
+    /// The log of what was committed goes to the tables, and gives back its room.
+    Log,
+    /// Half of what is kept back is lent, and may be used up.
+    Half,
+    /// All is lent for now, to what uses up none of it.
+    All,
+}
+
+impl Means {
+    pub(super) const EACH: [Means; 3] = [Means::Log, Means::Half, Means::All];
 }
 
 /// Where the keys of an embedded store lie.
@@ -28,8 +45,8 @@ pub(super) trait Tables {
     /// The keys from this one on and before that end, in their order.
     fn keys(&self, from: &[u8], end: &[u8]) -> Result<Vec<Vec<u8>>, Failure>;
 
-    /// Begins writing.
-    fn begin(&mut self) -> Result<(), Failure>;
+    /// Begins writing, with this room.
+    fn begin(&mut self, room: Room) -> Result<(), Failure>;
 
     /// Writes a pair, which a lease's end will delete.
     fn put(&mut self, pair: &Pair, lease: Option<LeaseId>) -> Result<(), Failure>;
@@ -43,6 +60,17 @@ pub(super) trait Tables {
 
     /// Takes back all since writing began.
     fn rollback(&mut self) -> Result<(), Failure>;
+
+    /// Makes room for what was refused, by these means, until it is taken back.
+    fn make_room(&mut self, _means: Means) {}
+
+    /// Takes back what was lent, as far as that can be.
+    fn take_room_back(&mut self) {}
+
+    /// How many bytes can be written, of what may take what is kept back; none where that has no bound.
+    fn left(&self) -> Option<u64> {
+        None
+    }
 
     /// Gives back the room of what was deleted or written over.
     fn compact(&mut self) -> Result<(), Failure> {

@@ -1,0 +1,75 @@
+use crate::{Pair, Revision};
+use crc32fast::Hasher;
+
+/// What the bytes of a row come to, by which changed ones are told: CRC-32 over its revision, its key and its value.
+#[derive(Clone, Copy, Debug, PartialEq, Eq)]
+pub(super) struct Checksum(u32);
+
+impl Checksum {
+    /// That of this pair.
+    pub(super) fn of(pair: &Pair) -> Checksum {
+        Checksum::of_row(&pair.key, &pair.value, pair.revision)
+    }
+
+    /// That of the moment's row, which has neither key nor value.
+    pub(super) fn of_moment(moment: Revision) -> Checksum {
+        Checksum::of_row(&[], &[], moment)
+    }
+
+    fn of_row(key: &[u8], value: &[u8], revision: Revision) -> Checksum {
+        let mut sum = Hasher::new();
+        sum.update(&revision.0.to_be_bytes());
+        // Where the key ends is part of it.
+        sum.update(&key.len().to_be_bytes());
+        sum.update(key);
+        sum.update(value);
+        Checksum(sum.finalize())
+    }
+
+    /// As SQLite has it.
+    pub(super) fn number(self) -> i64 {
+        i64::from(self.0)
+    }
+}
+
+#[cfg(test)]
+mod tests {
+    use super::*;
+
+    fn sum(key: &str, value: &str, revision: u64) -> Checksum {
+        Checksum::of(&Pair {
+            key: key.into(),
+            value: value.into(),
+            revision: Revision(revision),
+        })
+    }
+
+    #[test]
+    fn each_part_of_a_row_is_in_its_sum() {
+        let sums = [
+            sum("ab", "c", 1),
+            sum("a", "bc", 1),
+            sum("ab", "d", 1),
+            sum("ab", "c", 2),
+            sum("bb", "c", 1),
+        ];
+        for (place, it) in sums.iter().enumerate() {
+            assert!(!sums[..place].contains(it), "{place}");
+        }
+    }
+
+    #[test]
+    fn each_bit_of_a_value_is_in_its_sum() {
+        let mut pair = Pair {
+            key: b"batch/00001/1".to_vec(),
+            value: vec![7; 300],
+            revision: Revision(9),
+        };
+        let whole = Checksum::of(&pair);
+        for bit in 0..300 * 8 {
+            pair.value[bit / 8] ^= 1 << (bit % 8);
+            assert_ne!(Checksum::of(&pair), whole, "bit {bit}");
+            pair.value[bit / 8] ^= 1 << (bit % 8);
+        }
+    }
+}
