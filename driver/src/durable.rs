@@ -4,11 +4,11 @@ use crate::{
     keys, process, reading, Came, Elsewhere, Member, NotDone, OpenFault, Own, Standing, Step,
 };
 use durkenzo_store::{
-    CompactError, Outcome, Revision, Seen, Store, Transaction, Watch, WriteError,
+    CompactError, Outcome, Revision, Room, Seen, Store, Transaction, Watch, WriteError,
 };
 use std::collections::BTreeSet;
 use std::fmt;
-use std::sync::atomic::{AtomicBool, AtomicUsize, Ordering};
+use std::sync::atomic::{AtomicBool, AtomicU64, AtomicUsize, Ordering};
 use std::sync::mpsc::{self, Receiver, Sender};
 use std::sync::{Arc, Mutex, MutexGuard, OnceLock, PoisonError, Weak};
 use std::thread::{self, JoinHandle};
@@ -20,6 +20,9 @@ const READERS: usize = 4;
 const TICK: Duration = Duration::from_millis(10);
 /// How many parts of a base are written at once.
 const PARTS: usize = 4;
+/// How much more room a base takes than its bytes: so much of that many, and what SQLite's pages take at least.
+const BASE_ROOM: (u64, u64) = (17, 16);
+const BASE_SLACK: u64 = 32 << 10;
 /// How many keys are deleted at once.
 const DELETES: usize = 64;
 /// How long a stop waits for transactions that are under way.
@@ -79,7 +82,12 @@ enum Wanted {
     Record(u16),
     /// Of the number of a process, for this shard.
     Process(u16),
+    /// Of the room that there is for a base of this shard, which is then written.
+    Room(u16, Ticket, Parts),
 }
+
+/// The parts of a base, each with its key.
+type Parts = Vec<(Vec<u8>, Vec<u8>)>;
 
 struct Inner {
     store: Arc<dyn Store>,
@@ -94,6 +102,10 @@ struct Inner {
     away: Mutex<BTreeSet<u16>>,
     readings: Mutex<Option<Sender<Wanted>>>,
     under_way: AtomicUsize,
+    /// Whether the store had no room for what was written last, but for what makes some.
+    is_full: AtomicBool,
+    /// How many bytes the bases have that are being written.
+    basing: AtomicU64,
     is_stopping: AtomicBool,
     /// Why the store ended, if it did.
     ended: OnceLock<String>,
@@ -158,6 +170,8 @@ impl Durable {
             readings: Mutex::new(Some(readings)),
             away: Mutex::default(),
             under_way: AtomicUsize::new(0),
+            is_full: AtomicBool::new(false),
+            basing: AtomicU64::new(0),
             is_stopping: AtomicBool::new(false),
             ended: OnceLock::new(),
             on_change,
@@ -283,26 +297,37 @@ impl Durable {
     }
 
     /// Has each shard that this process executes get a base now, deletes what is behind it, and has the store give back
-    /// the room. Before that it does so with what was deleted earlier, so that there is some.
+    /// the room. Before that it does so with what was deleted earlier, so that there is some; bases for which there is
+    /// none are tried again as long as others make some.
     ///
     /// # Errors
     ///
     /// As the store says.
     pub fn compact(&self) -> Result<(), CompactError> {
         self.inner.store.compact()?;
-        for shard in 0..self.shards() {
-            self.inner.with(shard, |it, deeds| it.want_base(deeds));
-        }
+        let mut left: Vec<u16> = (0..self.shards()).collect();
         let end = Instant::now() + STOP;
-        while Instant::now() < end && self.has_bases() {
-            thread::sleep(TICK);
+        loop {
+            let before = left.len();
+            self.make_bases(&left, end);
+            left.retain(|it| locked(&self.inner.shards[usize::from(*it)]).failed_base());
+            if left.is_empty() || left.len() == before || Instant::now() >= end {
+                break;
+            }
         }
         self.inner.store.compact()
     }
 
-    /// Whether a shard makes a base.
-    fn has_bases(&self) -> bool {
-        self.inner.shards.iter().any(|it| locked(it).makes_base())
+    /// Has these shards get a base, and waits for it until that time.
+    fn make_bases(&self, shards: &[u16], end: Instant) {
+        for shard in shards {
+            let want = |it: &mut Shard, deeds: &mut _| it.want_base(Instant::now(), deeds);
+            self.inner.with(*shard, want);
+        }
+        let makes_base = |it: &u16| locked(&self.inner.shards[usize::from(*it)]).makes_base();
+        while Instant::now() < end && shards.iter().any(makes_base) {
+            thread::sleep(TICK);
+        }
     }
 
     /// How many requests that only read were answered without a transaction.
@@ -365,7 +390,7 @@ impl Inner {
             Deed::Submit(ticket, transaction) => self.send(shard, ticket, transaction),
             Deed::Read(ticket) => self.want(Wanted::Shard(shard, ticket)),
             Deed::Sweep(server) => self.want(Wanted::Passing(shard, server)),
-            Deed::WriteBase(ticket, parts) => self.write_base(shard, ticket, parts),
+            Deed::WriteBase(ticket, parts) => self.want(Wanted::Room(shard, ticket, parts)),
             Deed::Delete(keys) => self.delete(&keys),
             Deed::Tell(work, outcome) => work.end(outcome),
             Deed::HandOver(elsewhere, steps) => match &self.own {
@@ -390,19 +415,35 @@ impl Inner {
         let _ = readings.as_ref().map(|it| it.send(wanted));
     }
 
-    /// Writes the parts of a base, some at once and each by itself, and tells whether all were.
-    fn write_base(self: &Arc<Inner>, shard: u16, ticket: Ticket, parts: Vec<(Vec<u8>, Vec<u8>)>) {
-        if parts.is_empty() {
-            return self.with(shard, |it, deeds| {
-                it.on_base(ticket, true, Instant::now(), deeds);
-            });
+    /// Writes the parts of a base, some at once and each by itself, and tells whether all were. If the store hasn't
+    /// room for all of them, none is written: no part could be deleted before a later base is named.
+    fn write_base(self: &Arc<Inner>, shard: u16, ticket: Ticket, parts: Parts) {
+        let bytes = parts.iter().map(|it| it.1.len() as u64).sum::<u64>();
+        let others = self.basing.fetch_add(bytes, Ordering::AcqRel);
+        let needed = (others + bytes) * BASE_ROOM.0 / BASE_ROOM.1 + BASE_SLACK;
+        let has_room = self.store.left().is_none_or(|it| it >= needed);
+        if parts.is_empty() || !has_room {
+            return self.end_base(shard, ticket, bytes, parts.is_empty());
         }
         let parts = Arc::new(Mutex::new(BaseParts::new(parts)));
-        (0..PARTS).for_each(|_| self.write_part(shard, ticket, &parts));
+        (0..PARTS).for_each(|_| self.write_part(shard, (ticket, bytes), &parts));
     }
 
-    /// Writes the next part, if there is one, and then those that follow.
-    fn write_part(self: &Arc<Inner>, shard: u16, ticket: Ticket, parts: &Arc<Mutex<BaseParts>>) {
+    /// Says that the base of so many bytes is written, or isn't.
+    fn end_base(self: &Arc<Inner>, shard: u16, ticket: Ticket, bytes: u64, is_written: bool) {
+        self.basing.fetch_sub(bytes, Ordering::AcqRel);
+        self.with(shard, |it, deeds| {
+            it.on_base(ticket, is_written, Instant::now(), deeds);
+        });
+    }
+
+    /// Writes the next part of a base of so many bytes, if there is one, and then those that follow.
+    fn write_part(
+        self: &Arc<Inner>,
+        shard: u16,
+        (ticket, size): (Ticket, u64),
+        parts: &Arc<Mutex<BaseParts>>,
+    ) {
         let Some((key, bytes)) = locked(parts).next() else {
             return;
         };
@@ -410,15 +451,15 @@ impl Inner {
         let done = move |outcome: Result<Outcome, WriteError>| {
             let ended = locked(&parts).end(outcome.is_ok());
             match (inner.upgrade(), ended) {
-                (Some(inner), Some(is_written)) => inner.with(shard, |it, deeds| {
-                    it.on_base(ticket, is_written, Instant::now(), deeds);
-                }),
-                (Some(inner), None) => inner.write_part(shard, ticket, &parts),
+                (Some(inner), Some(is_written)) => {
+                    inner.end_base(shard, ticket, size, is_written);
+                }
+                (Some(inner), None) => inner.write_part(shard, (ticket, size), &parts),
                 (None, _) => {}
             }
         };
-        self.store
-            .submit(Transaction::new().put(key, bytes), Box::new(done));
+        let part = Transaction::new().put(key, bytes).with_kept_room();
+        self.store.submit(part, Box::new(done));
     }
 
     /// Deletes these keys, some at once. What isn't deleted the next sweep finds.
@@ -433,8 +474,12 @@ impl Inner {
     fn send(self: &Arc<Inner>, shard: u16, ticket: Ticket, transaction: Transaction) {
         self.under_way.fetch_add(1, Ordering::AcqRel);
         let inner = Arc::downgrade(self);
+        let grows = transaction.writes() && transaction.room() == Room::Free;
         let done = move |outcome| {
             if let Some(inner) = inner.upgrade() {
+                if grows {
+                    inner.note_room(&outcome);
+                }
                 inner.with(shard, |it, deeds| {
                     it.on_outcome(ticket, outcome, Instant::now(), deeds)
                 });
@@ -442,6 +487,20 @@ impl Inner {
             }
         };
         self.store.submit(transaction, Box::new(done));
+    }
+
+    /// Notes whether the store had room for what was written. If it hadn't, shards of which keys were deleted get a base.
+    fn note_room(&self, outcome: &Result<Outcome, WriteError>) {
+        let is_full = match outcome {
+            Ok(Outcome::Made(_)) => false,
+            Err(WriteError::Full(_)) => true,
+            _ => return,
+        };
+        let was_full = self.is_full.swap(is_full, Ordering::AcqRel);
+        if is_full && !was_full {
+            let stirred = self.stirred.iter();
+            stirred.for_each(|it| it.store(true, Ordering::Release));
+        }
     }
 
     fn away(&self) -> MutexGuard<'_, BTreeSet<u16>> {
@@ -523,6 +582,7 @@ impl Inner {
                 }
                 Ok(Wanted::Record(shard)) => self.read_record(shard),
                 Ok(Wanted::Process(shard)) => self.renew(shard),
+                Ok(Wanted::Room(shard, ticket, parts)) => self.write_base(shard, ticket, parts),
                 // Where it can't be read, the next base sweeps.
                 Ok(Wanted::Passing(shard, server)) => {
                     if let Ok(found) = reading::passing(&*self.store, shard) {
@@ -552,12 +612,13 @@ impl Inner {
         if !self.stirred[place].load(Ordering::Acquire) {
             return;
         }
+        let is_full = self.is_full.load(Ordering::Acquire);
         self.with(shard, |it, deeds| {
             it.tick(now, self.tuning.wait, deeds);
-            it.begin_base(now, deeds);
+            it.begin_base(is_full, now, deeds);
         });
         let held = locked(&self.shards[place]);
-        self.stirred[place].store(held.has_waiting(), Ordering::Release);
+        self.stirred[place].store(held.has_waiting(is_full), Ordering::Release);
     }
 
     fn stop(self: &Arc<Inner>) {

@@ -310,6 +310,7 @@ impl Inner {
         let transaction = Transaction::new()
             .compare(key.clone(), before)
             .put_under(key.clone(), live.bytes(), Some(lease))
+            .with_kept_room()
             .or_read(key.clone());
         let found = match self.make(transaction, patience)? {
             Outcome::Made(revision) => return Ok(Ok(revision)),

@@ -17,7 +17,8 @@ pub(crate) fn begin(store: &dyn Store) -> Result<u64, OpenFault> {
         let next = last + 1;
         let transaction = Transaction::new()
             .compare(keys::PROCESS, revision)
-            .put(keys::PROCESS, next.to_string());
+            .put(keys::PROCESS, next.to_string())
+            .with_kept_room();
         match store.make(transaction) {
             Ok(Outcome::Made(_)) => return Ok(next),
             Ok(Outcome::Lost(_)) => {}

@@ -19,7 +19,10 @@ impl From<ReadError> for NotRead {
     fn from(error: ReadError) -> NotRead {
         match error {
             ReadError::Stopped => NotRead::Ended(error.to_string()),
-            _ => NotRead::Unanswered(error.to_string()),
+            ReadError::Damaged(why) => NotRead::Damaged(why),
+            ReadError::Unavailable(_) | ReadError::Denied(_) => {
+                NotRead::Unanswered(error.to_string())
+            }
         }
     }
 }

@@ -34,6 +34,14 @@ impl Request {
         }
     }
 
+    /// Whether it only deletes.
+    pub(crate) fn deletes(&self) -> bool {
+        match self {
+            Request::Delete(_) => true,
+            Request::Put(..) | Request::Append(..) | Request::Add(..) => false,
+        }
+    }
+
     /// How many its bytes are.
     pub(crate) fn length(&self) -> usize {
         let rest = match self {

@@ -90,6 +90,8 @@ struct Taken {
     count: usize,
     /// What was listed for it, where it goes over keys and its server was ready.
     listed: Option<Listed>,
+    /// Whether it writes, and what it writes only deletes.
+    frees: bool,
     /// Why it isn't done, where it won't be.
     ends: Option<NotDone>,
 }
@@ -148,8 +150,8 @@ pub(crate) enum Parted {
 pub(crate) enum Takes {
     #[default]
     All,
-    /// Those of which nothing is written in this round: the store took no writes.
-    NoWrites,
+    /// Those that write nothing in this round, or only delete: the store took no writes.
+    NoGrowth,
     /// Those that only read, which may be answered without a transaction, or go before what waits to be written.
     OnlyReads,
 }
@@ -229,6 +231,12 @@ impl Round {
         self.taken.iter().all(|it| it.step.begin.only_reads())
     }
 
+    /// Whether it writes, and only deletes.
+    pub(crate) fn frees(&self) -> bool {
+        let mut writes = self.taken.iter().filter(|it| it.kind.writes()).peekable();
+        writes.peek().is_some() && writes.all(|it| it.frees)
+    }
+
     /// How many bytes are written, where several steps write.
     pub(crate) fn bytes_of_several(&self) -> Option<usize> {
         let writes = |it: &&Taken| it.kind.writes() && it.count > 0;
@@ -246,7 +254,13 @@ impl Round {
             self.wrote.insert(next.origin.run);
             self.note_written(&next.requests);
             let bytes = next.requests.iter().map(Request::bytes).collect();
+            let frees = frees(&next.requests);
             self.add(next.step, Kind::Decided, next.origin, bytes, None);
+            self.taken
+                .iter_mut()
+                .last()
+                .into_iter()
+                .for_each(|it| it.frees = frees);
         }
         if !decided.is_empty() {
             self.takes = Takes::OnlyReads;
@@ -301,7 +315,13 @@ impl Round {
             Begin::Numbered(numbered, _) => Some(*numbered),
             _ => None,
         };
+        let frees = frees(step.begin.requests());
         self.add(step, kind, origin, bytes, numbered);
+        self.taken
+            .iter_mut()
+            .last()
+            .into_iter()
+            .for_each(|it| it.frees = frees);
         Ok(())
     }
 
@@ -329,7 +349,7 @@ impl Round {
         };
         let is_wanted = match self.takes {
             Takes::All => true,
-            Takes::NoWrites => begin.requests().is_empty(),
+            Takes::NoGrowth => begin.requests().iter().all(Request::deletes),
             Takes::OnlyReads => begin.only_reads(),
         };
         may && is_wanted && !self.stopped.contains(&run)
@@ -377,6 +397,7 @@ impl Round {
             first,
             count,
             listed: None,
+            frees: false,
             ends: None,
         });
     }
@@ -407,9 +428,13 @@ impl Round {
         }
     }
 
-    /// Has all steps that write come to their end so; returns whether there are some.
+    /// Has all steps that write come to their end so; returns whether there are some. If some only delete, and others
+    /// write more, those begin anew without these, unless they may be made.
     pub(crate) fn end_writes(&mut self, why: &NotDone) -> bool {
-        let writes = self.taken.iter_mut().filter(|it| it.kind.writes());
+        let grows = |it: &Taken| it.kind.writes() && !it.frees;
+        let are_parted = !self.may_be_made && self.taken.iter().any(grows);
+        let ends = |it: &&mut Taken| it.kind.writes() && !(are_parted && it.frees);
+        let writes = self.taken.iter_mut().filter(ends);
         writes.map(|it| it.ends = Some(why.clone())).count() > 0
     }
 
@@ -515,6 +540,11 @@ impl Round {
         });
         told.collect()
     }
+}
+
+/// Whether these requests only delete.
+fn frees(requests: &[Request]) -> bool {
+    !requests.is_empty() && requests.iter().all(Request::deletes)
 }
 
 /// The replies to these requests, where each has one.

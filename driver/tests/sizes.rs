@@ -4,7 +4,7 @@ mod common;
 use common::handing::{Handed, Handing};
 use common::{ask, held, led, opened, step, write, Decide, Told};
 use durkenzo_driver::{Begin, Durable, Key, NotDone, Reply, Request};
-use durkenzo_store::{Done, Embedded, Store, Transaction, WriteError};
+use durkenzo_store::{Done, Embedded, Room, Store, Transaction, WriteError};
 use std::sync::atomic::{AtomicUsize, Ordering};
 use std::sync::mpsc::Receiver;
 use std::sync::{Arc, Mutex};
@@ -13,7 +13,8 @@ use std::time::Duration;
 
 const TEXT: usize = 60_000;
 
-/// A store that refuses batches of more bytes than it takes, and all once it has as many as it has room for.
+/// A store that refuses batches of more bytes than it takes, and once it has as many as it has room for all but those
+/// that may take what it keeps back.
 struct Scant {
     store: Arc<dyn Store>,
     most_bytes: usize,
@@ -35,9 +36,11 @@ impl Handing for Scant {
         };
         let refused = match self.room.load(Ordering::Acquire) {
             _ if bytes > self.most_bytes => WriteError::TooLarge("a test".to_owned()),
-            0 => WriteError::Full("a test".to_owned()),
+            0 if transaction.room() == Room::Free => WriteError::Full("a test".to_owned()),
             _ => {
-                self.room.fetch_sub(1, Ordering::AcqRel);
+                if transaction.room() == Room::Free {
+                    self.room.fetch_sub(1, Ordering::AcqRel);
+                }
                 self.made.lock().unwrap().push(bytes);
                 return self.store.submit(transaction, done);
             }
@@ -223,4 +226,29 @@ fn reads_go_on_beside_writes_that_never_end() {
             assert_eq!(held(&durable, 0, b"a"), Ok(vec![Reply::Nothing]));
         }
     });
+}
+
+/// Deletions that came together with what the store has no room for.
+#[test]
+fn deletions_go_on_where_the_store_is_full() {
+    let (_scant, durable) = opened_over(usize::MAX, 0);
+    let (mut deletes, mut writes) = (Vec::new(), Vec::new());
+    for client in 0..20 {
+        let delete = |number| Request::Delete(key(client, number));
+        writes.push(submit(&durable, Begin::Write(texts(client, 1)), None));
+        let both = vec![delete(1), delete(2)];
+        deletes.push(submit(&durable, Begin::Write(both), None));
+        let mixed = [vec![delete(3)], texts(client, 1)].concat();
+        writes.push(submit(&durable, Begin::Write(mixed), None));
+        writes.push(change(&durable, client, 1));
+    }
+    let _control = led(&durable);
+    for it in &deletes {
+        assert_eq!(told(it), Ok(vec![Reply::Nothing; 2]));
+    }
+    for it in &writes {
+        let outcome = told(it);
+        assert!(matches!(outcome, Err(NotDone::Full(_))), "{outcome:?}");
+    }
+    assert!((0..20).all(|client| count_of(&durable, client, 4) == 0));
 }

@@ -525,25 +525,112 @@ def damaged_logs_are_refused_by_name(program):
                 client.ask("GET", "key:1")
 
 
-def full_disks_are_refused_by_name(program):
+def changed_bits_are_refused_by_name(program):
+    """One bit of a value is another one: each key has the right value, or its shard is refused and others go on."""
+    with folder() as data:
+        file = pathlib.Path(data) / "durkenzo.sqlite"
+        values = {f"key:{it}": f"value {it:03} ".encode() * 30 for it in range(100)}
+        with over(program, data) as server, server.client() as client:
+            client.piped([("SET", *it) for it in values.items()])
+        whole, refused = file.read_bytes(), 0
+        for _ in range(6):
+            changed_bytes = bytearray(whole)
+            places = [it.start() for it in re.finditer(random.choice(list(values.values())), whole)]
+            changed_bytes[random.choice(places) + random.randrange(300)] ^= 1 << random.randrange(8)
+            file.write_bytes(changed_bytes)
+            refused += refused_keys(program, data, values)
+        assert refused, "no bit of a value was changed"
+        file.write_bytes(whole)
+        to = "CAST(replace(CAST(value AS TEXT), 'hash', 'hasi') AS BLOB)"
+        changed(file, f"UPDATE pairs SET value = {to} WHERE CAST(key AS TEXT) = 'settings'")
+        told = refused_start(program, "--data", data, "--shards", SHARDS)
+        assert "the bytes at settings aren't those that were written: restore the folder" in told, told
+    return f"{refused} keys refused"
+
+
+def refused_keys(program, data, values):
+    """How many keys are refused of those that were written; all others have their values, and can be written."""
+    with over(program, data, "--wait", 50) as server, server.client() as client:
+        told = dict(zip(values, client.piped([("GET", it) for it in values])))
+        wrong = {it for it, answer in told.items() if answer != values[it] and not isinstance(answer, Refused)}
+        assert not wrong, [(it, told[it]) for it in wrong]
+        refused = [it for it, answer in told.items() if isinstance(answer, Refused)]
+        assert all(str(told[it]).startswith("SHARDDAMAGED ") for it in refused), told
+        assert len(refused) < len(values) / 2, refused
+        others = [it for it in values if it not in refused]
+        assert client.piped([("SET", it, 1) for it in others]) == ["OK"] * len(others)
+        return len(refused)
+
+
+@contextlib.contextmanager
+def small_disk(megabytes):
+    """A folder on a disk of this size; none where nothing can be mounted."""
     with folder() as data:
         pathlib.Path(data).mkdir()
-        mount = ["mount", "-t", "tmpfs", "-o", "size=1m", "none", data]
+        mount = ["mount", "-t", "tmpfs", "-o", f"size={megabytes}m", "none", data]
         if subprocess.run(mount, capture_output=True).returncode:
-            return "nothing can be mounted here"
+            yield None
+            return
         try:
-            with over(program, data) as server, server.client() as client:
-                held = fill(client)
-                assert client.piped([("GET", key) for key in held]) == list(held.values())
+            yield data
         finally:
             subprocess.run(["umount", data], check=True)
+
+
+def full_disks_are_refused_by_name(program):
+    with small_disk(1) as data:
+        if not data:
+            return "nothing can be mounted here"
+        with over(program, data) as server, server.client() as client:
+            held = fill(client)
+            assert client.piped([("GET", key) for key in held]) == list(held.values())
+
+
+def full_disks_take_deletions_and_then_writes(program):
+    """After a crash too: the server starts, reads, deletes, and makes room by itself, or as it is told."""
+    for is_told in (False, True):
+        with small_disk(6) as data:
+            if not data:
+                return "nothing can be mounted here"
+            held = filled_and_killed(program, data)
+            with over(program, data) as server, server.client() as client:
+                assert client.piped([("GET", key) for key in held]) == list(held.values())
+                with served_refusal("STOREFULL"):
+                    client.ask("SET", "large", b"y" * 20_000)
+                deleted = list(held)[10:]
+                told = client.piped([("DEL", key) for key in deleted])
+                assert told == [1] * len(deleted), told
+                if is_told:
+                    assert client.ask("SM", "COMPACT") == "OK"
+                wait_until(lambda: answers(client, "again"), "there is room again")
+                kept = list(held)[:10]
+                wanted = [held[it] for it in kept]
+                again = {f"again:{it}": b"z" * 20_000 for it in range(60)}
+                for key, value in again.items():
+                    wait_until(lambda: answers(client, key, value), "there is room")
+            with over(program, data) as server, server.client() as client:
+                assert client.piped([("GET", key) for key in kept]) == wanted
+                assert client.piped([("GET", key) for key in again]) == list(again.values())
+                assert client.ask("DBSIZE") == len(kept) + len(again) + 1
+    return f"{len(held)} keys"
+
+
+def filled_and_killed(program, data):
+    """Runs a server over the folder until its disk is full, and then it is killed; returns what was written."""
+    command = [program, "--port", "0", "--http-port", "0", "--log-format", "json", "--data", data, "--shards", str(SHARDS)]
+    with subprocess.Popen(command, stderr=subprocess.PIPE, stdin=subprocess.DEVNULL, text=True) as process:
+        try:
+            with served.Client(served.port_of(process)) as client:
+                return fill(client)
+        finally:
+            process.kill()
 
 
 def fill(client):
     """Writes until the disk is full; returns what was written."""
     held = {}
     with served_refusal("STOREFULL"):
-        for number in range(200):
+        for number in range(1_000):
             key, value = f"key:{number}", b"x" * 20_000
             client.ask("SET", key, value)
             held[key] = value
@@ -569,9 +656,9 @@ def waiting_stops_its_own_connections_alone(program):
             client.ask("GET", "{hot}")
 
 
-def answers(client, key):
+def answers(client, key, value=1):
     try:
-        return client.ask("SET", key, 1) == "OK"
+        return client.ask("SET", key, value) == "OK"
     except Refused:
         return False
 
@@ -589,7 +676,9 @@ TESTS = [
     scans_wait_for_a_paused_shard,
     wrong_folders_are_refused_by_name,
     damaged_logs_are_refused_by_name,
+    changed_bits_are_refused_by_name,
     full_disks_are_refused_by_name,
+    full_disks_take_deletions_and_then_writes,
     waiting_stops_its_own_connections_alone,
     drains_and_returns_go_on_at_the_next_start,
     restarts_wait_for_no_server_that_has_failed,

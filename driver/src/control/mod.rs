@@ -235,7 +235,8 @@ impl Control {
             .compare(keys::LEADER, sending.elected)
             .compare(keys::COMMANDS, sending.placed)
             .put(sending.key(), sending.written)
-            .put(keys::COMMANDS, sending.commands);
+            .put(keys::COMMANDS, sending.commands)
+            .with_kept_room();
         match sending.is_state {
             true => self.durable.store().make(transaction),
             false => self.durable.change(sending.number, transaction),
@@ -355,7 +356,8 @@ fn elect(durable: &Durable) -> Result<Revision, Refused> {
                 keys::LEADER,
                 before.map_or(Revision::NEVER, |it| it.revision),
             )
-            .put(keys::LEADER, keys::leader_of(durable.process()));
+            .put(keys::LEADER, keys::leader_of(durable.process()))
+            .with_kept_room();
         if let Outcome::Made(revision) = durable.store().make(transaction)? {
             return Ok(revision);
         }
@@ -371,6 +373,7 @@ fn campaigned(durable: &Durable) -> Result<Option<Revision>, Refused> {
     let transaction = Transaction::new()
         .compare(keys::LEADER, Revision::NEVER)
         .put_under(keys::LEADER, own.clone(), lease)
+        .with_kept_room()
         .or_read(keys::LEADER);
     let found = match durable.store().make(transaction) {
         Ok(Outcome::Made(revision)) => return Ok(Some(revision)),

@@ -33,6 +33,7 @@ impl Control {
     fn wish_for(&self, mut left: Vec<Wish>) -> Result<(), Refused> {
         for _ in 0..TRIES {
             let all = Transaction::new().compare(keys::LEADER, self.elected);
+            let all = all.with_kept_room();
             let transaction = left.iter().fold(all, |all, it| {
                 let all = all.compare(it.key(), Revision::NEVER);
                 all.put(it.key(), it.bytes())

@@ -17,6 +17,11 @@ impl BasePause {
         self.end.is_none_or(|it| now >= it)
     }
 
+    /// Whether the last one failed.
+    pub(super) fn is_some(&self) -> bool {
+        self.end.is_some()
+    }
+
     /// One failed, so none begins for a while.
     pub(super) fn begin(&mut self, now: Instant) {
         self.last = (2 * self.last).clamp(FIRST_PAUSE, LAST_PAUSE);

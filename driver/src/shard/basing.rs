@@ -23,15 +23,21 @@ const LEAST_BYTES: u64 = 1 << 20;
 const BATCH_BYTES: u64 = 1 << 10;
 
 impl Shard {
-    /// Begins a base where the log is long.
-    pub(crate) fn begin_base(&mut self, now: Instant, deeds: &mut Vec<Deed>) {
-        if self.is_log_long() && self.base.is_none() && self.base_pause.is_over(now) {
-            self.want_base(deeds);
+    /// Begins a base where one is due.
+    pub(crate) fn begin_base(&mut self, is_full: bool, now: Instant, deeds: &mut Vec<Deed>) {
+        let may_begin = self.base.is_none() && self.base_pause.is_over(now);
+        if self.wants_base || self.is_base_due(is_full) && may_begin {
+            self.want_base(now, deeds);
         }
     }
 
+    /// Whether the log is to get another base: it is long, or the store is full and keys were deleted.
+    pub(super) fn is_base_due(&self, is_full: bool) -> bool {
+        self.wants_base || self.is_log_long() || is_full && self.has_freed
+    }
+
     /// Whether the log is to get another base.
-    pub(super) fn is_log_long(&self) -> bool {
+    fn is_log_long(&self) -> bool {
         let LogSize {
             base,
             batches,
@@ -41,16 +47,21 @@ impl Shard {
         batches >= self.tuning.most_batches || cost >= LEAST_BYTES.max(2 * base)
     }
 
-    /// Begins a base, where the server that executes is of this process and makes none.
-    pub(crate) fn want_base(&mut self, deeds: &mut Vec<Deed>) {
+    /// Begins a base, where the server that executes is of this process and makes none. Where it hasn't read the shard,
+    /// it reads that first.
+    pub(crate) fn want_base(&mut self, now: Instant, deeds: &mut Vec<Deed>) {
+        self.wants_base = false;
         if self.base.is_some() {
             return;
         }
         let owner = self.standing.record().and_then(|it| it.owner());
-        let Some(server) = owner else {
+        let is_other = |it: &u16| self.me().is_some_and(|me| me != *it);
+        let Some(server) = owner.filter(|it| !is_other(it) && !self.away.contains(it)) else {
             return;
         };
         let Some(Seat::Ready(core, _) | Seat::Sent(core, ..)) = self.seats.get_mut(&server) else {
+            self.wants_base = true;
+            self.ready_core(server, now, deeds);
             return;
         };
         // Where it fails, the log stays as long as it is, and it is tried again.
@@ -73,7 +84,12 @@ impl Shard {
 
     /// Whether a base is made, or what is behind it isn't deleted yet.
     pub(crate) fn makes_base(&self) -> bool {
-        self.base.is_some() || self.sweeps > 0
+        self.base.is_some() || self.wants_base || self.sweeps > 0
+    }
+
+    /// Whether the last one that began wasn't written.
+    pub(crate) fn failed_base(&self) -> bool {
+        self.base_pause.is_some()
     }
 
     /// The parts of the base that was begun so were written, or weren't. One that was given up meanwhile is no more.

@@ -99,7 +99,7 @@ pub(crate) struct Shard {
     round: Option<Round>,
     /// How many bytes several steps write together at most, as far as the store takes that.
     most_bytes: usize,
-    /// Whether the store took no writes: what writes nothing goes first then.
+    /// Whether the store took no writes: what writes nothing, or only deletes, goes first then.
     is_unwritten: bool,
     rounds: u64,
     runs_begun: u64,
@@ -112,6 +112,10 @@ pub(crate) struct Shard {
     log_before: LogSize,
     /// How long none begins after one failed.
     base_pause: BasePause,
+    /// Whether one is to begin as soon as its server has read the shard.
+    wants_base: bool,
+    /// Whether keys were deleted since the last one.
+    has_freed: bool,
     /// How often it is looked for what is behind a base.
     sweeps: usize,
     tuning: Tuning,
@@ -160,6 +164,8 @@ impl Shard {
             base: None,
             log_before: LogSize::default(),
             base_pause: BasePause::default(),
+            wants_base: false,
+            has_freed: false,
             sweeps: 0,
             tuning,
             leasing: Leasing::default(),
@@ -330,7 +336,12 @@ impl Shard {
             return;
         }
         match read {
-            Ok(read) => self.seat(server, read),
+            Ok(read) => {
+                self.seat(server, read);
+                if std::mem::take(&mut self.wants_base) {
+                    self.want_base(now, deeds);
+                }
+            }
             Err(later @ (NotRead::Later | NotRead::Unanswered(_))) => {
                 if let NotRead::Unanswered(told) = later {
                     self.unanswered = Some(told);
@@ -339,11 +350,13 @@ impl Shard {
                 self.seats.insert(server, again);
             }
             Err(NotRead::Ended(why)) => {
+                self.wants_base = false;
                 self.seats.insert(server, Seat::Unread(None));
                 self.give_up(&NotDone::Stopped, deeds);
                 deeds.push(Deed::StoreEnded(why));
             }
             Err(NotRead::Damaged(why)) => {
+                self.wants_base = false;
                 self.seats.insert(server, Seat::Unread(None));
                 self.give_up(&NotDone::Damaged(why), deeds);
             }
@@ -407,10 +420,10 @@ impl Shard {
         self.go_on(now, deeds);
     }
 
-    /// Whether something waits that a later tick may go on with, or refuse.
-    pub(crate) fn has_waiting(&self) -> bool {
+    /// Whether something waits that a later tick may go on with, or refuse, if the store is full or isn't.
+    pub(crate) fn has_waiting(&self, is_full: bool) -> bool {
         let is_idle = self.runs.is_empty() && self.decided.is_empty() && self.round.is_none();
-        !is_idle || self.is_log_long()
+        !is_idle || self.is_base_due(is_full)
     }
 
     /// Why nobody executes.

@@ -81,10 +81,10 @@ impl Shard {
             return false;
         }
         self.rounds += 1;
-        // What needs no transaction doesn't wait for what does, nor what writes nothing for what couldn't be written.
+        // What needs no transaction doesn't wait for what does, nor what takes no room for what couldn't be written.
         let first = match (self.is_leased(), std::mem::take(&mut self.is_unwritten)) {
-            (true, _) => Takes::OnlyReads,
-            (false, true) => Takes::NoWrites,
+            (_, true) => Takes::NoGrowth,
+            (true, false) => Takes::OnlyReads,
             (false, false) => Takes::All,
         };
         let mut round = self.filled(first, now);
@@ -333,7 +333,7 @@ impl Shard {
     }
 
     /// The server, where it can decide now; where it hasn't read the shard it is to read it.
-    fn ready_core(
+    pub(super) fn ready_core(
         &mut self,
         server: u16,
         now: Instant,

@@ -64,7 +64,11 @@ impl Shard {
         if sent.number > 0 {
             transaction = transaction.put(keys::batch(self.number, sent.number), sent.batch);
         }
-        transaction
+        // A base makes room once it is named, and so do deletions once a base stands for them.
+        match sent.number == 0 || self.round.as_ref().is_some_and(Round::frees) {
+            true => transaction.with_kept_room(),
+            false => transaction,
+        }
     }
 
     /// Says what became of a transaction.
@@ -96,6 +100,9 @@ impl Shard {
                 self.read_again(server);
             }
             Err(error) => {
+                if matches!(self.base, Some((it, Basing::Named(_))) if it == server) {
+                    self.base_pause.begin(now);
+                }
                 self.read_again(server);
                 self.refused_by_store(&error, deeds);
             }
@@ -120,6 +127,7 @@ impl Shard {
         }
         if writes {
             at.logged = revision;
+            self.has_freed |= self.round.as_ref().is_some_and(Round::frees);
             self.logged = self.logged.max(revision);
             // Copies that come late compare what was there before.
             self.unknown_at = None;
@@ -129,6 +137,7 @@ impl Shard {
         self.end_failed_base(server);
         if self.base == Some((server, Basing::Named(ticket.number))) {
             self.base_pause.end();
+            self.has_freed = false;
             self.base = None;
             self.sweeps += 1;
             deeds.push(Deed::Sweep(server));
@@ -176,6 +185,7 @@ impl Shard {
         let why = match error {
             WriteError::Full(_) => NotDone::Full(told.clone()),
             WriteError::TooLarge(_) => NotDone::TooLarge(told.clone()),
+            WriteError::Damaged(why) => NotDone::Damaged(why.clone()),
             _ => NotDone::NotMade(told.clone()),
         };
         match error {

@@ -375,7 +375,7 @@ fn not_done(f: &mut fmt::Formatter<'_>, shard: u16, why: &NotDone) -> fmt::Resul
         NotDone::Damaged(_) => write!(f, "SHARDDAMAGED shard {shard}: {why}: restore the folder"),
         NotDone::Full(_) => write!(
             f,
-            "STOREFULL nothing has changed, and reads go on: {why}: make room"
+            "STOREFULL nothing has changed, and reads go on: {why}: make room, as by DEL and SM COMPACT"
         ),
         NotDone::TooLarge(_) => write!(f, "TOOLARGE nothing has changed: {why}: send it in parts"),
         NotDone::NotMade(_) => write!(f, "STOREDOWN nothing has changed: {why}"),

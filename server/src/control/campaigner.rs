@@ -160,7 +160,7 @@ impl Campaigner {
     fn pass_on(&self, held: Held, leader: Option<u16>) {
         let own = self.peers.member().server();
         let Held { until, asked } = held;
-        let Some(asked) = super::routes::told(&self.cluster, &self.peers, asked) else {
+        let Some(asked) = super::routes::told(&self.cluster, Some(&self.peers), asked) else {
             return;
         };
         let refusal = match leader.filter(|it| *it != own) {

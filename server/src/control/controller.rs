@@ -203,10 +203,8 @@ impl Controller {
             ("RESTART", 2, ..) => Work::Rolling(Rolling::new(servers)).into(),
             ("DUMP", 3, ..) => Work::Dump(Dumping::new(self, &file_of(command)?)?).into(),
             ("LOAD", 3, ..) => self.load(file_of(command)?)?,
-            ("ROUTES" | "COMPACT", 2, ..) => {
-                return Err(Refusal::there_alone(&word, "with --etcd"))
-            }
-            ("CALL", ..) | ("SPREAD", 2, ..) => {
+            ("ROUTES", 2, ..) => return Err(Refusal::there_alone(&word, "with --etcd")),
+            ("CALL", ..) | ("SPREAD" | "COMPACT", 2, ..) => {
                 return Err(Refusal::there_alone(&word, "with --data or --etcd"))
             }
             (word, 3, Some(server), _) if is_standing(word) => self.stand(word, server)?.into(),

@@ -35,7 +35,7 @@ pub const WORDS: [(&str, &str); 34] = [
     ("LOAD FILE", "has all shards hold and stand as in that file, in place of what they hold now"),
     ("ROUTES", "with --etcd: the latest record's revision, and for each shard its owner, and where clients reach that"),
     ("CALL c n COMMAND ..", "where data outlives the process: a write without reading, once for number n of client c"),
-    ("COMPACT", "with --etcd: makes a base of each shard that this process executes, and has etcd give back room"),
+    ("COMPACT", "with --data or --etcd: makes a base of each shard that this process executes, so that room comes back"),
     ("AT a COMMAND ..", "sends a command with keys of one shard to server a, as a client with an old map does"),
     ("HELP", "these lines; SM HELP x tells what the word or the name of a refusal x means"),
 ];
@@ -53,7 +53,7 @@ pub const NAMES: [(&str, &str, &str); 24] = [
     ("NotNow", "a process hasn't read yet that the shard was taken", "try again"),
     ("ThreadBusy", "a thread hasn't noticed for 10 s how servers stand", "look at the log"),
     ("Stopping", "the process ends", "start it again"),
-    ("StoreFull", "the disk, or etcd, is full, and nothing has changed", "make room; for etcd SM COMPACT does"),
+    ("StoreFull", "the disk, or etcd, is full, and nothing has changed", "make room, as by DEL and SM COMPACT"),
     ("StoreDown", "the store isn't reached, or didn't say what became of it", "look at the log, and try again"),
     ("StoreDamaged", "what lies in the store isn't what commands lead to", "restore the folder"),
     ("BadFile", "the system doesn't write or read the file", "--folder names the folder of such files"),

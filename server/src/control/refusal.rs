@@ -4,7 +4,7 @@ use crate::snapshot::ShardRow;
 use crate::wait::NotAdmitted;
 use durkenzo::{ChangeFault, PassFault, PlanFault, RestartFault, UnknownShard};
 use durkenzo_driver::{CommandFault, Refused};
-use durkenzo_store::WriteError;
+use durkenzo_store::{ReadError, WriteError};
 use std::error::Error;
 use std::fmt;
 
@@ -179,9 +179,13 @@ impl Refusal {
     /// Why the store doesn't let the control go on.
     fn of_store(refused: &Refused) -> Refusal {
         let (name, advice) = match refused {
-            Refused::Write(WriteError::Full(_)) => ("StoreFull", "make room"),
+            Refused::Write(WriteError::Full(_)) => {
+                ("StoreFull", "make room, as by DEL and SM COMPACT")
+            }
             Refused::NotLeader | Refused::OtherSettings => ("NotLeader", "ask the other process"),
-            Refused::Damaged(_) => ("StoreDamaged", "restore the folder"),
+            Refused::Damaged(_)
+            | Refused::Read(ReadError::Damaged(_))
+            | Refused::Write(WriteError::Damaged(_)) => ("StoreDamaged", "restore the folder"),
             _ => ("StoreDown", "look at the log"),
         };
         Refusal::new(name, refused.to_string(), advice)

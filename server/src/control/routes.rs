@@ -9,12 +9,14 @@ use std::sync::mpsc::channel;
 use std::sync::Arc;
 use std::thread;
 
-/// Answers the command, if it is such a one; else it is given back.
-pub(super) fn told(cluster: &Arc<Cluster>, peers: &Peers, asked: Asked) -> Option<Asked> {
+/// Answers the command, if it is such a one; else it is given back, as that of routes is where there are no peers.
+pub(super) fn told(cluster: &Arc<Cluster>, peers: Option<&Peers>, asked: Asked) -> Option<Asked> {
     let command = asked.command.command();
-    match command.len() {
-        2 if command.is(1, "ROUTES") => send(asked.reply_to, Ok(routes(cluster, peers))),
-        2 if command.is(1, "COMPACT") => compact(cluster, asked),
+    match (command.len(), peers) {
+        (2, Some(peers)) if command.is(1, "ROUTES") => {
+            send(asked.reply_to, Ok(routes(cluster, peers)));
+        }
+        (2, _) if command.is(1, "COMPACT") => compact(cluster, asked),
         _ => return Some(asked),
     }
     None

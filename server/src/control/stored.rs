@@ -320,12 +320,8 @@ impl StoredController {
 
     /// Answers the command, or begins work of it.
     pub(super) fn take(&mut self, asked: Asked) {
-        let asked = match self.peers.clone() {
-            Some(peers) => match routes::told(&self.cluster, &peers, asked) {
-                Some(asked) => asked,
-                None => return,
-            },
-            None => asked,
+        let Some(asked) = routes::told(&self.cluster, self.peers.as_deref(), asked) else {
+            return;
         };
         let Asked { command, reply_to } = asked;
         let begun = self.begin_one(command.command());
@@ -366,9 +362,7 @@ impl StoredController {
             ("RESTART", 3, Some(server), _) => Work::Restarting(Restarting::new(server)).into(),
             ("RESTART", 2, ..) if self.peers.is_some() => return Err(Refusal::one_by_one()),
             ("RESTART", 2, ..) => Work::Rolling(Rolling::new(self.control.servers())).into(),
-            ("ROUTES" | "COMPACT", 2, ..) => {
-                return Err(Refusal::there_alone(&word, "with --etcd"))
-            }
+            ("ROUTES", 2, ..) => return Err(Refusal::there_alone(&word, "with --etcd")),
             (word, length, Some(number), server) => {
                 let command = command_of(word, length, number, server).ok_or_else(usage)?;
                 self.make_asked(command)?.into()

@@ -107,14 +107,7 @@ fn opened(folder: &Path, file: &Path, sync: Sync) -> Result<Sqlite, Refused> {
         let marks = format!("PRAGMA application_id = {APPLICATION};");
         connection.execute_batch(&bettered(&format!("{SCHEMA} {marks}")))?;
     }
-    // A quicker check doesn't see that an index has lost a key, which then couldn't be read.
-    let check = "integrity_check";
-    let found: String = connection.pragma_query_value(None, check, |row| row.get(0))?;
-    if found != "ok" {
-        return Err(Refused::Form(Box::new(move |file| {
-            OpenError::Damaged(file, found)
-        })));
-    }
+    look_through(&connection)?;
     if form == Form::Unsummed {
         connection.execute_batch(&bettered(SUMMED))?;
     }
@@ -122,7 +115,7 @@ fn opened(folder: &Path, file: &Path, sync: Sync) -> Result<Sqlite, Refused> {
     let reserve = Reserve::open(folder).map_err(Refused::Reserve)?;
     let page_size = count(&connection, "page_size")?;
     // What is in the log may have to go to the tables by what is kept back.
-    let most_pages = LOG_PAGES.min(reserve.half() / page_size);
+    let most_pages = (reserve.half() / page_size).clamp(1, LOG_PAGES);
     connection.pragma_update(None, "wal_autocheckpoint", most_pages)?;
     Ok(Sqlite {
         connection,
@@ -134,6 +127,20 @@ fn opened(folder: &Path, file: &Path, sync: Sync) -> Result<Sqlite, Refused> {
         sync,
         is_written: true,
     })
+}
+
+/// Refuses a file that is damaged: a quicker check doesn't see that an index has lost a key, which then couldn't be read.
+fn look_through(connection: &Connection) -> Result<(), Refused> {
+    let check = "integrity_check";
+    let found: String = connection.pragma_query_value(None, check, |row| row.get(0))?;
+    match &*found {
+        "ok" => Ok(()),
+        _ => Err(damaged(found)),
+    }
+}
+
+fn damaged(why: String) -> Refused {
+    Refused::Form(Box::new(|file| OpenError::Damaged(file, why)))
 }
 
 /// What gives the file this form of the schema, all at once.
@@ -184,12 +191,9 @@ fn moment(connection: &Connection) -> Result<Revision, Refused> {
     })?;
     match sum.is_none_or(|it| it == Checksum::of_moment(moment).number()) {
         true => Ok(moment),
-        false => Err(Refused::Form(Box::new(|file| {
-            OpenError::Damaged(
-                file,
-                "the number of its last revision was changed".to_owned(),
-            )
-        }))),
+        false => Err(damaged(
+            "the number of its last revision was changed".to_owned(),
+        )),
     }
 }
 
@@ -216,7 +220,8 @@ impl From<rusqlite::Error> for Failure {
     fn from(error: rusqlite::Error) -> Failure {
         match error.sqlite_error_code() {
             Some(ErrorCode::DiskFull) => Failure::Full(error.to_string()),
-            None => Failure::Damaged(error.to_string()),
+            // Of a row whose head was changed, or that holds another kind of value.
+            Some(ErrorCode::DatabaseCorrupt) | None => Failure::Damaged(error.to_string()),
             _ => Failure::Broken(error.to_string()),
         }
     }
