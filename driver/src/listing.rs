@@ -23,6 +23,8 @@ pub(crate) struct Listed {
 }
 
 enum What {
+    /// Keys of which it is read what they hold.
+    Pairs(Vec<Key>),
     Keys(Vec<Key>),
     Count(usize),
 }
@@ -30,11 +32,13 @@ enum What {
 impl Listing<'_> {
     /// What work lists that begins so.
     pub(crate) fn list(&self, begin: &Begin) -> Listed {
+        let keys = |Range { low, high, most }: &Range| {
+            let most = (*most).min(Range::MOST);
+            self.keys.keys(low, high.as_deref(), most)
+        };
         let what = match begin {
-            Begin::Scan(Range { low, high, most }) => {
-                let most = (*most).min(Range::MOST);
-                What::Keys(self.keys.keys(low, high.as_deref(), most))
-            }
+            Begin::Scan(range) => What::Pairs(keys(range)),
+            Begin::Keys(range) => What::Keys(keys(range)),
             _ => What::Count(self.keys.count()),
         };
         Listed {
@@ -46,11 +50,11 @@ impl Listing<'_> {
 }
 
 impl Listed {
-    /// The bytes of requests that read what is listed; or where nothing is, of one that has the server say who
-    /// executes.
+    /// The bytes of requests that read what the listed keys hold; or if that isn't asked for, of one that has the
+    /// server say who executes.
     pub(crate) fn requests(listed: Option<&Listed>) -> Vec<Vec<u8>> {
         match listed.map(|it| &it.what) {
-            Some(What::Keys(keys)) if !keys.is_empty() => {
+            Some(What::Pairs(keys)) if !keys.is_empty() => {
                 keys.iter().map(|it| get_bytes(it)).collect()
             }
             _ => vec![get_bytes(ANY)],
@@ -66,7 +70,8 @@ impl Listed {
     pub(crate) fn told(self, replies: Vec<Reply>) -> Vec<Reply> {
         match self.what {
             What::Count(count) => vec![Reply::Count(count as i64)],
-            What::Keys(keys) => {
+            What::Keys(keys) => keys.into_iter().map(Reply::Key).collect(),
+            What::Pairs(keys) => {
                 let pairs = keys.into_iter().zip(replies);
                 let pairs = pairs.filter(|it| it.1 != Reply::Nothing);
                 pairs

@@ -99,6 +99,8 @@ impl Range {
 pub enum Reply {
     /// A key, and what it holds: of a range.
     Pair(Key, Box<Reply>),
+    /// A key that holds something: of a range.
+    Key(Key),
     /// The key held nothing.
     Nothing,
     /// It was done.

@@ -295,7 +295,7 @@ impl Round {
         let gets = |keys: &[Key]| keys.iter().map(|it| get_bytes(it)).collect();
         let (kind, bytes) = match &step.begin {
             Begin::Read(keys) => (Kind::Read, gets(keys)),
-            Begin::Scan(_) | Begin::Count => {
+            Begin::Scan(_) | Begin::Keys(_) | Begin::Count => {
                 let listed = listing.map(|it| it.list(&step.begin));
                 self.add_list(step, origin, listed);
                 return Ok(());
@@ -336,7 +336,9 @@ impl Round {
     fn may_take(&self, run: u64, begin: &Begin) -> bool {
         let reads = |it: &Request| self.read.contains(it.key());
         let may = match begin {
-            Begin::Read(_) | Begin::Scan(_) | Begin::Count => !self.wrote.contains(&run),
+            Begin::Read(_) | Begin::Scan(_) | Begin::Keys(_) | Begin::Count => {
+                !self.wrote.contains(&run)
+            }
             Begin::Change(keys) => {
                 let is_taken = |it| self.written.contains(it) || self.read.contains(it);
                 !self.wrote.contains(&run) && !keys.iter().any(is_taken)

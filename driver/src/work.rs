@@ -32,6 +32,8 @@ pub enum Begin {
     /// It counts the keys that hold something: replied is their number.
     Count,
     /// It reads these keys, and decides by what they hold what it writes.
+    /// It finds the first of these keys: replied is a [`Reply::Key`] for each.
+    Keys(Range),
     Change(Vec<Key>),
     /// It writes so, all at once or nothing.
     Write(Vec<Request>),
@@ -42,7 +44,10 @@ pub enum Begin {
 impl Begin {
     /// Whether it changes nothing, so that it makes no difference to do it twice.
     pub fn only_reads(&self) -> bool {
-        matches!(self, Begin::Read(_) | Begin::Scan(_) | Begin::Count)
+        match self {
+            Begin::Read(_) | Begin::Scan(_) | Begin::Keys(_) | Begin::Count => true,
+            Begin::Change(_) | Begin::Write(_) | Begin::Numbered(..) => false,
+        }
     }
 
     /// What it writes, whatever is there.

@@ -40,6 +40,21 @@ fn all(durable: &Durable) -> Vec<(Key, Reply)> {
     }
 }
 
+/// The first keys of all, without what they hold.
+fn keys(durable: &Durable) -> Vec<Key> {
+    let range = Range {
+        low: Key::default(),
+        high: None,
+        most: usize::MAX,
+    };
+    let replies = ask(durable, 0, Begin::Keys(range), None).expect("keys");
+    let key = |it| match it {
+        Reply::Key(key) => key,
+        other => panic!("{other:?} isn't a key"),
+    };
+    replies.into_iter().map(key).collect()
+}
+
 fn count(durable: &Durable) -> i64 {
     match ask(durable, 0, Begin::Count, None).as_deref() {
         Ok([Reply::Count(count)]) => *count,
@@ -98,6 +113,7 @@ fn writes_by_chance(durable: &Durable, control: &mut Control, seed: u64) {
         let read = read(durable);
         assert_eq!(all(durable), read.clone().into_iter().collect::<Vec<_>>());
         assert_eq!(count(durable), read.len() as i64);
+        assert!(keys(durable).iter().eq(read.keys().take(Range::MOST)));
     }
 }
 

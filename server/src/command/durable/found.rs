@@ -20,19 +20,13 @@ pub(super) struct Found {
 
 impl Found {
     /// What a shard replied.
-    pub(super) fn of(replies: Vec<Reply>, has_values: bool) -> Found {
+    pub(super) fn of(replies: Vec<Reply>) -> Found {
         let mut found = Found::default();
         for reply in replies {
             match reply {
                 Reply::Count(count) => found.count = usize::try_from(count).unwrap_or(0),
-                Reply::Pair(key, held) => {
-                    let value = if has_values {
-                        text_of(*held)
-                    } else {
-                        Box::default()
-                    };
-                    found.pairs.push((key, value));
-                }
+                Reply::Pair(key, held) => found.pairs.push((key, text_of(*held))),
+                Reply::Key(key) => found.pairs.push((key, Box::default())),
                 _ => {}
             }
         }
@@ -91,14 +85,12 @@ mod tests {
             pair("a", Reply::Text(b"x\r\n".to_vec())),
             pair("b", Reply::Count(-7)),
         ];
-        let found = Found::of(replies.clone(), true);
+        let found = Found::of(replies);
         assert_eq!(found.pairs[1], (b"b"[..].into(), b"-7"[..].into()));
-        assert!(Found::of(replies, false)
-            .pairs
-            .iter()
-            .all(|it| it.1.is_empty()));
-        let count = Found::of(vec![Reply::Count(9)], false);
-        for found in [found, count, Found::default()] {
+        let keys = Found::of(vec![Reply::Key(b"a"[..].into())]);
+        assert_eq!(keys.pairs, [(b"a"[..].into(), Box::default())]);
+        let count = Found::of(vec![Reply::Count(9)]);
+        for found in [found, keys, count, Found::default()] {
             let mut bytes = found.spell();
             assert_eq!(Found::spelled(&bytes), Some(found));
             bytes.pop();

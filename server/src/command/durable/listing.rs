@@ -62,9 +62,8 @@ impl Work for Listing {
     }
 
     fn end(self: Box<Self>, outcome: Outcome) {
-        let has_values = matches!(self.query, Query::Pairs(_));
         let told = match outcome {
-            Ok(replies) => Ok(Found::of(replies, has_values)),
+            Ok(replies) => Ok(Found::of(replies)),
             Err(why) => {
                 let mut refused = Replies::new(self.protocol);
                 refused.error(Fault::NotDone(self.shard, why));

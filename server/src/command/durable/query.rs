@@ -21,7 +21,8 @@ impl Query {
     /// How it begins.
     pub(super) fn begin(&self) -> Begin {
         match self {
-            Query::Keys(range) | Query::Pairs(range) => Begin::Scan(range.clone()),
+            Query::Keys(range) => Begin::Keys(range.clone()),
+            Query::Pairs(range) => Begin::Scan(range.clone()),
             Query::Count => Begin::Count,
         }
     }
