@@ -1,4 +1,4 @@
-use super::inlet::WAKE;
+use super::inlet::{Inlet, WAKE};
 use super::stream::Stream;
 use crate::cluster::Cluster;
 use mio::net::{TcpListener, TcpStream};
@@ -11,6 +11,8 @@ use std::time::{Duration, Instant};
 const LISTENER: Token = Token(0);
 /// How long nothing is accepted after the system had no room for a connection.
 const PAUSE: Duration = Duration::from_millis(20);
+/// How long nothing is accepted while all threads have enough to look at.
+const BREATH: Duration = Duration::from_millis(1);
 /// How often it is said at most that connections aren't accepted.
 const SILENCE: Duration = Duration::from_secs(10);
 
@@ -92,8 +94,13 @@ impl Acceptor {
             if end.is_none() && self.cluster.is_stopping() {
                 end = Some(Instant::now() + self.cluster.configuration.grace);
             }
+            let Some(inlet) = self.next_inlet() else {
+                // Who connects meanwhile the system holds.
+                std::thread::sleep(BREATH);
+                continue;
+            };
             match self.listener.accept() {
-                Ok((stream, from)) => self.hand_on(stream, from),
+                Ok((stream, from)) => self.hand_on(stream, from, &inlet),
                 Err(error) if error.kind() == ErrorKind::WouldBlock => break,
                 Err(error) if is_of_the_client(&error) => {}
                 Err(error) => return Err(error),
@@ -102,7 +109,15 @@ impl Acceptor {
         Ok(())
     }
 
-    fn hand_on(&mut self, socket: TcpStream, from: SocketAddr) {
+    /// That of the thread whose turn it is, of those that don't have enough to look at; none if all have.
+    fn next_inlet(&mut self) -> Option<Arc<Inlet>> {
+        let inlets = self.cluster.inlets();
+        let turns = (1..=inlets.len()).map(|it| (self.turn + it) % inlets.len());
+        self.turn = turns.into_iter().find(|it| !inlets[*it].is_full())?;
+        Some(inlets[self.turn].clone())
+    }
+
+    fn hand_on(&self, socket: TcpStream, from: SocketAddr, inlet: &Inlet) {
         if !self.cluster.takes_client() {
             // By TLS nothing can be told yet.
             if self.cluster.configuration.safety.tls.is_none() {
@@ -110,9 +125,7 @@ impl Acceptor {
             }
             return;
         }
-        let inlets = self.cluster.inlets();
-        self.turn = (self.turn + 1) % inlets.len();
-        if let Some(mut first) = inlets[self.turn].bring(socket, from) {
+        if let Some(mut first) = inlet.bring(socket, from) {
             first.refuse();
         }
     }

@@ -20,6 +20,9 @@ pub(super) const WAKE: Token = Token(usize::MAX);
 const WAITING: usize = 4;
 const MOST_WAITING: usize = 256;
 
+/// How many connections are brought to a thread before it looks, if clients needn't show who they are.
+const MOST_BROUGHT: usize = 32;
+
 /// The number of the last connection.
 static LAST_ID: AtomicU64 = AtomicU64::new(0);
 
@@ -124,6 +127,12 @@ impl Inlet {
         }?;
         self.note_lost(first.id);
         first.stream
+    }
+
+    /// Whether the thread is to look first at those that it was brought, before more are accepted. Strangers have a
+    /// bound of their own, by which the first ones give way.
+    pub(super) fn is_full(&self) -> bool {
+        self.most_strangers.is_none() && self.brought().streams.len() >= MOST_BROUGHT
     }
 
     /// Has connections wait for the thread that does their handshakes, which this wakes.
@@ -256,21 +265,23 @@ impl Inlet {
         self.version.store(version, Ordering::Release);
     }
 
+    fn brought(&self) -> MutexGuard<'_, Brought> {
+        self.brought.lock().unwrap_or_else(PoisonError::into_inner)
+    }
+
     /// Takes what others brought.
     pub(super) fn take(&self) -> Brought {
-        let mut brought = self.brought.lock().unwrap_or_else(PoisonError::into_inner);
-        std::mem::take(&mut brought)
+        std::mem::take(&mut self.brought())
     }
 
     /// Whether others brought nothing that the thread hasn't taken.
     pub(super) fn is_empty(&self) -> bool {
-        let brought = self.brought.lock().unwrap_or_else(PoisonError::into_inner);
-        brought.is_empty()
+        self.brought().is_empty()
     }
 
     /// Changes what others brought, and wakes the thread if it hasn't been woken for that yet.
     pub(super) fn change<T>(&self, change: impl FnOnce(&mut Brought) -> T) -> T {
-        let mut brought = self.brought.lock().unwrap_or_else(PoisonError::into_inner);
+        let mut brought = self.brought();
         // Where something lies there already, the thread was woken for that, and hasn't looked yet.
         let is_first = brought.is_empty();
         let found = change(&mut brought);
