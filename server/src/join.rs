@@ -11,7 +11,7 @@ use crate::stored;
 use durkenzo_driver::{Durable, Member, Own};
 use durkenzo_store::{Etcd, Store, WriteError};
 use std::net::{SocketAddr, TcpListener};
-use std::sync::mpsc::Sender;
+use std::sync::mpsc::SyncSender;
 use std::sync::Arc;
 use std::thread::JoinHandle;
 use std::time::Duration;
@@ -82,7 +82,7 @@ impl Joined {
     pub fn begin(
         self,
         cluster: &Arc<Cluster>,
-        control: Sender<Asked>,
+        control: SyncSender<Asked>,
     ) -> Result<JoinHandle<()>, Fault> {
         let peers = self.peers;
         Ok(peers.begin(self.listener, &self.durable, cluster, control)?)

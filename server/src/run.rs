@@ -5,7 +5,7 @@ use crate::body::{InFolder, Memory, Storage};
 use crate::cluster::{Cluster, Configuration};
 use crate::command::Executor;
 use crate::configure::configuration;
-use crate::control::{Asked, Campaigner, Controller, StoredController};
+use crate::control::{Asked, Campaigner, Controller, StoredController, MOST_ASKED};
 use crate::descriptors::{Descriptors, Needs};
 use crate::io::{Acceptor, Handshaker, Inlet, Worker};
 use crate::join::Joined;
@@ -17,7 +17,7 @@ use durkenzo_driver::Control;
 use mio::Poll;
 use std::error::Error;
 use std::net::{IpAddr, Ipv4Addr, Ipv6Addr, SocketAddr};
-use std::sync::mpsc::{channel, Receiver, Sender};
+use std::sync::mpsc::{sync_channel, Receiver, SyncSender};
 use std::sync::Arc;
 use std::thread::{self, JoinHandle};
 
@@ -45,7 +45,7 @@ pub fn run(options: &Options) -> Result<(), Fault> {
     let joined = joined(options, &configuration, listener.local_addr()?)?;
     let storage = storage(options, &configuration, joined.as_ref())?;
     let cluster = Arc::new(Cluster::new(configuration, storage)?);
-    let (control, asked) = channel();
+    let (control, asked) = sync_channel(MOST_ASKED);
     let polls = polls(options, &cluster)?;
     let controlling = controlling(options, &cluster, asked)?;
     let acceptor = Acceptor::new(cluster.clone(), listener)?;
@@ -209,7 +209,7 @@ fn polls(options: &Options, cluster: &Cluster) -> Result<Vec<Poll>, Fault> {
 fn workers(
     cluster: &Arc<Cluster>,
     polls: Vec<Poll>,
-    control: &Sender<Asked>,
+    control: &SyncSender<Asked>,
 ) -> Result<Vec<Running>, Fault> {
     let mut threads = Vec::new();
     for (number, poll) in polls.into_iter().enumerate() {

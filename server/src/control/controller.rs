@@ -29,6 +29,13 @@ pub struct Asked {
     pub reply_to: ReplyTo,
 }
 
+impl Asked {
+    /// Refuses it.
+    pub fn refuse(self, refusal: Refusal) {
+        send(self.reply_to, Err(refusal));
+    }
+}
+
 /// What the control answers.
 #[derive(Clone, Debug, PartialEq, Eq)]
 pub(super) enum Answer {
@@ -68,6 +75,8 @@ impl From<Answer> for Begun {
     }
 }
 
+/// How many commands wait for the control at most.
+pub const MOST_ASKED: usize = 4_096;
 /// How often tasks look whether the process ends.
 const TICK: Duration = Duration::from_millis(50);
 

@@ -19,7 +19,7 @@ use durkenzo_store::{
 };
 use std::net::TcpListener;
 use std::sync::atomic::{AtomicBool, AtomicI64, Ordering};
-use std::sync::mpsc::{self, Receiver, Sender};
+use std::sync::mpsc::{self, Receiver, SyncSender};
 use std::sync::{Arc, Mutex};
 use std::thread;
 use std::time::{Duration, Instant};
@@ -193,7 +193,7 @@ struct Process {
     cluster: Arc<Cluster>,
     durable: Arc<Durable>,
     peers: Arc<Peers>,
-    control: Sender<Asked>,
+    control: SyncSender<Asked>,
 }
 
 impl Process {
@@ -234,7 +234,7 @@ impl Process {
         let durable = Arc::new(durable.unwrap());
         let storage = Box::new(OnEtcd::new(durable.clone(), peers.clone()));
         let cluster = Arc::new(Cluster::new(configuration.clone(), storage).unwrap());
-        let (control, asked) = mpsc::channel();
+        let (control, asked) = mpsc::sync_channel(9);
         let begun = peers.begin(listener, &durable, &cluster, control.clone());
         drop(begun.unwrap());
         let line = stored::line(configuration);
@@ -293,7 +293,7 @@ impl Drop for Process {
 }
 
 /// Asks a control, and gives where the answer comes.
-fn ask(control: &Sender<Asked>, words: &[&str]) -> Receiver<Vec<u8>> {
+fn ask(control: &SyncSender<Asked>, words: &[&str]) -> Receiver<Vec<u8>> {
     let (tell, told) = mpsc::channel();
     let reply_to = ReplyTo::process(move |answer| {
         // Who dies isn't told.
@@ -756,7 +756,7 @@ fn a_leader_whose_store_falters_stops_the_server_of_a_restart() {
 }
 
 /// A process that has all servers of a store, of which its control asks by this way.
-fn alone() -> (Arc<Way>, Arc<Durable>, Sender<Asked>) {
+fn alone() -> (Arc<Way>, Arc<Durable>, SyncSender<Asked>) {
     let store: Arc<dyn Store> = Arc::new(Embedded::in_memory());
     let way = Way::new(&store, Duration::ZERO);
     let configuration = Configuration {
@@ -771,7 +771,7 @@ fn alone() -> (Arc<Way>, Arc<Durable>, Sender<Asked>) {
     let control = Control::lead(durable.clone(), &line).unwrap();
     let mut controller = StoredController::new(cluster, control).unwrap();
     controller.begin(true).unwrap();
-    let (control, asked) = mpsc::channel();
+    let (control, asked) = mpsc::sync_channel(9);
     thread::spawn(move || controller.run(asked));
     (way, durable, control)
 }

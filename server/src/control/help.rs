@@ -41,10 +41,11 @@ pub const WORDS: [(&str, &str); 34] = [
 ];
 
 /// Each name by which the control refuses and scripts don't: when, and what to do. `./sm help` reads them here.
-pub const NAMES: [(&str, &str, &str); 24] = [
+pub const NAMES: [(&str, &str, &str); 25] = [
     ("NotThere", "the word is there where data lies elsewhere", "SM HELP tells where it is"),
     ("NotDurable", "the word is there for data in memory alone", "SM HELP lists all words"),
     ("OneByOne", "processes of a cluster are ended and begun again by hand, one after another", "SM RESTART a"),
+    ("Crowded", "as many commands wait for the control as may", "try again"),
     ("UnderWay", "a migration, a restart, a drain or a dump goes on", "wait for its end, which SM SERVERS tells"),
     ("NotLeader", "no process leads for now, or another one does from now on, and goes on with what is under way",
       "look how far it is by SM SERVERS, and try again"),

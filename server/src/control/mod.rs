@@ -25,7 +25,7 @@ mod task;
 mod waiting;
 
 pub use campaigner::Campaigner;
-pub use controller::{Asked, Controller};
+pub use controller::{Asked, Controller, MOST_ASKED};
 pub use refusal::Refusal;
 pub use stored::StoredController;
 pub use waiting::{Again, Waiting};

@@ -85,6 +85,12 @@ impl Refusal {
         Refusal::new("NoCapacity", reason, "SM BACK a server that is away")
     }
 
+    /// That as many commands wait for the control as may.
+    pub fn crowded() -> Refusal {
+        let reason = "as many commands wait for the control as may";
+        Refusal::new("Crowded", reason, "try again")
+    }
+
     /// That something is under way that doesn't go with it.
     pub fn under_way() -> Refusal {
         let reason = "a migration, a restart, a drain or a dump is under way";

@@ -7,7 +7,7 @@ use super::strangers::Whereabouts;
 use super::stream::Stream;
 use crate::cluster::Cluster;
 use crate::command::{is_of_all, Asked as AskedOfShards, Executor, Session};
-use crate::control::Asked;
+use crate::control::{Asked, Refusal};
 use crate::keep_alive;
 use crate::resp::OwnedCommand;
 use crate::wait::Wait;
@@ -16,7 +16,7 @@ use slab::Slab;
 use std::cmp::Reverse;
 use std::collections::BinaryHeap;
 use std::io::{self, ErrorKind};
-use std::sync::mpsc::Sender;
+use std::sync::mpsc::{SyncSender, TrySendError};
 use std::sync::Arc;
 use std::time::{Duration, Instant};
 
@@ -37,7 +37,7 @@ pub struct Worker {
     inlet: Arc<Inlet>,
     poll: Poll,
     executor: Executor,
-    control: Sender<Asked>,
+    control: SyncSender<Asked>,
     connections: Slab<Connection>,
     /// Connections that have a turn in the next round.
     queue: Vec<usize>,
@@ -61,7 +61,7 @@ impl Worker {
         inlet: Arc<Inlet>,
         poll: Poll,
         executor: Executor,
-        control: Sender<Asked>,
+        control: SyncSender<Asked>,
     ) -> Worker {
         let busy_poll = BusyPoll::new(cluster.configuration.busy_poll);
         Worker {
@@ -421,10 +421,14 @@ impl Worker {
             tracing::info!(asked, %from, role, "a client asks the control");
             reply_to = reply_to.logged(asked);
         }
-        if let Err(error) = self.control.send(Asked { command, reply_to }) {
+        match self.control.try_send(Asked { command, reply_to }) {
+            Ok(()) => {}
+            Err(TrySendError::Full(asked)) => asked.refuse(Refusal::crowded()),
             // The control ends after all threads that ask it, or by a fault of its own.
-            tracing::error!(%error, "the control is gone");
-            self.close(place);
+            Err(error @ TrySendError::Disconnected(_)) => {
+                tracing::error!(%error, "the control is gone");
+                self.close(place);
+            }
         }
     }
 
@@ -465,7 +469,7 @@ mod tests {
     use mio::net::TcpStream;
     use std::io::{Read, Write};
     use std::net::{TcpListener, TcpStream as Client};
-    use std::sync::mpsc::channel;
+    use std::sync::mpsc::{sync_channel, Receiver};
     use std::thread;
     use tokio::net::TcpSocket;
 
@@ -494,9 +498,9 @@ mod tests {
         cluster.set_inlets([inlet.clone()].into());
         let admission = Admission::new(cluster.clone(), inlet.stats().clone()).unwrap();
         let executor = Executor::new(cluster.clone(), admission, keyspace);
-        // Nobody asks the control.
-        let worker = Worker::new(cluster.clone(), inlet, poll, executor, channel().0);
-        (cluster, worker)
+        let (control, asked) = sync_channel(most);
+        let worker = Worker::new(cluster.clone(), inlet, poll, executor, control);
+        (cluster, worker, asked)
     }
 
     /// Clients whose connections are brought to this inlet.
@@ -513,6 +517,13 @@ mod tests {
             same.set_send_buffer_size(SOCKET_ROOM).unwrap();
             assert!(inlet.bring(TcpStream::from_std(stream), from).is_none());
             client
+        // Nobody asks the control.
+        let (cluster, worker, _) = begun_below(wait, 0);
+        (cluster, worker)
+    }
+
+    /// The same where so many commands wait for the control at most, which takes none.
+    fn begun_below(wait: Duration, most: usize) -> (Arc<Cluster>, Worker, Receiver<Asked>) {
         };
         (0..count).map(client).collect()
     }
@@ -584,6 +595,31 @@ mod tests {
         client.read_to_string(&mut told).unwrap();
         thread.join().unwrap().unwrap();
         assert_eq!(told, "+PONG\r\n");
+    }
+
+    #[test]
+    fn who_asks_a_control_of_which_many_wait_is_refused() {
+        let (cluster, worker, asked) = begun_below(Duration::ZERO, 2);
+        let mut clients = clients(&worker.inlet, 3);
+        let thread = thread::spawn(move || worker.run());
+        for client in &mut clients {
+            client.write_all(b"SM SHARDS\r\n").unwrap();
+        }
+        let end = Instant::now() + Duration::from_secs(20);
+        let is_refused = |it: &Client| {
+            it.set_nonblocking(true).unwrap();
+            let mut told = [0; 18];
+            it.peek(&mut told).is_ok() && told == *b"-REFUSED Crowded: "
+        };
+        while !clients.iter().any(is_refused) && Instant::now() < end {
+            thread::sleep(Duration::from_millis(1));
+        }
+        assert_eq!(clients.iter().filter(|it| is_refused(it)).count(), 1);
+        for it in asked.try_iter() {
+            it.reply_to.send(b"+OK\r\n".to_vec());
+        }
+        cluster.stop();
+        thread.join().unwrap().unwrap();
     }
 
     #[test]

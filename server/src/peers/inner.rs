@@ -10,7 +10,7 @@ use crate::control::Asked;
 use durkenzo_driver::{Durable, Member};
 use std::collections::BTreeMap;
 use std::sync::atomic::{AtomicBool, AtomicUsize, Ordering};
-use std::sync::mpsc::Sender;
+use std::sync::mpsc::SyncSender;
 use std::sync::{Arc, Mutex, MutexGuard, OnceLock, PoisonError, Weak};
 use std::time::{Duration, Instant};
 
@@ -27,7 +27,7 @@ pub(super) struct Inner {
     pub(super) durable: OnceLock<Weak<Durable>>,
     pub(super) cluster: OnceLock<Weak<Cluster>>,
     /// Who answers commands for the control, until the process ends.
-    pub(super) control: Mutex<Option<Sender<Asked>>>,
+    pub(super) control: Mutex<Option<SyncSender<Asked>>>,
     pub(super) links: Mutex<BTreeMap<u16, Arc<Link>>>,
     /// What is tried again, and when.
     pub(super) returned: Mutex<Vec<(Instant, Returned)>>,

@@ -43,7 +43,7 @@ use std::fmt;
 use std::io::{self, ErrorKind};
 use std::net::{SocketAddr, TcpListener, TcpStream};
 use std::sync::atomic::Ordering;
-use std::sync::mpsc::Sender;
+use std::sync::mpsc::SyncSender;
 use std::sync::Arc;
 use std::thread::{self, JoinHandle};
 use std::time::{Duration, Instant};
@@ -120,7 +120,7 @@ impl Peers {
         listener: TcpListener,
         durable: &Arc<Durable>,
         cluster: &Arc<Cluster>,
-        control: Sender<Asked>,
+        control: SyncSender<Asked>,
     ) -> io::Result<JoinHandle<()>> {
         listener.set_nonblocking(true)?;
         // It is begun once.

@@ -170,7 +170,7 @@ impl Serving {
             reply_to = reply_to.logged(asked);
         }
         let control = locked(&self.inner.control).clone();
-        let is_asked = control.is_some_and(|it| it.send(Asked { command, reply_to }).is_ok());
+        let is_asked = control.is_some_and(|it| it.try_send(Asked { command, reply_to }).is_ok());
         if !is_asked {
             teller.tell(Told::NotDone(NotDone::Stopped));
         }
