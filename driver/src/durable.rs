@@ -605,8 +605,8 @@ impl Inner {
         }
     }
 
-    /// Has the shard refuse what has waited in vain. One of which nothing waits is left alone until something is done
-    /// with it again.
+    /// Has the shard drop what nobody waits for, and refuse what has waited in vain. One of which nothing waits is left
+    /// alone until something is done with it again.
     fn tick(self: &Arc<Inner>, shard: u16, now: Instant) {
         let place = usize::from(shard);
         if !self.stirred[place].load(Ordering::Acquire) {
@@ -614,6 +614,7 @@ impl Inner {
         }
         let is_full = self.is_full.load(Ordering::Acquire);
         self.with(shard, |it, deeds| {
+            it.drop_unwanted(deeds);
             it.tick(now, self.tuning.wait, deeds);
             it.begin_base(is_full, now, deeds);
         });

@@ -10,6 +10,8 @@ use std::time::Instant;
 /// How many requests a round takes before no more work comes in, and how many bytes of them.
 const MOST_REQUESTS: usize = 1_024;
 pub(crate) const MOST_BYTES: usize = 1 << 20;
+/// How many requests of one run a round takes before others have their turn.
+const SHARE: usize = 16;
 
 /// How many bits of a client's number tell its place in a round; those above tell the process.
 pub(crate) const PLACE_BITS: u32 = 16;
@@ -42,22 +44,29 @@ impl Run {
         self.not_before.is_none_or(|it| now >= it)
     }
 
-    /// The next step, where the round has room.
-    fn next(&mut self, round: &Round) -> Option<Step> {
-        match round.is_full() {
-            true => None,
-            false => self.steps.pop_front(),
-        }
+    /// Drops the steps for which nobody waits any more; returns whether some are left.
+    pub(crate) fn keep_wanted(&mut self) -> bool {
+        self.steps.retain(|it| it.work.is_wanted());
+        !self.steps.is_empty()
     }
 
-    /// Gives the round its next steps, as many as go into that; keys are listed by this server, where it is ready.
-    pub(crate) fn give(&mut self, round: &mut Round, listing: Option<Listing<'_>>) {
-        while let Some(step) = self.next(round) {
+    /// Gives the round its next steps, up to its share of requests; keys are listed by this server, if it is ready.
+    /// Returns whether it has more for this round.
+    pub(crate) fn give(&mut self, round: &mut Round, listing: Option<Listing<'_>>) -> bool {
+        let end = round.asked.len() + SHARE;
+        while !round.is_full() && round.asked.len() < end {
+            let Some(step) = self.steps.pop_front() else {
+                return false;
+            };
+            if !step.work.is_wanted() {
+                continue;
+            }
             if let Err(step) = round.take(self.origin, step, listing) {
                 self.steps.push_front(step);
-                return;
+                return false;
             }
         }
+        !self.steps.is_empty()
     }
 }
 
@@ -223,6 +232,12 @@ impl Round {
     /// Whether no more work comes in.
     pub(crate) fn is_full(&self) -> bool {
         self.is_closed || self.asked.len() >= MOST_REQUESTS || self.bytes >= MOST_BYTES
+    }
+
+    /// Whether nobody waits any more for one of its steps, and nothing of it may be made.
+    pub(crate) fn has_unwanted(&self) -> bool {
+        let is_unwanted = |it: &Taken| !it.step.work.is_wanted();
+        !self.may_be_made && self.taken.iter().any(is_unwanted)
     }
 
     /// Whether each of its steps only reads. One that decides by what it reads doesn't: where it then writes nothing,

@@ -12,6 +12,9 @@ pub trait Work: Send {
     /// Nobody else writes those keys until it is made; where somebody did, nothing of it is, and it is asked again.
     fn decide(&mut self, held: Vec<Reply>) -> Vec<Request>;
 
+    /// Whether somebody still waits for what becomes of it. If nobody does, and it hasn't begun, the shard drops it.
+    fn is_wanted(&self) -> bool;
+
     /// How another process of this program reads it.
     fn spell(&self) -> Vec<u8>;
 
@@ -29,11 +32,11 @@ pub enum Begin {
     Read(Vec<Key>),
     /// It reads the first pairs of these keys: replied is a [`Reply::Pair`] for each.
     Scan(Range),
+    /// It finds the first of these keys: replied is a [`Reply::Key`] for each.
+    Keys(Range),
     /// It counts the keys that hold something: replied is their number.
     Count,
     /// It reads these keys, and decides by what they hold what it writes.
-    /// It finds the first of these keys: replied is a [`Reply::Key`] for each.
-    Keys(Range),
     Change(Vec<Key>),
     /// It writes so, all at once or nothing.
     Write(Vec<Request>),
@@ -130,6 +133,9 @@ pub enum NotDone {
     /// One server of the shard left it to the other, all the time.
     #[error("no server had the shard ready")]
     Busy,
+    /// As much waits for the shard as may.
+    #[error("as many commands wait for the shard as may")]
+    Crowded,
     /// What lies in the store is wrong.
     #[error("what lies in the store is wrong: {0}")]
     Damaged(String),

@@ -13,7 +13,9 @@ import random
 import re
 import shutil
 import signal
+import socket
 import sqlite3
+import struct
 import subprocess
 import sys
 import tempfile
@@ -656,6 +658,100 @@ def waiting_stops_its_own_connections_alone(program):
             client.ask("GET", "{hot}")
 
 
+# What is asked by clients that leave at once, how many of them there are, and for how long.
+ASKED = [("GET", "a"), ("SET", "a", "x"), ("DBSIZE",), ("SCAN", "0"), ("SM", "SHARDS")]
+LEAVERS, BEGUN, BESIDE, TRIES = 4, 0.4, 0.4, 8
+# How long somebody beside them waits for an answer by the mean at most, and how many descriptors the server has then.
+MOST_WAIT, MOST_DESCRIPTORS = 0.1, 500
+
+
+def beside_leavers(server, words):
+    """How long an answer to GET takes by the mean beside clients that ask this and leave, and how many descriptors the
+    server has then at most."""
+    command = [sys.executable, pathlib.Path(__file__).parent / "leavers.py", str(server.port), *words]
+    with contextlib.ExitStack() as stack, server.client() as client:
+        client.ask("GET", "a")
+        for _ in range(LEAVERS):
+            leaver = stack.enter_context(subprocess.Popen(command, stdin=subprocess.PIPE))
+            stack.callback(leaver.kill)
+        time.sleep(BEGUN)
+        began, count, most = time.monotonic(), 0, 0
+        while time.monotonic() < began + BESIDE:
+            client.ask("GET", "a")
+            count, most = count + 1, max(most, server.descriptors())
+        return (time.monotonic() - began) / count, most
+
+
+def who_asks_and_leaves_holds_nobody_up(program):
+    """Others are answered soon, and descriptors are few; tried again on a machine that has other work."""
+    told = []
+    options = ("--threads", 2)
+    with folder() as data, over(program, data, *options) as durable, served.served(program, *options) as memory:
+        with durable.client() as client:
+            client.piped([("SET", f"key:{it}", it) for it in range(300)])
+        for server, words in [*((durable, it) for it in ASKED), (memory, ("SM", "SHARDS"))]:
+            before, found = server.at_rest(), []
+            while not found or found[-1][0] > MOST_WAIT or found[-1][1] > MOST_DESCRIPTORS:
+                assert len(found) < TRIES, f"beside {words}: seconds of GET and descriptors {found}"
+                found.append(beside_leavers(server, words))
+                assert server.settle(before) <= before, f"{server.descriptors()} descriptors stay after {words}"
+            told.append(f"{found[-1][0] * 1000:.1f} ms and {found[-1][1]}")
+    return ", ".join(told)
+
+
+def reset(client):
+    """Ends the connection at once."""
+    client.socket.setsockopt(socket.SOL_SOCKET, socket.SO_LINGER, struct.pack("ii", 1, 0))
+    client.stream.close()
+    client.socket.close()
+
+
+def work_of_who_has_left_is_dropped(program):
+    """What waits for a paused shard isn't done once its client is gone, whose descriptor is closed."""
+    commands = [("INCR", "a"), ("APPEND", "a", 1), ("MSET", "a", 9, "b", 9)]
+    of_store = [*commands, ("DBSIZE",), ("SM", "CALL", 7, 1, "INCR", "a")]
+    for name, asked in (("--data", of_store), (None, commands)):
+        with contextlib.ExitStack() as stack:
+            options = [name, stack.enter_context(folder())] if name else []
+            options += ["--shards", 1, "--wait", 60_000]
+            server = stack.enter_context(served.served(program, *options))
+            client = stack.enter_context(server.client())
+            client.ask("SM", "PAUSE", 0)
+            before = server.at_rest()
+            for words in asked:
+                leaves = server.client()
+                leaves.send(*words)
+                # It is asked for before its client leaves.
+                time.sleep(0.1)
+                reset(leaves)
+            assert server.settle(before) <= before, f"{before} descriptors before, and {server.descriptors()} after"
+            client.ask("SM", "RESUME", 0)
+            assert client.ask("MGET", "a", "b") == [None, None] and client.ask("INCR", "a") == 1
+
+
+def who_sends_no_more_is_answered(program):
+    with folder() as data, over(program, data) as server:
+        for _ in range(20):
+            with server.client() as client:
+                client.socket.sendall(b"SET a 1\r\nINCR a\r\nDEL a b\r\nDBSIZE\r\nSM KEY a\r\nSM LOOK 3\r\nGET a\r\n")
+                client.socket.shutdown(socket.SHUT_WR)
+                told = client.stream.read()
+                assert re.fullmatch(rb"\+OK\r\n:2\r\n:1\r\n:0\r\n:\d+\r\n\+Serving .*\r\n\$-1\r\n", told), told
+
+
+def migrations_keep_no_client_that_has_left(program):
+    with folder() as data, over(program, data, "--pace", 2_000) as server, server.client() as client:
+        before = server.at_rest()
+        for it in range(50):
+            with server.client() as leaves:
+                leaves.send("SM", "MIGRATE", it % SHARDS, owner(client, it % SHARDS) % 4 + 1)
+        began = time.monotonic()
+        assert server.settle(before) <= before, f"{before} descriptors before, and {server.descriptors()} after"
+        took = time.monotonic() - began
+        # A migration takes three of these paces.
+        assert took < 4, f"descriptors stay for {took} s"
+
+
 def answers(client, key, value=1):
     try:
         return client.ask("SET", key, value) == "OK"
@@ -680,6 +776,10 @@ TESTS = [
     full_disks_are_refused_by_name,
     full_disks_take_deletions_and_then_writes,
     waiting_stops_its_own_connections_alone,
+    who_asks_and_leaves_holds_nobody_up,
+    work_of_who_has_left_is_dropped,
+    who_sends_no_more_is_answered,
+    migrations_keep_no_client_that_has_left,
     drains_and_returns_go_on_at_the_next_start,
     restarts_wait_for_no_server_that_has_failed,
     shards_spread_as_far_as_they_fit,

@@ -127,6 +127,8 @@ pub(crate) struct Shard {
 
 /// How long a shard isn't read again after that failed.
 const READ_AGAIN: Duration = Duration::from_millis(100);
+/// How many runs wait at most before further ones are refused. A connection has at most one at each shard.
+const MOST_RUNS: usize = 32_768;
 /// How many times longer work waits while its shard is read.
 const READING_WAITS: u32 = 4;
 /// How long steps wait that came back before they are handed over again.
@@ -204,6 +206,10 @@ impl Shard {
         now: Instant,
         deeds: &mut Vec<Deed>,
     ) {
+        if self.runs.len() >= MOST_RUNS {
+            let refused = |it: Step| Deed::Tell(it.work, Err(NotDone::Crowded));
+            return deeds.extend(steps.into_iter().map(refused));
+        }
         self.runs_begun += 1;
         let run = Run {
             origin: Origin {

@@ -1,5 +1,5 @@
 use super::{Deed, Seat, Shard};
-use crate::round::{Decided, Origin, Parted, Run};
+use crate::round::{Decided, Origin, Parted, Round, Run};
 use crate::{NotDone, Step};
 use durkenzo_store::Revision;
 use std::collections::{BTreeMap, VecDeque};
@@ -41,6 +41,20 @@ impl Shard {
             }
         }
         self.begin_again(again);
+    }
+
+    /// Drops what nobody waits for any more.
+    pub(crate) fn drop_unwanted(&mut self, deeds: &mut Vec<Deed>) {
+        self.part_if_unwanted(deeds);
+        self.runs.retain_mut(Run::keep_wanted);
+    }
+
+    /// Takes the round apart if nobody waits any more for some of it, unless something of it may be made.
+    pub(super) fn part_if_unwanted(&mut self, deeds: &mut Vec<Deed>) {
+        let may_be_made = self.is_sent() || self.unknown_at.is_some();
+        if !may_be_made && self.round.as_ref().is_some_and(Round::has_unwanted) {
+            self.part(deeds);
+        }
     }
 
     /// Has nothing wait at the server any more.

@@ -6,6 +6,7 @@ use crate::proved::Item;
 use crate::round::{Asked, Ended, Round, Takes, PLACE_BITS};
 use crate::{Came, NotDone, Reply};
 use durkenzo_store::Revision;
+use std::collections::VecDeque;
 use std::time::Instant;
 
 /// What was found of a request.
@@ -53,6 +54,7 @@ impl Shard {
                 return;
             }
             self.route(now, deeds);
+            self.part_if_unwanted(deeds);
             if self.round.is_none() && !self.form(now) {
                 return self.name_base(deeds);
             }
@@ -105,14 +107,23 @@ impl Shard {
         round
     }
 
+    /// Fills the round with what waits here. Each run gives its share in turn, until none has more or the round is
+    /// full: who asks for much doesn't have others wait behind all of that. The run at which the round was full comes
+    /// first in the next one.
     fn fill(&mut self, round: &mut Round, now: Instant) {
         let mut runs = std::mem::take(&mut self.runs);
         let listing = self.listing();
-        for run in &mut runs {
-            if self.way_of(run, now) == Way::Here {
-                run.give(round, listing);
+        let (mut firsts, mut again) = (0..runs.len(), VecDeque::new());
+        loop {
+            let first = firsts.find(|it| self.way_of(&runs[*it], now) == Way::Here);
+            let Some(place) = first.or_else(|| again.pop_front()) else {
+                break;
+            };
+            if runs[place].give(round, listing) {
+                again.push_back(place);
             }
             if round.is_full() {
+                runs.rotate_left(place);
                 break;
             }
         }

@@ -91,9 +91,10 @@ impl Shard {
     }
 
     /// Hands over the run, or has it wait behind the others.
-    pub(super) fn route_one(&mut self, run: Run, now: Instant, deeds: &mut Vec<Deed>) {
+    pub(super) fn route_one(&mut self, mut run: Run, now: Instant, deeds: &mut Vec<Deed>) {
         match self.way_of(&run, now) {
             Way::Here | Way::Waits => self.runs.push_back(run),
+            Way::Elsewhere(..) if !run.keep_wanted() => {}
             Way::Elsewhere(server, came) => {
                 let elsewhere = Elsewhere {
                     shard: self.number,

@@ -156,6 +156,11 @@ impl Work for Remote {
         self.step.as_mut().expect("a step").work.decide(held)
     }
 
+    fn is_wanted(&self) -> bool {
+        let step = self.step.as_ref();
+        step.is_none_or(|it| it.work.is_wanted())
+    }
+
     fn spell(&self) -> Vec<u8> {
         Vec::new()
     }

@@ -30,6 +30,10 @@ impl Work for Asking {
         self.decide.as_mut().map_or_else(Vec::new, |it| it(held))
     }
 
+    fn is_wanted(&self) -> bool {
+        true
+    }
+
     fn spell(&self) -> Vec<u8> {
         Vec::new()
     }

@@ -372,6 +372,7 @@ fn not_done(f: &mut fmt::Formatter<'_>, shard: u16, why: &NotDone) -> fmt::Resul
         NotDone::Away(server) => write!(f, "{}", Wait::Unreachable(shard, *server)),
         NotDone::Vacant => write!(f, "{}", Wait::Vacant(shard)),
         NotDone::Busy => write!(f, "{}", Wait::Busy(shard)),
+        NotDone::Crowded => write!(f, "SHARDBUSY nothing has changed: {why}: try again"),
         NotDone::Damaged(_) => write!(f, "SHARDDAMAGED shard {shard}: {why}: restore the folder"),
         NotDone::Full(_) => write!(
             f,

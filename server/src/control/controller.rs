@@ -142,9 +142,12 @@ impl Controller {
         }
     }
 
-    /// Answers the command, or begins a task of it.
+    /// Answers the command, or begins a task of it, if its client is still there.
     fn take(&mut self, asked: Asked) {
         let reply_to = asked.reply_to;
+        if !reply_to.is_awaited() {
+            return;
+        }
         match self.begin(asked.command.command()) {
             Ok(Begun::Answer(answer)) => send(reply_to, Ok(answer)),
             Ok(Begun::Work(work)) => {

@@ -318,8 +318,11 @@ impl StoredController {
         }
     }
 
-    /// Answers the command, or begins work of it.
+    /// Answers the command, or begins work of it, if its client is still there.
     pub(super) fn take(&mut self, asked: Asked) {
+        if !asked.reply_to.is_awaited() {
+            return;
+        }
         let Some(asked) = routes::told(&self.cluster, self.peers.as_deref(), asked) else {
             return;
         };

@@ -1,4 +1,5 @@
 use super::arrived::Arrived;
+use super::caller::Caller;
 use super::stream::Stream;
 use crate::command::{Asked, Executor, Session, Stop, MOST_OF_A_STRANGER};
 use crate::resp::{Oversized, OwnedCommand, ReadAway, Replies};
@@ -6,6 +7,7 @@ use crate::stats::ErrorCounts;
 use crate::wait::Wait;
 use mio::event::Event;
 use std::io::{self, ErrorKind};
+use std::sync::Arc;
 use std::time::{Duration, Instant};
 
 /// How many bytes of a client that is known are unsent before nothing more is read.
@@ -36,6 +38,16 @@ pub(super) enum Turn {
     Over,
 }
 
+impl Turn {
+    /// Whether the connection waits for more than a turn of others.
+    pub(super) fn waits(&self) -> bool {
+        match self {
+            Turn::Rest | Turn::Again | Turn::Over | Turn::Wait(Wait::Busy(_)) => false,
+            Turn::Wait(_) | Turn::PutOff(_) | Turn::Control(_) | Turn::Durable(_) => true,
+        }
+    }
+}
+
 /// A client's connection.
 #[derive(Debug)]
 pub(super) struct Connection {
@@ -51,6 +63,10 @@ pub(super) struct Connection {
     is_readable: bool,
     /// Whether the client won't send more, so that a short read isn't the last one.
     is_half_closed: bool,
+    /// Whether the client has left, so that no answer reaches it.
+    has_left: bool,
+    /// What those see who work for the client, as long as the connection is there.
+    presence: Option<Arc<()>>,
     /// Whether all that the client sent was read.
     is_ended: bool,
     /// Whether it ends when all was sent.
@@ -82,6 +98,8 @@ impl Connection {
             replies: Replies::default(),
             is_readable,
             is_half_closed: false,
+            has_left: false,
+            presence: None,
             is_ended: false,
             is_last: false,
             owed_since: None,
@@ -113,7 +131,8 @@ impl Connection {
     /// Notes what happened at the socket, and returns whether a turn is due. While the next command waits or is owed an
     /// answer none is, and the socket takes what was answered before.
     pub(super) fn note(&mut self, event: &Event, executor: &mut Executor) -> bool {
-        self.is_half_closed |= event.is_read_closed() || event.is_error();
+        self.has_left |= event.is_write_closed() || event.is_error();
+        self.is_half_closed |= event.is_read_closed() || self.has_left;
         self.is_readable |= event.is_readable() || self.is_half_closed;
         let is_due = self.is_readable || !self.is_sent();
         if self.is_held() && is_due {
@@ -123,8 +142,23 @@ impl Connection {
         is_due && !self.is_held()
     }
 
+    /// Whether its client has left, so that no answer reaches it.
+    pub(super) fn has_left(&self) -> bool {
+        self.has_left
+    }
+
+    /// Whether its client sends no more, and may have left.
+    pub(super) fn may_have_left(&self) -> bool {
+        self.is_half_closed || self.is_ended
+    }
+
+    /// Its client, as those see it who work for it.
+    pub(super) fn caller(&mut self) -> Caller {
+        Caller::client(self.presence.get_or_insert_default())
+    }
+
     /// Whether the next command waits, or is put off or owed an answer.
-    fn is_held(&self) -> bool {
+    pub(super) fn is_held(&self) -> bool {
         self.owed_since.is_some() || self.waits_since.is_some() || self.is_put_off
     }
 
@@ -394,7 +428,6 @@ mod tests {
     use crate::stats::Stats;
     use mio::net::TcpStream;
     use std::net::TcpListener;
-    use std::sync::Arc;
 
     fn executor() -> Executor {
         let rule = Rule::Hash(1);

@@ -2,10 +2,12 @@
 mod acceptor;
 mod arrived;
 mod busy_poll;
+mod caller;
 mod connection;
 mod door;
 mod handshaker;
 mod inlet;
+mod leaving;
 mod reply_to;
 mod strangers;
 mod stream;
@@ -13,6 +15,7 @@ mod tls_stream;
 mod worker;
 
 pub use acceptor::Acceptor;
+pub use caller::Caller;
 pub use handshaker::Handshaker;
 pub use inlet::Inlet;
 pub use reply_to::ReplyTo;

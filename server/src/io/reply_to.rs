@@ -1,3 +1,4 @@
+use super::caller::Caller;
 use super::inlet::{Delivery, Inlet};
 use crate::stats::ErrorCounts;
 use std::fmt;
@@ -19,6 +20,7 @@ enum To {
         inlet: Arc<Inlet>,
         place: usize,
         id: u64,
+        caller: Caller,
     },
     /// To another process.
     Process(Box<dyn FnOnce(Vec<u8>) + Send>),
@@ -34,9 +36,27 @@ impl From<To> for ReplyTo {
 }
 
 impl ReplyTo {
-    /// To the connection with this number, at this place of the thread.
-    pub(super) fn connection(inlet: Arc<Inlet>, place: usize, id: u64) -> ReplyTo {
-        To::Connection { inlet, place, id }.into()
+    /// To the connection with this number, at this place of the thread, of this client.
+    pub(super) fn connection(
+        inlet: Arc<Inlet>,
+        (place, id): (usize, u64),
+        caller: Caller,
+    ) -> ReplyTo {
+        To::Connection {
+            inlet,
+            place,
+            id,
+            caller,
+        }
+        .into()
+    }
+
+    /// Who asked.
+    pub fn caller(&self) -> Caller {
+        match &self.to {
+            To::Connection { caller, .. } => caller.clone(),
+            To::Process(_) | To::Asking(_) => Caller::default(),
+        }
     }
 
     /// To another process, by who is given the answer.
@@ -52,6 +72,15 @@ impl ReplyTo {
     /// Whether another process asked, which asks elsewhere where nothing is done.
     pub fn asks_elsewhere(&self) -> bool {
         matches!(self.to, To::Asking(_))
+    }
+
+    /// Whether the client is still there. If it isn't, the log says of what it logs that nothing is done.
+    pub fn is_awaited(&self) -> bool {
+        let is_awaited = self.caller().is_there();
+        if let (Some(asked), false) = (&self.asked, is_awaited) {
+            tracing::info!(%asked, "nothing is done, as the client has left");
+        }
+        is_awaited
     }
 
     /// The same where the log says what the answer to these words is.
@@ -97,7 +126,9 @@ impl ReplyTo {
             tracing::info!(%asked, %told, "the control has answered");
         }
         match self.to {
-            To::Connection { inlet, place, id } => inlet.change(|it| {
+            To::Connection {
+                inlet, place, id, ..
+            } => inlet.change(|it| {
                 it.answers.push(Delivery {
                     place,
                     id,

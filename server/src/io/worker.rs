@@ -2,6 +2,7 @@ use super::arrived::Arrived;
 use super::busy_poll::BusyPoll;
 use super::connection::{Connection, Turn};
 use super::inlet::{Brought, Inlet, WAKE};
+use super::leaving::Leaving;
 use super::reply_to::ReplyTo;
 use super::strangers::Whereabouts;
 use super::stream::Stream;
@@ -48,6 +49,8 @@ pub struct Worker {
     /// Whether all that is queued waits for shards that other threads have.
     is_racing: bool,
     changes: u64,
+    /// Connections that wait, and whose clients may have left.
+    leaving: Leaving,
     busy_poll: BusyPoll,
     /// When connections were looked through for those who took too long.
     swept: Instant,
@@ -64,6 +67,7 @@ impl Worker {
         control: SyncSender<Asked>,
     ) -> Worker {
         let busy_poll = BusyPoll::new(cluster.configuration.busy_poll);
+        let leaving = Leaving::new(cluster.inlets().len());
         Worker {
             cluster,
             inlet,
@@ -76,6 +80,7 @@ impl Worker {
             put_off: BinaryHeap::new(),
             is_racing: false,
             changes: 0,
+            leaving,
             busy_poll,
             swept: Instant::now(),
             buffer: vec![0; ROOM].into(),
@@ -95,6 +100,7 @@ impl Worker {
             }
             self.refresh()?;
             self.close_strangers();
+            self.close_leaving();
             self.look_at_put_off();
             self.look_at_waiting();
             self.run_queue();
@@ -133,8 +139,9 @@ impl Worker {
     fn timeout(&self) -> Option<Duration> {
         let sweep = (self.inlet.strangers() > 0).then_some(SWEEP);
         let put_off = self.put_off.peek().map(|it| it.0 .0);
-        let put_off = put_off.map(|it| it.saturating_duration_since(Instant::now()));
-        sweep.into_iter().chain(put_off).min()
+        let next = put_off.into_iter().chain(self.leaving.next_end()).min();
+        let next = next.map(|it| it.saturating_duration_since(Instant::now()));
+        sweep.into_iter().chain(next).min()
     }
 
     /// Takes events as soon as they are there, without sleeping, for a short time.
@@ -160,9 +167,29 @@ impl Worker {
             return self.take_brought();
         }
         let place = event.token().0;
-        let (connection, executor) = (self.connections.get_mut(place), &mut self.executor);
-        if connection.is_some_and(|it| it.note(event, executor)) {
+        let Some(connection) = self.connections.get_mut(place) else {
+            return;
+        };
+        if connection.note(event, &mut self.executor) {
             self.enqueue(place);
+        } else if connection.is_held() && !self.may_wait(place) {
+            self.close(place);
+        }
+    }
+
+    /// Whether the connection there may wait: if its client has left it may not, nor if the client sends no more, and
+    /// many wait already of which that is so.
+    fn may_wait(&mut self, place: usize) -> bool {
+        let connection = &self.connections[place];
+        let (id, may_have_left) = (connection.session.id, connection.may_have_left());
+        let is_there = !connection.has_left();
+        is_there && (!may_have_left || self.leaving.begin(id, place, Instant::now()))
+    }
+
+    /// Closes the connections that have waited for too long behind clients that may have left.
+    fn close_leaving(&mut self) {
+        for place in self.leaving.due(Instant::now()) {
+            self.close(place);
         }
     }
 
@@ -379,6 +406,10 @@ impl Worker {
             return Turn::Rest;
         };
         connection.is_queued = false;
+        let id = connection.session.id;
+        if connection.may_have_left() {
+            self.leaving.end(id);
+        }
         let stats = self.inlet.stats();
         let (done, since) = (stats.commands.get(), connection.waits_since());
         let turn = connection.turn(&mut self.executor, &mut self.buffer, wait);
@@ -388,22 +419,24 @@ impl Worker {
         }
         let becomes_known = connection.becomes_known();
         if becomes_known {
-            self.inlet.note_stranger_less(connection.session.id);
+            self.inlet.note_stranger_less(id);
         }
         if let Some(errors) = connection.take_errors() {
             stats.note_errors(errors);
         }
         // Who had to show first who it is finds only now that others have all places.
-        match becomes_known && self.has_too_many() {
+        let is_over = becomes_known && self.has_too_many();
+        match is_over || turn.waits() && !self.may_wait(place) {
             true => Turn::Over,
             false => turn,
         }
     }
 
     /// Where what is owed to the connection there goes.
-    fn reply_to(&self, place: usize) -> ReplyTo {
-        let (inlet, id) = (self.inlet.clone(), self.connections[place].session.id);
-        ReplyTo::connection(inlet, place, id)
+    fn reply_to(&mut self, place: usize) -> ReplyTo {
+        let connection = &mut self.connections[place];
+        let to = (place, connection.session.id);
+        ReplyTo::connection(self.inlet.clone(), to, connection.caller())
     }
 
     fn ask_shards(&mut self, place: usize, asked: AskedOfShards) {
@@ -440,6 +473,7 @@ impl Worker {
 
     fn close(&mut self, place: usize) {
         let mut connection = self.connections.remove(place);
+        self.leaving.end(connection.session.id);
         if connection.stranger_since().is_some() {
             self.inlet.note_stranger_less(connection.session.id);
         }
@@ -483,6 +517,13 @@ mod tests {
 
     /// A thread whose commands wait so long, in a cluster of one server, which owns both shards.
     fn begun(wait: Duration) -> (Arc<Cluster>, Worker) {
+        // Nobody asks the control.
+        let (cluster, worker, _) = begun_below(wait, 0);
+        (cluster, worker)
+    }
+
+    /// The same where so many commands wait for the control at most, which takes none.
+    fn begun_below(wait: Duration, most: usize) -> (Arc<Cluster>, Worker, Receiver<Asked>) {
         let rule = Rule::Bounds(vec![Vec::new(), b"m".to_vec()]);
         let keyspace = Keyspace::new(&rule).unwrap();
         let configuration = Configuration {
@@ -517,13 +558,6 @@ mod tests {
             same.set_send_buffer_size(SOCKET_ROOM).unwrap();
             assert!(inlet.bring(TcpStream::from_std(stream), from).is_none());
             client
-        // Nobody asks the control.
-        let (cluster, worker, _) = begun_below(wait, 0);
-        (cluster, worker)
-    }
-
-    /// The same where so many commands wait for the control at most, which takes none.
-    fn begun_below(wait: Duration, most: usize) -> (Arc<Cluster>, Worker, Receiver<Asked>) {
         };
         (0..count).map(client).collect()
     }
@@ -564,6 +598,31 @@ mod tests {
     }
 
     #[test]
+    fn who_asks_a_control_of_which_many_wait_is_refused() {
+        let (cluster, worker, asked) = begun_below(Duration::ZERO, 2);
+        let mut clients = clients(&worker.inlet, 3);
+        let thread = thread::spawn(move || worker.run());
+        for client in &mut clients {
+            client.write_all(b"SM SHARDS\r\n").unwrap();
+        }
+        let end = Instant::now() + Duration::from_secs(20);
+        let is_refused = |it: &Client| {
+            it.set_nonblocking(true).unwrap();
+            let mut told = [0; 18];
+            it.peek(&mut told).is_ok() && told == *b"-REFUSED Crowded: "
+        };
+        while !clients.iter().any(is_refused) && Instant::now() < end {
+            thread::sleep(Duration::from_millis(1));
+        }
+        assert_eq!(clients.iter().filter(|it| is_refused(it)).count(), 1);
+        for it in asked.try_iter() {
+            it.reply_to.send(b"+OK\r\n".to_vec());
+        }
+        cluster.stop();
+        thread.join().unwrap().unwrap();
+    }
+
+    #[test]
     fn a_stop_answers_what_came_by_more_connections_than_a_poll_tells() {
         let (cluster, worker) = begun(Duration::ZERO);
         let mut clients = clients(&worker.inlet, EVENTS + 44);
@@ -595,31 +654,6 @@ mod tests {
         client.read_to_string(&mut told).unwrap();
         thread.join().unwrap().unwrap();
         assert_eq!(told, "+PONG\r\n");
-    }
-
-    #[test]
-    fn who_asks_a_control_of_which_many_wait_is_refused() {
-        let (cluster, worker, asked) = begun_below(Duration::ZERO, 2);
-        let mut clients = clients(&worker.inlet, 3);
-        let thread = thread::spawn(move || worker.run());
-        for client in &mut clients {
-            client.write_all(b"SM SHARDS\r\n").unwrap();
-        }
-        let end = Instant::now() + Duration::from_secs(20);
-        let is_refused = |it: &Client| {
-            it.set_nonblocking(true).unwrap();
-            let mut told = [0; 18];
-            it.peek(&mut told).is_ok() && told == *b"-REFUSED Crowded: "
-        };
-        while !clients.iter().any(is_refused) && Instant::now() < end {
-            thread::sleep(Duration::from_millis(1));
-        }
-        assert_eq!(clients.iter().filter(|it| is_refused(it)).count(), 1);
-        for it in asked.try_iter() {
-            it.reply_to.send(b"+OK\r\n".to_vec());
-        }
-        cluster.stop();
-        thread.join().unwrap().unwrap();
     }
 
     #[test]

@@ -176,6 +176,7 @@ impl Told {
             NotDone::Paused
             | NotDone::Vacant
             | NotDone::Busy
+            | NotDone::Crowded
             | NotDone::Passed
             | NotDone::TooManyClients
             | NotDone::Stopped => {}
@@ -217,7 +218,8 @@ fn code_of(why: &NotDone) -> u8 {
         NotDone::Paused => 1,
         NotDone::Vacant => 2,
         NotDone::Away(_) => 3,
-        NotDone::Busy => 4,
+        // Processes of 0.1.0 don't know the second one: to clients both are a busy shard.
+        NotDone::Busy | NotDone::Crowded => 4,
         NotDone::Damaged(_) => 5,
         NotDone::Full(_) => 6,
         // Processes of 0.1.0 tell both by one number, and a text.

@@ -216,6 +216,10 @@ mod tests {
             Vec::new()
         }
 
+        fn is_wanted(&self) -> bool {
+            true
+        }
+
         fn spell(&self) -> Vec<u8> {
             self.0.as_bytes().to_vec()
         }

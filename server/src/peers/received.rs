@@ -22,6 +22,10 @@ impl Work for Received {
         self.work.decide(held)
     }
 
+    fn is_wanted(&self) -> bool {
+        self.work.is_wanted()
+    }
+
     fn spell(&self) -> Vec<u8> {
         self.work.spell()
     }

@@ -28,6 +28,10 @@ impl Work for Unsure {
         self.work.decide(held)
     }
 
+    fn is_wanted(&self) -> bool {
+        self.work.is_wanted()
+    }
+
     fn spell(&self) -> Vec<u8> {
         self.work.spell()
     }

@@ -1,5 +1,5 @@
 use super::join::Join;
-use crate::io::ReplyTo;
+use crate::io::{Caller, ReplyTo};
 use crate::resp::{Protocol, Replies};
 use std::sync::{Arc, Mutex, PoisonError};
 
@@ -8,6 +8,7 @@ pub(super) struct Answers {
     protocol: Protocol,
     commands: u64,
     join: Join,
+    caller: Caller,
     state: Mutex<State>,
 }
 
@@ -43,6 +44,7 @@ impl Answers {
         join: Join,
         reply_to: ReplyTo,
     ) -> Arc<Answers> {
+        let caller = reply_to.caller();
         let state = State {
             parts: (0..parts).map(|_| None).collect(),
             left: parts,
@@ -53,8 +55,14 @@ impl Answers {
             protocol,
             commands,
             join,
+            caller,
             state: Mutex::new(state),
         })
+    }
+
+    /// Who waits for the answer.
+    pub(super) fn caller(&self) -> &Caller {
+        &self.caller
     }
 
     /// An empty part, in the version in which the client is answered.

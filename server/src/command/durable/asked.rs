@@ -13,6 +13,7 @@ use crate::command::transaction::Transaction;
 use crate::io::ReplyTo;
 use crate::resp::{OwnedCommand, Protocol};
 use durkenzo_driver::{Durable, Numbered};
+use std::collections::BTreeMap;
 use std::sync::Arc;
 
 /// What a connection asks of shards whose data outlives the process, in the version in which it is answered.
@@ -110,10 +111,7 @@ impl Asked {
             }
             What::Each(word, parts) => {
                 let answers = Answers::new(parts.len(), 1, protocol, Join::Each(word), reply_to);
-                for (place, (shard, command)) in parts.into_iter().enumerate() {
-                    let step = Keyed::step((word.word(), command), shard, answers.clone(), place);
-                    durable.submit(shard, vec![step]);
-                }
+                submit_each(durable, word, parts, &answers);
             }
             What::Together(shard, transaction) => {
                 // Each of its commands was counted when it was queued.
@@ -152,13 +150,30 @@ fn submit_numbered(
     }
 }
 
+/// Has each shard do the parts of a command that are its own. They are one run there, so they have one client's turn.
+fn submit_each(
+    durable: &Durable,
+    word: ByKey,
+    parts: Vec<(u16, OwnedCommand)>,
+    answers: &Arc<Answers>,
+) {
+    let mut of_shards = BTreeMap::<_, Vec<_>>::new();
+    for (place, (shard, command)) in parts.into_iter().enumerate() {
+        let step = Keyed::step((word.word(), command), shard, answers.clone(), place);
+        of_shards.entry(shard).or_default().push(step);
+    }
+    for (shard, steps) in of_shards {
+        durable.submit(shard, steps);
+    }
+}
+
 /// Has all shards count their keys, each by itself.
 fn count(durable: &Durable, protocol: Protocol, reply_to: ReplyTo) {
     let shards = durable.shards();
     let join = Join::Each(ByKey::Exists);
     let answers = Answers::new(shards.into(), 1, protocol, join, reply_to);
     for shard in 0..shards {
-        let answers = answers.clone();
+        let (whose, answers) = ((answers.caller().clone(), protocol), answers.clone());
         let then = move |told: Told| {
             let part = told.map_or_else(
                 |refused| refused,
@@ -170,7 +185,7 @@ fn count(durable: &Durable, protocol: Protocol, reply_to: ReplyTo) {
             );
             answers.bring(shard.into(), part);
         };
-        let step = Listing::step(Query::Count, shard, protocol, Box::new(then));
+        let step = Listing::step(Query::Count, shard, whose, Box::new(then));
         durable.submit(shard, vec![step]);
     }
 }

@@ -142,6 +142,10 @@ impl Work for Keyed {
         requests
     }
 
+    fn is_wanted(&self) -> bool {
+        self.answers.caller().is_there()
+    }
+
     fn spell(&self) -> Vec<u8> {
         spell_keyed(self.answers.part().protocol, self.numbered, &self.command)
     }

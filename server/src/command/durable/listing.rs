@@ -2,7 +2,7 @@ use super::found::{Found, Told};
 use super::query::Query;
 use super::spelling::spell_listing;
 use crate::command::Fault;
-use crate::io::ReplyTo;
+use crate::io::{Caller, ReplyTo};
 use crate::resp::{Protocol, Replies};
 use durkenzo_driver::{Outcome, Reply, Request, Step, Work};
 
@@ -14,17 +14,24 @@ pub(super) struct Listing {
     query: Query,
     shard: u16,
     protocol: Protocol,
+    caller: Caller,
     then: Then,
 }
 
 impl Listing {
-    /// The step of this query, whose client is answered in this version.
-    pub(super) fn step(query: Query, shard: u16, protocol: Protocol, then: Then) -> Step {
+    /// The step of this query, which this client waits for, who is answered in this version.
+    pub(super) fn step(
+        query: Query,
+        shard: u16,
+        (caller, protocol): (Caller, Protocol),
+        then: Then,
+    ) -> Step {
         let begin = query.begin();
         let work = Listing {
             query,
             shard,
             protocol,
+            caller,
             then,
         };
         Step {
@@ -35,17 +42,22 @@ impl Listing {
 
     /// The step of a query that another process asks, which is told there what this one has.
     pub(super) fn told_to(query: Query, shard: u16, protocol: Protocol, reply_to: ReplyTo) -> Step {
+        let caller = reply_to.caller();
         let then = move |told: Told| match told {
             Ok(found) => reply_to.send(found.spell()),
             Err(refused) => reply_to.send(refused.unsent().to_vec()),
         };
-        Listing::step(query, shard, protocol, Box::new(then))
+        Listing::step(query, shard, (caller, protocol), Box::new(then))
     }
 }
 
 impl Work for Listing {
     fn decide(&mut self, _held: Vec<Reply>) -> Vec<Request> {
         Vec::new()
+    }
+
+    fn is_wanted(&self) -> bool {
+        self.caller.is_there()
     }
 
     fn spell(&self) -> Vec<u8> {

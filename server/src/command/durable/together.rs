@@ -73,6 +73,10 @@ impl Work for Together {
         requests
     }
 
+    fn is_wanted(&self) -> bool {
+        self.answers.caller().is_there()
+    }
+
     fn spell(&self) -> Vec<u8> {
         spell_together(self.answers.part().protocol, &self.transaction)
     }

@@ -72,7 +72,8 @@ impl Walker {
                 _ => *met = Meeting::Told(told),
             }
         };
-        let step = Listing::step(query, shard, self.protocol, Box::new(then));
+        let whose = (self.reply_to.caller(), self.protocol);
+        let step = Listing::step(query, shard, whose, Box::new(then));
         if let Some(durable) = self.cluster.storage.durable() {
             durable.submit(shard, vec![step]);
         }

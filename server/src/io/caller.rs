@@ -1,0 +1,31 @@
+use std::sync::{Arc, Weak};
+
+/// Who asked for something, as those see who work for it: what they haven't begun they drop if nobody waits for it.
+#[derive(Clone, Debug, Default)]
+pub struct Caller(Option<Weak<()>>);
+
+impl Caller {
+    /// A client, who is there for as long as its connection has this.
+    pub(super) fn client(presence: &Arc<()>) -> Caller {
+        Caller(Some(Arc::downgrade(presence)))
+    }
+
+    /// Whether it still waits. Another process always does.
+    pub fn is_there(&self) -> bool {
+        self.0.as_ref().is_none_or(|it| it.strong_count() > 0)
+    }
+}
+
+#[cfg(test)]
+mod tests {
+    use super::*;
+
+    #[test]
+    fn a_client_waits_as_long_as_its_connection_is_there() {
+        let presence = Arc::default();
+        let caller = Caller::client(&presence);
+        assert!(caller.is_there() && caller.clone().is_there());
+        drop(presence);
+        assert!(!caller.is_there() && Caller::default().is_there());
+    }
+}

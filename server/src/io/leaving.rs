@@ -1,0 +1,67 @@
+use std::collections::HashMap;
+use std::time::{Duration, Instant};
+
+/// How many connections of clients that send no more wait at once for an answer, over all threads.
+const MOST: usize = 128;
+/// How long one waits.
+const WAIT: Duration = Duration::from_secs(1);
+
+/// A thread's connections that wait for an answer and whose clients send no more. A client may still read then, or have
+/// left: until something is sent to it the system doesn't tell which. So they wait for a short time, and are few.
+#[derive(Debug)]
+pub(super) struct Leaving {
+    most: usize,
+    /// Until when each waits, and its place, by its number.
+    waiting: HashMap<u64, (Instant, usize)>,
+}
+
+impl Leaving {
+    /// Those of one of so many threads.
+    pub(super) fn new(threads: usize) -> Leaving {
+        Leaving {
+            most: (MOST / threads.max(1)).max(1),
+            waiting: HashMap::new(),
+        }
+    }
+
+    /// Has the connection with this number, at this place, wait. Returns whether it may.
+    pub(super) fn begin(&mut self, id: u64, place: usize, now: Instant) -> bool {
+        let may = self.waiting.len() < self.most || self.waiting.contains_key(&id);
+        if may {
+            self.waiting.entry(id).or_insert((now + WAIT, place));
+        }
+        may
+    }
+
+    /// Notes that the connection waits no more.
+    pub(super) fn end(&mut self, id: u64) {
+        self.waiting.remove(&id);
+    }
+
+    /// When the next one has waited for long enough, if one waits.
+    pub(super) fn next_end(&self) -> Option<Instant> {
+        self.waiting.values().map(|it| it.0).min()
+    }
+
+    /// The places of those that have waited for long enough.
+    pub(super) fn due(&self, now: Instant) -> Vec<usize> {
+        let due = self.waiting.values().filter(|it| it.0 <= now);
+        due.map(|it| it.1).collect()
+    }
+}
+
+#[cfg(test)]
+mod tests {
+    use super::*;
+
+    #[test]
+    fn few_wait_and_not_for_long() {
+        let (mut leaving, now) = (Leaving::new(MOST / 2), Instant::now());
+        assert!(leaving.begin(7, 1, now) && leaving.begin(8, 2, now));
+        assert!(!leaving.begin(9, 3, now) && leaving.begin(8, 2, now + WAIT));
+        assert!(leaving.due(now).is_empty() && leaving.next_end() == Some(now + WAIT));
+        leaving.end(7);
+        assert!(leaving.begin(9, 3, now + WAIT));
+        assert_eq!(leaving.due(now + WAIT), [2]);
+    }
+}

@@ -1,0 +1,33 @@
+#!/usr/bin/env python3
+"""Clients that ask and leave, until they are told to end by the end of their input: leavers.py PORT WORD... One after
+another connects, sends the command of these words five times, and closes without reading.
+
+What is measured beside them runs in another process, so that they take no turn of its interpreter."""
+import contextlib
+import os
+import socket
+import sys
+import threading
+
+sys.dont_write_bytecode = True
+import served
+
+TIMES = 5
+
+
+def main():
+    port, sent = int(sys.argv[1]), served.packed(*sys.argv[2:]) * TIMES
+    # Those beside whom they are have the processors first.
+    os.nice(10)
+
+    def again():
+        while True:
+            with contextlib.suppress(OSError), socket.create_connection(("127.0.0.1", port), served.SECONDS) as one:
+                one.sendall(sent)
+
+    threading.Thread(target=again, daemon=True).start()
+    sys.stdin.read()
+
+
+if __name__ == "__main__":
+    main()
