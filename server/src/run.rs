@@ -159,7 +159,7 @@ fn controlling(
     Ok(Box::new(move || controller.run(asked)))
 }
 
-/// Where the page is. It asks for no password: so where clients need one, it is on this machine, if nothing else is said.
+/// Where the page is. It asks for no password: so if clients need one, it is on this machine, unless it is said.
 fn page_address(options: &Options, safety: &Safety) -> IpAddr {
     let usual = match options.bind {
         it if it.is_loopback() || !safety.is_by_password_alone() => it,

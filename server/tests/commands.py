@@ -11,7 +11,7 @@ import time
 
 import redis
 import scans
-from served import Client, Refused, main, served
+from served import SECONDS, Client, Refused, main, served
 
 SM = pathlib.Path(__file__).resolve().parents[2] / "sm"
 
@@ -90,6 +90,20 @@ GETDEL nothing
 GETDEL range newer
 TOUCH range newer b c d e f nothing b
 TOUCH
+MSETNX {a}1 x {a}2 y
+MSETNX {a}2 z {a}3 z
+MGET {a}1 {a}2 {a}3
+MSETNX {a}1
+MSETNX {a}1 x {a}2
+MSETNX
+DEL {a}1 {a}2 {a}3
+TIME x
+MULTI
+MSETNX {m}n 1 {m}o 2
+MSETNX {m}n 1 {m}p 2
+MSETNX {m}n
+DEL {m}n {m}o
+EXEC
 MULTI
 SETNX {m}n 1
 SETNX {m}n 2
@@ -322,6 +336,8 @@ def other_answers_are_named(program):
             text = found if isinstance(found, str) else str(found)
             if not text.startswith(wanted):
                 raise AssertionError(f"{line}: {text}")
+        seconds, microseconds = map(int, client.ask("TIME"))
+        assert abs(time.time() - seconds) < SECONDS and 0 <= microseconds < 10**6, (seconds, microseconds)
         for key in (b"", b"k" * 256):
             client.send("GET", key)
             assert str(client.read()).startswith("BADKEY"), key[:9]

@@ -243,8 +243,9 @@ def random_lines(chance, count):
             ("INCRBY", key, text), ("DECRBY", key, text), ("DEL", key, other), ("EXISTS", key, other, key),
             ("TYPE", key), ("MGET", key, other, "none"), ("MSET", key, text, other, "z"), ("SET", key, text, "NX"),
             ("SET", key, text, "XX", "GET"), ("SET", key, text, "EX", 3), ("DEL", key), ("DEL", key, "{t}1", "{t}2"),
-            ("GETSET", key, text), ("GETDEL", key), ("SETNX", key, text), ("GETRANGE", key, chance.randint(-4, 4), text),
-            ("SUBSTR", key, 1, -2), ("TOUCH", key, other), ("UNLINK", key, other, "{t}1"),
+            ("GETSET", key, text), ("GETDEL", key), ("SETNX", key, text), ("SUBSTR", key, 1, -2),
+            ("GETRANGE", key, chance.randint(-4, 4), text), ("TOUCH", key, other), ("UNLINK", key, other, "{t}1"),
+            ("MSETNX", "{t}1", text, "{t}2", "new"), ("MSETNX", "{t}2", text),
         ]
         found.append(chance.choice(simple))
         if chance.random() < 0.1:

@@ -39,6 +39,7 @@ impl ByKey {
             | DataWord::GetSet
             | DataWord::Incr
             | DataWord::IncrBy
+            | DataWord::MSetNx
             | DataWord::Set
             | DataWord::SetNx
             | DataWord::StrLen
@@ -114,7 +115,7 @@ impl ByKey {
     /// Writes what stands before what any key comes to: refused where a value is too long.
     pub fn begin(self, command: Command<'_>, replies: &mut Replies) -> Result<(), Fault> {
         match self {
-            ByKey::MSet => data::check_values(command),
+            ByKey::MSet => data::check_values("mset", command),
             ByKey::MGet => {
                 replies.array(command.len() - 1);
                 Ok(())

@@ -27,6 +27,7 @@ pub enum DataWord {
     IncrBy,
     MGet,
     MSet,
+    MSetNx,
     Set,
     SetNx,
     StrLen,
@@ -60,6 +61,7 @@ pub fn execute(
         DataWord::Exists => counted(command, replies, |key| is_held(body, key)),
         DataWord::MGet => get_all(body, command, replies),
         DataWord::MSet => set_all(body, command, replies),
+        DataWord::MSetNx => set_all_new(body, command, replies),
     };
     if let Err(fault) = done {
         replies.take_back(mark);
@@ -300,10 +302,10 @@ fn part_of(text: &[u8], start: i64, end: i64) -> &[u8] {
     }
 }
 
-/// Whether each key of MSET has a value, which is short enough, so that all are set or none is.
-pub(super) fn check_values(command: Command<'_>) -> Result<(), Fault> {
+/// Whether each key of the command, as MSET has them, has a value that is short enough, so that all are set or none.
+pub(super) fn check_values(name: &str, command: Command<'_>) -> Result<(), Fault> {
     if command.len() % 2 == 0 {
-        return Err(Fault::WrongArity("mset".into()));
+        return Err(Fault::WrongArity(name.into()));
     }
     let mut values = command.iter().skip(2).step_by(2);
     match values.any(|it| it.len() > MAX_TEXT) {
@@ -317,11 +319,34 @@ fn set_all(
     command: Command<'_>,
     replies: &mut Replies,
 ) -> Result<(), Fault> {
-    check_values(command)?;
+    check_values("mset", command)?;
+    put_all(body, command)?;
+    replies.ok();
+    Ok(())
+}
+
+fn put_all(body: &mut dyn ShardBody, command: Command<'_>) -> Result<(), Fault> {
     for index in (1..command.len()).step_by(2) {
         put(body, command.get(index), command.get(index + 1))?;
     }
-    replies.ok();
+    Ok(())
+}
+
+/// Has each key hold its text where none of them holds anything, and answers whether that was so.
+fn set_all_new(
+    body: &mut dyn ShardBody,
+    command: Command<'_>,
+    replies: &mut Replies,
+) -> Result<(), Fault> {
+    check_values("msetnx", command)?;
+    let mut are_new = true;
+    for key in command.iter().skip(1).step_by(2) {
+        are_new &= !is_held(body, key)?;
+    }
+    if are_new {
+        put_all(body, command)?;
+    }
+    replies.count(usize::from(are_new));
     Ok(())
 }
 
@@ -415,7 +440,7 @@ mod tests {
     }
 
     /// Lines, and what Redis 7 answers each of them.
-    const LINES: [(&str, &str); 57] = [
+    const LINES: [(&str, &str); 60] = [
         ("GET a", "$-1"),
         ("SET a 10", "+OK"),
         ("GET a", "$2 10"),
@@ -474,6 +499,9 @@ mod tests {
         ("GETDEL n", "$-1"),
         ("UNLINK new none", ":1"),
         ("EXISTS new n", ":0"),
+        ("MSETNX n 1 a 2", ":0"),
+        ("MSETNX n 1 new 2 n 3", ":1"),
+        ("MGET n new a", "*3 $1 3 $1 2 $1 3"),
         ("GET a", "$1 3"),
         (
             "DECRBY a -9223372036854775808",

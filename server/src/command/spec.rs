@@ -95,6 +95,7 @@ pub enum TalkWord {
     Quit,
     Reset,
     Select,
+    Time,
 }
 
 /// How a command is written, and what it does.
@@ -152,7 +153,7 @@ const fn since_2(spec: Spec) -> Spec {
 }
 
 /// All commands, by their names.
-pub static COMMANDS: [Spec; 39] = [
+pub static COMMANDS: [Spec; 41] = [
     talk("acl", -2, TalkWord::Acl),
     data("append", 3, Keys::First, true, DataWord::Append),
     talk("auth", -2, TalkWord::Auth),
@@ -177,6 +178,7 @@ pub static COMMANDS: [Spec; 39] = [
     talk("info", -1, TalkWord::Info),
     data("mget", -2, Keys::All, false, DataWord::MGet),
     data("mset", -3, Keys::Odd, true, DataWord::MSet),
+    since_2(data("msetnx", -3, Keys::Odd, true, DataWord::MSetNx)),
     other("multi", 1, Word::Multi),
     talk("ping", -1, TalkWord::Ping),
     talk("quit", -1, TalkWord::Quit),
@@ -189,6 +191,7 @@ pub static COMMANDS: [Spec; 39] = [
     other("sm", -2, Word::Control),
     data("strlen", 2, Keys::First, false, DataWord::StrLen),
     since_2(data("substr", 4, Keys::First, false, DataWord::GetRange)),
+    since_2(talk("time", 1, TalkWord::Time)),
     since_2(data("touch", -2, Keys::All, false, DataWord::Exists)),
     data("type", 2, Keys::First, false, DataWord::Type),
     since_2(data("unlink", -2, Keys::All, true, DataWord::Del)),
@@ -347,7 +350,9 @@ impl Spec {
         use TalkWord::*;
         match self.word {
             Word::Talk(Auth | Hello | Quit | Reset) => true,
-            Word::Talk(Acl | Client | Command | Config | DbSize | Echo | Info | Ping | Select)
+            Word::Talk(
+                Acl | Client | Command | Config | DbSize | Echo | Info | Ping | Select | Time,
+            )
             | Word::Data(_)
             | Word::Multi
             | Word::Exec
@@ -365,7 +370,7 @@ impl Spec {
             Word::Data(_) => true,
             Word::Talk(
                 Acl | Auth | Client | Command | Config | DbSize | Echo | Hello | Info | Ping
-                | Select,
+                | Select | Time,
             ) => true,
             Word::Talk(Quit | Reset) => false,
             Word::Multi
@@ -411,7 +416,7 @@ mod tests {
         assert_eq!(versions.clone().max(), Some(TABLE));
         // How many each version added, from the first.
         let added = (FIRST_TABLE..=TABLE).map(|it| versions.clone().filter(|of| *of == it).count());
-        assert_eq!(added.collect::<Vec<_>>(), [32, 7]);
+        assert_eq!(added.collect::<Vec<_>>(), [32, 9]);
     }
 
     #[test]

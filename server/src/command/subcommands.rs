@@ -149,7 +149,8 @@ impl Subcommands {
             | TalkWord::Ping
             | TalkWord::Quit
             | TalkWord::Reset
-            | TalkWord::Select => None,
+            | TalkWord::Select
+            | TalkWord::Time => None,
         }
     }
 

@@ -10,6 +10,7 @@ use super::Fault;
 use crate::body::{MAX_KEY, MAX_TEXT};
 use crate::cluster::Cluster;
 use crate::resp::{number, Command, Protocol, Replies};
+use std::time::SystemTime;
 
 /// The version of Redis whose protocol and errors these are.
 pub const REDIS_VERSION: &str = "7.0.0";
@@ -33,6 +34,7 @@ pub fn answer(
         TalkWord::Ping => ping(command, replies)?,
         TalkWord::Echo => replies.bulk(command.get(1)),
         TalkWord::Select => select(command, replies)?,
+        TalkWord::Time => time(SystemTime::now(), replies),
         TalkWord::DbSize => {
             // Where they aren't counted, shards were asked before it came here.
             replies.count(cluster.all_keys().unwrap_or(0) as usize);
@@ -75,6 +77,16 @@ fn select(command: Command<'_>, replies: &mut Replies) -> Result<(), Fault> {
     Ok(())
 }
 
+/// The seconds since 1970, and the microseconds of the next one, as texts.
+fn time(now: SystemTime, replies: &mut Replies) {
+    let since = now
+        .duration_since(SystemTime::UNIX_EPOCH)
+        .unwrap_or_default();
+    replies.array(2);
+    replies.bulk(since.as_secs().to_string().as_bytes());
+    replies.bulk(since.subsec_micros().to_string().as_bytes());
+}
+
 /// Whether the command gives a password.
 pub fn gives_password(word: TalkWord, command: Command<'_>) -> bool {
     match word {
@@ -90,7 +102,8 @@ pub fn gives_password(word: TalkWord, command: Command<'_>) -> bool {
         | TalkWord::Ping
         | TalkWord::Quit
         | TalkWord::Reset
-        | TalkWord::Select => false,
+        | TalkWord::Select
+        | TalkWord::Time => false,
     }
 }
 

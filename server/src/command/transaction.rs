@@ -138,7 +138,7 @@ impl Transaction {
         let is_told = match word {
             DbSize | Info => true,
             Acl | Auth | Client | Command | Config | Echo | Hello | Ping | Quit | Reset
-            | Select => false,
+            | Select | Time => false,
         };
         if let (true, Some(shard), Some(body)) = (is_told, self.shard, body) {
             cluster.note_keys(shard, body.keys());
@@ -181,14 +181,16 @@ impl Size {
             Get | GetRange | MGet | Exists | StrLen | Type => Size::OfRead,
             GetDel | GetSet => Size::OfValue,
             Set if (3..command.len()).any(|it| command.is(it, "GET")) => Size::OfValue,
-            Set | SetNx | Append | Decr | DecrBy | Del | Incr | IncrBy | MSet => Size::Short,
+            Set | SetNx | Append | Decr | DecrBy | Del | Incr | IncrBy | MSet | MSetNx => {
+                Size::Short
+            }
         }
     }
 
     fn of_talk(word: TalkWord) -> Size {
         use TalkWord::*;
         match word {
-            Auth | Client | Hello => Size::Short,
+            Auth | Client | Hello | Time => Size::Short,
             Acl | Command | Config | DbSize | Echo | Info | Ping | Quit | Reset | Select => {
                 Size::OfRead
             }

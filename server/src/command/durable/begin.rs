@@ -24,7 +24,11 @@ pub(super) fn begin(word: DataWord, command: Command<'_>) -> Begin {
         | DataWord::Exists
         | DataWord::StrLen
         | DataWord::Type => return Begin::Read(different(keys_of(word, command).collect())),
-        DataWord::Append | DataWord::GetDel | DataWord::GetSet | DataWord::SetNx => None,
+        DataWord::Append
+        | DataWord::GetDel
+        | DataWord::GetSet
+        | DataWord::MSetNx
+        | DataWord::SetNx => None,
     };
     match writes {
         Some(writes) => Begin::Write(writes),
@@ -47,7 +51,7 @@ pub(super) fn keys_of<'a>(
     command: Command<'a>,
 ) -> impl Iterator<Item = Key> + use<'a> {
     let (step, most) = match word {
-        DataWord::MSet => (2, usize::MAX),
+        DataWord::MSet | DataWord::MSetNx => (2, usize::MAX),
         DataWord::MGet | DataWord::Del | DataWord::Exists => (1, usize::MAX),
         DataWord::Append
         | DataWord::Decr

@@ -88,6 +88,7 @@ fn run_of(
 fn texts_of(word: DataWord, command: Command<'_>) -> usize {
     match word {
         DataWord::MGet | DataWord::Exists => command.len() - 1,
+        DataWord::MSetNx => command.len() / 2,
         DataWord::Append
         | DataWord::Decr
         | DataWord::DecrBy
@@ -234,7 +235,7 @@ fn may_queue(command: Command<'_>) -> Result<(), Fault> {
     match Spec::queued(command)?.word {
         Word::Data(_) | Word::Talk(Ping | Echo | Select) => Ok(()),
         Word::Talk(
-            Acl | Auth | Client | Command | Config | DbSize | Hello | Info | Quit | Reset,
+            Acl | Auth | Client | Command | Config | DbSize | Hello | Info | Quit | Reset | Time,
         )
         | Word::Multi
         | Word::Exec

@@ -113,6 +113,7 @@ impl Keyed {
             | DataWord::GetRange
             | DataWord::GetSet
             | DataWord::MGet
+            | DataWord::MSetNx
             | DataWord::SetNx
             | DataWord::StrLen
             | DataWord::Type => return Err(Fault::NotNumbered),
