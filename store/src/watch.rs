@@ -31,8 +31,8 @@ pub struct Watch {
 }
 
 impl Watch {
-    /// Returns a watch that runs this, once, when it is dropped: for [`Store::watch`](crate::Store::watch) of a store of
-    /// your own.
+    /// Returns a watch that runs this, once, when it is dropped: for [`Store::watch`](crate::Store::watch) of a store
+    /// of your own.
     ///
     /// ```
     /// use durkenzo_store::Watch;

@@ -65,7 +65,8 @@ fn proved(library: &str) -> Option<PathBuf> {
     folder.is_dir().then(|| folder.join("out"))
 }
 
-/// Returns where the library may be: in the folder that is named or where it was proved, and the toolchain's in its own.
+/// Returns where the library may be: in the folder that is named, or where it was proved; and the toolchain's in its
+/// own.
 fn folders(library: &str) -> Vec<PathBuf> {
     let first = env::var_os(NAMED)
         .map(PathBuf::from)
