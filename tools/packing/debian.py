@@ -95,13 +95,16 @@ def depends(room, given):
     return ", ".join(f"{it}{least if it == 'libc6' else ''}" for it in sorted(packages))
 
 
+def put_into(folder, modes):
+    """These files of the repository in the package's folder, each with its mode."""
+    names = {it: pathlib.Path(it).name.removesuffix(".in") for it in modes}
+    return {f"{folder}/{names[it]}": tree.filled(it, "/usr", mode) for it, mode in modes.items()}
+
+
 def units():
     """The units of systemd, and the settings of a cluster's, of which lintian may know that some are for root alone."""
-    found = {f"lib/systemd/system/{pathlib.Path(it).name.removesuffix('.in')}": tree.filled(it, "/usr") for it in UNITS}
-    settings = {
-        f"etc/durkenzo/{pathlib.Path(it).name.removesuffix('.in')}": tree.filled(it, "/usr", mode)
-        for it, mode in SETTINGS.items()
-    }
+    found = put_into("lib/systemd/system", dict.fromkeys(UNITS, 0o644))
+    settings = put_into("etc/durkenzo", SETTINGS)
     lines = [
         f"durkenzo: non-standard-file-perm {file.mode:04o} != 0644 [{name}]\n"
         for name, file in settings.items()

@@ -103,7 +103,7 @@ def of_object(prefix, version):
     lines = output_of("nm", "-D", "--defined-only", folder / "libdurkenzo.so").splitlines()
     others = [it for it in lines if not it.split()[-1].startswith("durkenzo_")]
     yield verdict("what the shared object exports", bool(lines) and not others, "\n".join(others))
-    lacking = {it.name for it in (FOLDER / "c").glob("*.h")} - {it.name for it in (prefix / "include").iterdir()}
+    lacking = {it.name for it in (FOLDER / "c").glob("*.h")} - {it.name for it in (prefix / "include").glob("*.h")}
     yield verdict("headers are installed", not lacking, f"there is no {', '.join(sorted(lacking))}")
     if shutil.which("pkg-config"):
         told = output_of("pkg-config", "--modversion", "durkenzo", PKG_CONFIG_PATH=f"{folder}/pkgconfig").strip()
@@ -145,8 +145,9 @@ def of_platform(wheel, version):
     """The wheel says that it is for this platform, and for any Python; and what a page about it shows."""
     with zipfile.ZipFile(wheel) as packed:
         texts = {pathlib.Path(it).name: packed.read(it).decode() for it in packed.namelist() if ".dist-info/" in it}
-    is_platform = "Root-Is-Purelib: false" in texts["WHEEL"] and "Tag: py3-none-linux_" in texts["WHEEL"]
-    yield verdict("the wheel is one of this platform", is_platform, texts["WHEEL"])
+    told = texts.get("WHEEL", "")
+    is_platform = "Root-Is-Purelib: false" in told and "Tag: py3-none-linux_" in told
+    yield verdict("the wheel is one of this platform", is_platform, told)
     wanted = (f"Version: {version}\n", "Classifier: Typing :: Typed", "Description-Content-Type: text/markdown")
     lacking = [it for it in wanted if it not in texts["METADATA"]]
     yield verdict("what the wheel tells of itself", not lacking, f"{lacking} isn't in\n{texts['METADATA']}")
