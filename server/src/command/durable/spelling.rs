@@ -265,6 +265,15 @@ mod tests {
         let listing = spell_listing(Protocol::Two, &Query::Count);
         assert_eq!(place.step(&listing, 1).unwrap().work.spell(), listing);
         assert_eq!(table_of_spelled(&listing), FIRST_TABLE);
+        let newer = command(&["GETDEL", "a"]);
+        transaction.push(newer.command(), Some(0)).unwrap();
+        for bytes in [
+            spell_keyed(Protocol::Two, None, &newer),
+            spell_keyed(Protocol::Two, Some(numbered), &newer),
+            spell_together(Protocol::Two, &transaction),
+        ] {
+            assert_eq!(table_of_spelled(&bytes), 2);
+        }
         let of_all = spelled.iter().chain([&listing]);
         let kinds: Vec<_> = of_all.map(|it| Kind::of(it).unwrap().1).collect();
         assert_eq!(kinds, Kind::ALL);
