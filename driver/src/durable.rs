@@ -321,8 +321,10 @@ impl Durable {
     /// Has these shards get a base, and waits for it until that time.
     fn make_bases(&self, shards: &[u16], end: Instant) {
         for shard in shards {
-            let want = |it: &mut Shard, deeds: &mut _| it.want_base(Instant::now(), deeds);
-            self.inner.with(*shard, want);
+            let is_full = self.inner.is_full.load(Ordering::Acquire);
+            self.inner.with(*shard, |it, deeds| {
+                it.want_base(is_full, Instant::now(), deeds);
+            });
         }
         let makes_base = |it: &u16| locked(&self.inner.shards[usize::from(*it)]).makes_base();
         while Instant::now() < end && shards.iter().any(makes_base) {

@@ -27,7 +27,7 @@ impl Shard {
     pub(crate) fn begin_base(&mut self, is_full: bool, now: Instant, deeds: &mut Vec<Deed>) {
         let may_begin = self.base.is_none() && self.base_pause.is_over(now);
         if self.wants_base || self.is_base_due(is_full) && may_begin {
-            self.want_base(now, deeds);
+            self.want_base(is_full, now, deeds);
         }
     }
 
@@ -48,12 +48,15 @@ impl Shard {
     }
 
     /// Begins a base, where the server that executes is of this process and makes none. Where it hasn't read the shard,
-    /// it reads that first.
-    pub(crate) fn want_base(&mut self, now: Instant, deeds: &mut Vec<Deed>) {
+    /// it reads that first. If the store is full, nothing that takes room is sent until it is over: what is refused has
+    /// the server be read anew, and so its base begun anew.
+    pub(crate) fn want_base(&mut self, is_full: bool, now: Instant, deeds: &mut Vec<Deed>) {
         self.wants_base = false;
+        self.is_alone |= is_full;
         if self.base.is_some() {
             return;
         }
+        self.is_alone = is_full;
         let owner = self.standing.record().and_then(|it| it.owner());
         let is_other = |it: &u16| self.me().is_some_and(|me| me != *it);
         let Some(server) = owner.filter(|it| !is_other(it) && !self.away.contains(it)) else {
@@ -85,6 +88,11 @@ impl Shard {
     /// Whether a base is made, or what is behind it isn't deleted yet.
     pub(crate) fn makes_base(&self) -> bool {
         self.base.is_some() || self.wants_base || self.sweeps > 0
+    }
+
+    /// Whether a base is made in order to make room.
+    pub(super) fn makes_room(&self) -> bool {
+        self.is_alone && self.base.is_some()
     }
 
     /// Whether the last one that began wasn't written.

@@ -114,6 +114,8 @@ pub(crate) struct Shard {
     base_pause: BasePause,
     /// Whether one is to begin as soon as its server has read the shard.
     wants_base: bool,
+    /// Whether it is to make room, so that nothing else that takes some is sent meanwhile.
+    is_alone: bool,
     /// Whether keys were deleted since the last one.
     has_freed: bool,
     /// How often it is looked for what is behind a base.
@@ -167,6 +169,7 @@ impl Shard {
             log_before: LogSize::default(),
             base_pause: BasePause::default(),
             wants_base: false,
+            is_alone: false,
             has_freed: false,
             sweeps: 0,
             tuning,
@@ -345,7 +348,7 @@ impl Shard {
             Ok(read) => {
                 self.seat(server, read);
                 if std::mem::take(&mut self.wants_base) {
-                    self.want_base(now, deeds);
+                    self.want_base(self.is_alone, now, deeds);
                 }
             }
             Err(later @ (NotRead::Later | NotRead::Unanswered(_))) => {
@@ -379,6 +382,8 @@ impl Shard {
             log,
         } = read;
         self.log = log;
+        // What was read may have deletions.
+        self.has_freed |= log.batches > 0;
         self.unanswered = None;
         let stood = standing.revision();
         let at = At { stood, logged };
@@ -448,6 +453,9 @@ impl Shard {
                     Some(told) => NotDone::NotMade(told.clone()),
                     None => NotDone::Unread,
                 },
+                None if self.makes_room() => {
+                    NotDone::Full("the store is full, and makes room now".to_owned())
+                }
                 None => NotDone::Busy,
             },
             None => NotDone::Damaged(format!("the record of shard {}", self.number)),

@@ -84,13 +84,15 @@ impl Shard {
         }
         self.rounds += 1;
         // What needs no transaction doesn't wait for what does, nor what takes no room for what couldn't be written.
-        let first = match (self.is_leased(), std::mem::take(&mut self.is_unwritten)) {
+        let makes_room = self.makes_room();
+        let is_scant = std::mem::take(&mut self.is_unwritten) || makes_room;
+        let first = match (self.is_leased(), is_scant) {
             (_, true) => Takes::NoGrowth,
             (true, false) => Takes::OnlyReads,
             (false, false) => Takes::All,
         };
         let mut round = self.filled(first, now);
-        if first != Takes::All && round.is_empty() {
+        if first != Takes::All && round.is_empty() && !makes_room {
             round = self.filled(Takes::All, now);
         }
         let is_formed = !round.is_empty();

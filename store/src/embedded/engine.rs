@@ -182,7 +182,9 @@ impl<T: Tables> Engine<T> {
             return made;
         }
         for means in Means::EACH {
-            self.tables.make_room(means);
+            if !self.tables.make_room(means) {
+                break;
+            }
             made = self.make_at_once(transactions);
             if !matches!(made, Err(Trouble::Full(_))) {
                 break;

@@ -95,6 +95,8 @@ fn opened(folder: &Path, file: &Path, sync: Sync) -> Result<Sqlite, Refused> {
     // As SQLite advises where a file may be spoilt.
     connection.pragma_update(None, "trusted_schema", "OFF")?;
     connection.pragma_update(None, "cell_size_check", "ON")?;
+    // Debian's SQLite overwrites each page that becomes free, which takes as much room as what is deleted had.
+    connection.pragma_update(None, "secure_delete", "FAST")?;
     let form = form(&connection)?;
     connection.pragma_update(None, "journal_mode", "WAL")?;
     let level = match sync {
@@ -259,16 +261,13 @@ fn changed(key: &[u8]) -> String {
 
 impl Sqlite {
     /// Moves SQLite's log to its tables, which may take what is kept back for that while, and gives back the log's room.
-    fn tidy(&mut self) {
+    fn tidy(&mut self) -> rusqlite::Result<()> {
         self.reserve.lend(Kept::Nothing);
-        // Where that fails, the log stays as it is, and it is tried again.
-        let _ = self.truncate_log();
-        self.reserve.take_back();
-    }
-
-    fn truncate_log(&self) -> rusqlite::Result<()> {
         let truncate = "PRAGMA wal_checkpoint(TRUNCATE)";
-        self.connection.query_row(truncate, [], |_| Ok(()))
+        // Where that fails, the log stays as it is, and it is tried again.
+        let truncated = self.connection.query_row(truncate, [], |_| Ok(()));
+        self.reserve.take_back();
+        truncated
     }
 
     /// How many bytes of the tables are free.
@@ -400,9 +399,10 @@ impl Tables for Sqlite {
         }
     }
 
-    fn make_room(&mut self, means: Means) {
-        if means == Means::Log {
-            self.tidy();
+    fn make_room(&mut self, means: Means) -> bool {
+        // What is refused leaves its bytes in the log: where that can't be cut, they would take what is lent for good.
+        if means == Means::Log && self.tidy().is_err() {
+            return false;
         }
         let stood = self.lent.map_or(self.reserve.kept(), |it| it.1);
         self.lent = Some((means, stood));
@@ -411,11 +411,13 @@ impl Tables for Sqlite {
             Means::Half => self.reserve.lend(Kept::Half),
             Means::All => self.reserve.lend(Kept::Nothing),
         }
+        true
     }
 
     fn take_room_back(&mut self) {
         self.lent = None;
-        self.tidy();
+        // The next one that is refused tries it again.
+        let _ = self.tidy();
     }
 
     fn left(&self) -> Option<u64> {
@@ -428,18 +430,16 @@ impl Tables for Sqlite {
     }
 
     fn compact(&mut self) -> Result<(), Failure> {
+        if let Err(Failure::Full(_)) = self.tidy().map_err(Failure::from) {
+            return Ok(());
+        }
         self.reserve.lend(Kept::Nothing);
-        let vacuumed = self
-            .connection
-            .execute_batch("VACUUM")
-            .map_err(Failure::from);
-        let truncated = self.truncate_log();
-        self.reserve.take_back();
-        match vacuumed {
+        let vacuumed = self.connection.execute_batch("VACUUM");
+        let tidied = self.tidy();
+        match vacuumed.and(tidied).map_err(Failure::from) {
             // What was deleted stays free within the file, for what is written next.
-            Err(Failure::Full(_)) => Ok(truncated?),
-            Err(failure) => Err(failure),
-            Ok(()) => Ok(truncated?),
+            Err(Failure::Full(_)) => Ok(()),
+            told => told,
         }
     }
 

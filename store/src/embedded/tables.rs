@@ -61,8 +61,10 @@ pub(super) trait Tables {
     /// Takes back all since writing began.
     fn rollback(&mut self) -> Result<(), Failure>;
 
-    /// Makes room for what was refused, by these means, until it is taken back.
-    fn make_room(&mut self, _means: Means) {}
+    /// Makes room for what was refused, by these means, until it is taken back; returns whether there may be some.
+    fn make_room(&mut self, _means: Means) -> bool {
+        false
+    }
 
     /// Takes back what was lent, as far as that can be.
     fn take_room_back(&mut self) {}
