@@ -5,11 +5,11 @@ use common::handing::{Handed, Handing};
 use common::{ask, held, led, opened, step, write, Decide, Told};
 use durkenzo_driver::{Begin, Durable, Key, NotDone, Reply, Request};
 use durkenzo_store::{Done, Embedded, Room, Store, Transaction, WriteError};
-use std::sync::atomic::{AtomicUsize, Ordering};
+use std::sync::atomic::{AtomicU64, AtomicUsize, Ordering};
 use std::sync::mpsc::Receiver;
 use std::sync::{Arc, Mutex};
 use std::thread;
-use std::time::Duration;
+use std::time::{Duration, Instant};
 
 const TEXT: usize = 60_000;
 
@@ -19,6 +19,8 @@ struct Scant {
     store: Arc<dyn Store>,
     most_bytes: usize,
     room: AtomicUsize,
+    /// How many bytes it has left for bases.
+    left: AtomicU64,
     /// How many bytes each batch had that was made.
     made: Mutex<Vec<usize>>,
 }
@@ -26,6 +28,10 @@ struct Scant {
 impl Handing for Scant {
     fn store(&self) -> &dyn Store {
         &*self.store
+    }
+
+    fn left(&self) -> Option<u64> {
+        Some(self.left.load(Ordering::Acquire))
     }
 
     fn submit(&self, transaction: Transaction, done: Done) {
@@ -55,6 +61,7 @@ fn opened_over(most_bytes: usize, room: usize) -> (Arc<Handed<Scant>>, Arc<Durab
         store: Arc::new(Embedded::in_memory()),
         most_bytes,
         room: AtomicUsize::new(room),
+        left: AtomicU64::new(u64::MAX),
         made: Mutex::default(),
     }));
     let durable = opened(&(scant.clone() as Arc<dyn Store>), 1);
@@ -251,4 +258,43 @@ fn deletions_go_on_where_the_store_is_full() {
         assert!(matches!(outcome, Err(NotDone::Full(_))), "{outcome:?}");
     }
     assert!((0..20).all(|client| count_of(&durable, client, 4) == 0));
+}
+
+/// A store without room but for what it keeps back, where a base goes on while writes are refused.
+#[test]
+fn deletions_have_a_full_store_make_room_beside_refused_writes() {
+    let (scant, durable) = opened_over(usize::MAX, usize::MAX);
+    let _control = led(&durable);
+    assert!(write(&durable, 0, texts(0, 8)).is_ok());
+    scant.room.store(0, Ordering::Release);
+    let refused = write(&durable, 0, texts(1, 1));
+    assert!(matches!(refused, Err(NotDone::Full(_))), "{refused:?}");
+    let deletes = (0..8).map(|it| Request::Delete(key(0, it))).collect();
+    assert_eq!(write(&durable, 0, deletes), Ok(vec![Reply::Done; 8]));
+    let batches = || scant.store.read_keys(b"batch/", b"batch0").unwrap().len();
+    let end = Instant::now() + Duration::from_secs(60);
+    while batches() > 0 {
+        assert!(Instant::now() < end, "no base is made");
+        let refused = write(&durable, 0, texts(1, 1));
+        assert!(matches!(refused, Err(NotDone::Full(_))), "{refused:?}");
+    }
+    scant.room.store(usize::MAX, Ordering::Release);
+    assert!(write(&durable, 0, texts(1, 1)).is_ok());
+    assert_eq!(count_of(&durable, 1, 1), 1);
+}
+
+/// A store that has room for no base gets no part of one.
+#[test]
+fn a_base_without_room_is_not_begun() {
+    let (scant, durable) = opened_over(usize::MAX, usize::MAX);
+    let _control = led(&durable);
+    assert!(write(&durable, 0, texts(0, 8)).is_ok());
+    let parts = || scant.store.read_keys(b"base/", b"base0").unwrap().len();
+    scant.left.store(8 * TEXT as u64, Ordering::Release);
+    durable.compact().expect("it is tried");
+    assert_eq!(parts(), 0);
+    scant.left.store(16 * TEXT as u64, Ordering::Release);
+    durable.compact().expect("it is done");
+    assert!(parts() > 0);
+    assert_eq!(count_of(&durable, 0, 8), 8);
 }

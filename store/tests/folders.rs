@@ -189,7 +189,9 @@ fn gives_no_bytes_that_were_changed() {
         };
         for it in &right.pairs {
             match store.read(&[&it.key]) {
-                Ok(reading) => assert_eq!(reading.pairs, [it.clone()], "byte {place}"),
+                Ok(reading) => {
+                    assert_eq!(reading.pairs, std::slice::from_ref(it), "byte {place}");
+                }
                 Err(ReadError::Damaged(why)) => {
                     let key = String::from_utf8_lossy(&it.key);
                     assert!(why.contains(&*key), "{why}");

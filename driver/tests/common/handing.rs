@@ -33,6 +33,10 @@ pub trait Handing: Send + Sync {
         self.store().keep(lease)
     }
 
+    fn left(&self) -> Option<u64> {
+        self.store().left()
+    }
+
     fn revoke(&self, lease: LeaseId) -> Result<(), LeaseError> {
         self.store().revoke(lease)
     }
@@ -80,6 +84,10 @@ impl<H: Handing> Store for Handed<H> {
 
     fn revoke(&self, lease: LeaseId) -> Result<(), LeaseError> {
         self.0.revoke(lease)
+    }
+
+    fn left(&self) -> Option<u64> {
+        self.0.left()
     }
 
     fn compact(&self) -> Result<(), CompactError> {
