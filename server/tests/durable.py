@@ -760,6 +760,25 @@ def answers(client, key, value=1):
         return False
 
 
+def used(client):
+    """The bytes of memory that the server has in use."""
+    return int(re.search(rb"used_memory:(\d+)", client.ask("INFO", "memory"))[1])
+
+
+def what_is_written_over_or_deleted_takes_no_memory(program):
+    text, keys = b"v" * 50_000, [f"key:{it}" for it in range(10)]
+    with folder() as data, over(program, data, "--sync", "no") as server, server.client() as client:
+        client.piped([("SET", it, text) for it in keys])
+        before, most = used(client), 0
+        for turn in range(100):
+            client.piped([("SET", it, text) for it in keys])
+            if turn % 2:
+                client.piped([("DEL", it) for it in keys])
+            most = max(most, used(client) - before)
+        assert most < 20 << 20, f"{most} bytes more, where 50,000,000 were written"
+        return f"{most >> 10} KiB more"
+
+
 TESTS = [
     restarts_keep_all,
     commands_answer_as_in_memory,
@@ -785,6 +804,7 @@ TESTS = [
     restarts_wait_for_no_server_that_has_failed,
     shards_spread_as_far_as_they_fit,
     migrations_lose_no_addition,
+    what_is_written_over_or_deleted_takes_no_memory,
     kills_lose_nothing_that_was_answered,
 ]
 

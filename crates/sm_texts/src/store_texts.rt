@@ -6,6 +6,7 @@ use crate::saves::{load, save};
 use crate::text_reply::TextReply;
 use sm_map::arena_map::ArenaMap;
 use sm_map::val::Val;
+use sm_service::counter_text::MAX_DEAD;
 use sm_shard::StoreMachine;
 use std::alloc::{AllocError, Global};
 use std::marker::Model;
@@ -45,7 +46,11 @@ impl StoreMachine<Vec<u8>, TextReply> for StoreTexts {
 
     fn answer(&mut self, _: Global, request: &Vec<u8>) -> Result<TextReply, AllocError> {
         match parts_of(request) {
-            Some((kind, key, rest)) => answer_to(&mut self.map, kind, key, rest),
+            Some((kind, key, rest)) => {
+                let answered = answer_to(&mut self.map, kind, key, rest);
+                self.drop_the_dead();
+                answered
+            }
             None => Ok(TextReply::new(8, 0)),
         }
     }
@@ -87,6 +92,17 @@ impl StoreTexts {
         ensures { option_map held_of result ≡ held_at self.now key.now }
     {
         self.map.get(key)
+    }
+
+    // Moves the map into fresh memory where much of the old is dead; where that is refused, it stays.
+    fn drop_the_dead(&mut self)
+        ensures { self.new ≡ self.old }
+    {
+        if self.map.dead() > MAX_DEAD && self.map.dead() > self.map.bytes() {
+            if let Ok(moved) = self.map.copy() {
+                self.map = moved;
+            }
+        }
     }
 }
 
