@@ -1,6 +1,7 @@
 //! What the first thread does once the others run.
 use crate::cluster::Cluster;
 use crate::http;
+use crate::memory::{Trimmer, CEILING};
 use crate::run::Fault;
 use std::io;
 use std::net::SocketAddr;
@@ -86,11 +87,14 @@ impl Attendant {
     }
 }
 
-/// Waits for the end of a thread or of the store.
+/// Waits for the end of a thread or of the store, and looks meanwhile after memory.
 async fn ended(cluster: &Cluster) -> Result<(), Fault> {
+    let mut trimmer = Trimmer::default();
     let mut tick = tokio::time::interval(Duration::from_millis(200));
     loop {
         tick.tick().await;
+        CEILING.look();
+        trimmer.look();
         if cluster.is_stopping() {
             return Err("a thread ended".into());
         }

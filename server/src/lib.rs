@@ -4,7 +4,7 @@
 //! A request goes through it so: a thread of [`io`] reads it by [`resp`], [`command`] says of which shard its keys are,
 //! [`admission`] comes to that shard's body as whichever server the board admits, and [`body`] does it. [`control`]
 //! moves shards and restarts servers meanwhile, on a thread of its own, and [`http`] shows them.
-#![forbid(unsafe_code)]
+#![deny(unsafe_code)]
 #![warn(missing_docs)]
 pub mod admission;
 pub mod attendant;
@@ -26,6 +26,7 @@ pub mod joining;
 pub mod keep_alive;
 pub mod keyspace;
 pub mod log;
+pub mod memory;
 pub mod observer;
 pub mod open_fault;
 pub mod options;

@@ -1,8 +1,12 @@
 //! The program: `./sm serve` in the repository.
 use clap::Parser;
+use durkenzo_server::memory::Allocator;
 use durkenzo_server::options::Options;
 use durkenzo_server::{log, run, NAME};
 use std::process::ExitCode;
+
+#[global_allocator]
+static ALLOCATOR: Allocator = Allocator;
 
 fn main() -> ExitCode {
     let options = Options::parse();

@@ -1,6 +1,7 @@
 //! The command line.
 use crate::dump::USUAL_FOLDER as DUMPS;
 use crate::joining::JoinOptions;
+use crate::memory::Bytes;
 use crate::safety::SafetyOptions;
 use crate::{NAME, VERSION};
 use clap::{ArgGroup, Parser, ValueEnum};
@@ -154,6 +155,10 @@ pub struct Options {
         help_heading = DATA
     )]
     pub log_batches: u64,
+
+    /// Bytes of memory above which commands that may have data take more are refused, as 100mb; 0 is none
+    #[arg(long, value_name = "BYTES", default_value_t = Bytes(0), help_heading = DATA)]
+    pub max_memory: Bytes,
 
     /// Folder of the files of SM DUMP and SM LOAD; the first dump makes it
     #[arg(long, value_name = "FOLDER", default_value = DUMPS, help_heading = DATA)]

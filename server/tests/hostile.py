@@ -6,10 +6,12 @@ import resource
 import select
 import socket
 import subprocess
+import tempfile
 import time
+import urllib.error
 import urllib.request
 
-from served import Client, Refused, free_port, main, packed, served
+from served import SECONDS, Client, Refused, free_port, main, packed, served
 
 SEED = 20_251_126
 SPOILT_BYTES = 1_000_000
@@ -24,6 +26,10 @@ ARGUMENTS = b": at most 1048576 arguments of a command are read"
 # What is said of a command that is read to its end, and refused.
 MANY = "TOOLARGE a command has at most 1024 arguments, its name among them: send it in parts"
 LARGE = "TOOLARGE a command has at most 1048576 bytes: send it in parts"
+# What is said of a command that may have data take more memory, above --max-memory.
+OVER = "OOM command not allowed when used memory > 'maxmemory'."
+# What each client asks where the system gives no more memory.
+TRIED = [("PING",), ("STRLEN", "key 0"), ("GET", "key 0"), ("APPEND", "key 1", ""), ("DEL", "nothing"), ("DBSIZE",)]
 # How many bytes a client reads that always waits for more, and for how many answers.
 READ, OUTSTANDING = 100_000_000, 100
 PIECES = [
@@ -317,6 +323,142 @@ def quick_ends_leave_nothing(program):
         assert server.settle(before) <= before, f"{before} before, {server.descriptors()} after"
 
 
+def filled(client, value, name="key"):
+    """Sets keys of this name to the value until one is refused; returns the keys and the refusal."""
+    keys = []
+    while True:
+        keys.append(f"{name} {len(keys)}")
+        client.send("SET", keys[-1], value)
+        if isinstance(answer := client.read(), Refused):
+            return keys[:-1], str(answer)
+
+
+def page_of(port, path):
+    """The status of the page, and its text."""
+    try:
+        with urllib.request.urlopen(f"http://127.0.0.1:{port}/{path}", timeout=10) as answer:
+            return answer.status, answer.read().decode()
+    except urllib.error.HTTPError as error:
+        return error.code, error.read().decode()
+
+
+def beyond_its_memory(program, *options):
+    """What takes more memory is refused above --max-memory, and all else goes on."""
+    port, most = free_port(), 32 * MEBIBYTE
+    with served(program, "--max-memory", "32mb", "--http-port", port, *options) as server:
+        with server.client() as client, server.client() as other:
+            assert other.piped([("MULTI",), ("SET", "{x}a", 1), ("GET", "{x}a")]) == ["OK", "QUEUED", "QUEUED"]
+            keys, why = filled(client, b"v" * 50_000)
+            assert why == OVER and 200 < len(keys) < 640, (why, len(keys))
+            # Of what was in use the last commands' own bytes are free again.
+            while filled(client, b"v" * 500, "small")[0]:
+                time.sleep(0.05)
+            told = dict(it.split(":") for it in client.ask("INFO", "memory").decode().split("\r\n") if ":" in it)
+            assert most - MEBIBYTE < int(told["used_memory"]) < most + 8 * MEBIBYTE, told
+            assert (told["maxmemory"], told["maxmemory_policy"]) == (str(most), "noeviction"), told
+            assert client.ask("CONFIG", "GET", "maxmemory") == [b"maxmemory", str(most).encode()]
+            assert f"durkenzo_memory_max_bytes {most}\n" in page_of(port, "metrics")[1]
+            refused = [("APPEND", "a", "x"), ("INCR", "n"), ("DECRBY", "n", 2), ("MSET", "a", 1, "b", 2)]
+            assert {str(it) for it in client.piped(refused)} == {OVER}
+            assert client.ask("MGET", *keys[:3]) == [b"v" * 50_000] * 3 and client.ask("EXISTS", *keys) == len(keys)
+            answers = [str(it) for it in client.piped([("MULTI",), ("SET", "{x}a", 1), ("GET", "{x}a"), ("EXEC",)])]
+            assert answers[:3] == ["OK", OVER, OVER] and answers[3].startswith("EXECABORT"), answers
+            answers = [str(it) for it in other.piped([("EXEC",), ("EXEC",)])]
+            wanted = ["EXECABORT Transaction discarded because of: " + OVER, "ERR EXEC without MULTI"]
+            assert answers == wanted, answers
+            # A shard gives back the memory of what was deleted where that is more than what stays.
+            gone = len(keys) * 3 // 4
+            assert client.ask("DEL", *keys[:gone]) == gone and client.ask("EXISTS", *keys) == len(keys) - gone
+            soon(lambda: client.piped([("SET", "a", 1)]) == ["OK"])
+            assert client.ask("MGET", "a", keys[-1]) == [b"1", b"v" * 50_000]
+
+
+def more_memory_than_allowed_is_refused(program):
+    beyond_its_memory(program)
+    with tempfile.TemporaryDirectory() as folder:
+        beyond_its_memory(program, "--data", folder, "--sync", "no")
+
+
+def soon(is_so):
+    """Waits until it is so."""
+    end = time.monotonic() + SECONDS
+    while not is_so():
+        assert time.monotonic() < end, "it isn't so"
+        time.sleep(0.05)
+
+
+def told_beside(server, keys):
+    """What clients are answered, or that their connection ends, where the system gives no more memory."""
+    shown = [("MGET", *keys[:100]), ("SM", "DUMP", "full"), ("SM", "SHARDS"), ("SM", "SERVERS"), ("INFO",)]
+    shown += [("SCAN", 0, "COUNT", 1_000), ("SCANRANGE", "", "", 100), ("COMMAND",), ("SET", "more", b"v" * 60_000)]
+    shown += [("MULTI",), *[("GET", keys[0])] * 100, *[("SET", keys[0], b"v" * 60_000)] * 15, ("EXEC",)]
+    for command in shown:
+        with server.client() as one:
+            try:
+                one.send(*command)
+                yield str(one.read())
+            except OSError as error:
+                yield str(error)
+
+
+def refused_memory_is_an_answer(program):
+    """Where the system gives no more memory, nothing ends the process, and all that it holds stays."""
+    port, counts = free_port(), []
+    for limit in (150 * MEBIBYTE, 300 * MEBIBYTE):
+        with contextlib.ExitStack() as stack:
+            folder = stack.enter_context(tempfile.TemporaryDirectory())
+            options = ("--threads", 2, "--http-port", port, "--folder", folder)
+            server = stack.enter_context(served(program, *options, before=("prlimit", f"--as={limit}")))
+            clients = [stack.enter_context(server.client()) for _ in range(20)]
+            keys, why = filled(clients[0], b"v" * 60_000)
+            assert why.startswith("OOM memory was refused") and len(keys) > 200, (why, len(keys))
+            assert server.is_alive()
+            # Those who are there are answered, and those who come are, or are told why not.
+            for client in clients:
+                client.socket.sendall(b"".join(packed(*it) for it in TRIED) + packed("MGET", *keys[:100]))
+            for client in clients:
+                answers = [client.read() for _ in range(len(TRIED) + 1)]
+                assert answers[0] == "PONG" and all(may_be(it) for it in answers), answers
+            for _ in range(3):
+                for told in told_beside(server, keys):
+                    assert server.is_alive(), told
+            newcomers = [stack.enter_context(server.client()) for _ in range(50)]
+            for one in newcomers:
+                with contextlib.suppress(ConnectionError):
+                    one.send("PING")
+                    assert str(one.read()).startswith(("PONG", "OOM"))
+            assert page_of(port, "healthz")[0] == 200 and page_of(port, "metrics")[0] in (200, 503)
+            # With some of it gone all else is there.
+            gone = len(keys) * 3 // 4
+            assert sum(client.piped([("DEL", it) for it in keys[:gone]])) == gone
+            assert all(clients[1].ask("GET", it) == b"v" * 60_000 for it in keys[gone:])
+            soon(lambda: client.piped([("SET", "a", 1)]) == ["OK"])
+            assert all(it.ask("PING") == "PONG" for it in clients)
+            counts.append(len(keys))
+    return f"{counts} keys"
+
+
+def may_be(answer):
+    """Whether it is no refusal but for want of memory."""
+    return not isinstance(answer, Refused) or str(answer).startswith("OOM memory was refused")
+
+
+def what_clients_took_is_given_back(program):
+    """When they are gone the process has little more memory than before."""
+    with served(program) as server:
+        before = server.memory()
+        with contextlib.ExitStack() as stack:
+            clients = [stack.enter_context(server.client()) for _ in range(200)]
+            for client in clients:
+                client.socket.sendall(packed("MULTI") + packed("SET", "a", b"v" * 60_000) * 15)
+            for client in clients:
+                assert [client.read() for _ in range(16)] == ["OK", *["QUEUED"] * 15]
+            most = server.memory() - before
+            assert most > 100 * MEBIBYTE, most
+        soon(lambda: server.memory() - before < most // 2)
+        return f"{most >> 20} MiB, and then {(server.memory() - before) >> 20}"
+
+
 TESTS = [
     spoilt_bytes_crash_and_leak_nothing,
     each_bound_is_told,
@@ -330,6 +472,9 @@ TESTS = [
     idle_connections_cost_little,
     more_clients_than_allowed_are_told,
     few_open_files_are_shared_out,
+    more_memory_than_allowed_is_refused,
+    refused_memory_is_an_answer,
+    what_clients_took_is_given_back,
     quick_ends_leave_nothing,
 ]
 

@@ -101,6 +101,9 @@ pub trait ShardBody: Send {
     /// Does what is asked, and answers.
     fn apply<'a>(&'a mut self, request: Request<'_>) -> Reply<'a>;
 
+    /// Has no room for what it told last, if that is much.
+    fn forget(&mut self);
+
     /// How many bytes the key's value has where it is written, none of which is copied; none where it holds nothing.
     ///
     /// # Errors

@@ -1,4 +1,5 @@
 use super::{Pair, Range, Refusal, Reply, Request, ShardBody, Value, MAX_KEY, MAX_PAIRS, MAX_TEXT};
+use crate::memory::{self, NoRoom};
 use crate::resp::number::Digits;
 use durkenzo::{
     Held as HeldIn, LentReply, LentText, Map, MapFault, Measure, Request as Asked, Value as Held,
@@ -7,6 +8,9 @@ use std::ops::Bound;
 
 /// How much room for a text is kept from one request to the next.
 const KEPT_ROOM: usize = 1 << 10;
+
+/// After how many bytes that were deleted the map looks whether it can give memory back, which it does for no fewer.
+const MOST_DELETED: usize = 64 << 10;
 
 /// What a map replied, where that was no refusal.
 #[derive(Debug)]
@@ -30,6 +34,8 @@ pub struct ProvedBody {
     text: Vec<u8>,
     /// How many keys held something when that was last asked, unless a request may have changed it since.
     keys: Option<usize>,
+    /// How many bytes were deleted since the map last looked whether it can give memory back.
+    deleted: usize,
 }
 
 impl ProvedBody {
@@ -40,6 +46,7 @@ impl ProvedBody {
             told: Told::Nothing,
             text: Vec::new(),
             keys: Some(0),
+            deleted: 0,
         })
     }
 
@@ -49,7 +56,7 @@ impl ProvedBody {
             LentReply::Nothing => Told::Nothing,
             LentReply::Done => Told::Done,
             LentReply::Text(text) => {
-                keep(text, &mut self.text);
+                keep(text, &mut self.text)?;
                 Told::Text
             }
             LentReply::Count(count) => Told::Count(count),
@@ -133,6 +140,28 @@ impl ProvedBody {
         self.ask(request)
     }
 
+    /// Has the key hold nothing.
+    fn delete(&mut self, key: &[u8]) -> Result<(), Refusal> {
+        let length = self.measure(key)?;
+        self.make(&Asked::Remove(key))?;
+        self.deleted += length.map_or(0, |it| key.len() + it);
+        if self.deleted > MOST_DELETED {
+            self.deleted = 0;
+            self.give_back(key);
+        }
+        Ok(())
+    }
+
+    /// Has the map give back memory, if more of it was deleted than stays: it looks at that before it writes. A key that
+    /// holds nothing holds nothing behind that, too.
+    fn give_back(&mut self, key: &[u8]) {
+        let map = &mut self.map;
+        let written = memory::with_spare(|| lent(map, &Asked::Append(key, b"")).is_ok());
+        if written && lent(&mut self.map, &Asked::Remove(key)).is_err() {
+            unreachable!("to remove a key takes no memory");
+        }
+    }
+
     /// What was told of a request that was made.
     fn reply(&self) -> Reply<'_> {
         match &self.told {
@@ -147,11 +176,8 @@ impl ProvedBody {
 
 impl ShardBody for ProvedBody {
     fn get(&mut self, key: &[u8]) -> Result<Option<Value<'_>>, Refusal> {
-        if self.text.len() > KEPT_ROOM {
-            self.text.truncate(KEPT_ROOM);
-            self.text.shrink_to_fit();
-        }
-        let held = self.map.get_in(key, &mut self.text).map_err(refusal_of)?;
+        let (map, text) = (&mut self.map, &mut self.text);
+        let held = memory::fallibly(|| map.get_in(key, text)).map_err(refusal_of)?;
         Ok(held.map(|it| match it {
             HeldIn::Text(text) => Value::Text(text),
             HeldIn::Count(count) => Value::Count(count),
@@ -199,12 +225,20 @@ impl ShardBody for ProvedBody {
                 let length = made.and_then(|()| self.length(key));
                 return length.map_or_else(Reply::Refused, Reply::Length);
             }
-            Request::Delete(key) => self.make(&Asked::Remove(key)),
+            Request::Delete(key) => self.delete(key),
             Request::Scan(range) => self.scan(range),
         };
         match made {
             Ok(()) => self.reply(),
             Err(refusal) => Reply::Refused(refusal),
+        }
+    }
+
+    fn forget(&mut self) {
+        self.told = Told::Nothing;
+        if self.text.len() > KEPT_ROOM {
+            self.text.truncate(KEPT_ROOM);
+            self.text.shrink_to_fit();
         }
     }
 
@@ -252,16 +286,18 @@ fn asked_for<'a>(key: &'a [u8], value: Value<'a>) -> Asked<'a> {
 }
 
 /// Has the text stand in the room, and nothing else.
-fn keep(text: LentText<'_>, room: &mut Vec<u8>) {
+fn keep(text: LentText<'_>, room: &mut Vec<u8>) -> Result<(), Refusal> {
     room.clear();
     room.shrink_to(KEPT_ROOM);
+    memory::reserve(room, text.len()).map_err(|NoRoom| Refusal::NoMemory)?;
     text.append_to(room);
+    Ok(())
 }
 
 /// What the map lends for the request; or that memory is refused.
 #[inline]
 fn lent<'a>(map: &'a mut Map, request: &Asked<'_>) -> Result<LentReply<'a>, Refusal> {
-    map.lend(request).map_err(refusal_of)
+    memory::fallibly(|| map.lend(request)).map_err(refusal_of)
 }
 
 /// Why a request of a key that was judged before changes nothing.
@@ -338,6 +374,31 @@ mod tests {
             assert_eq!(body.apply(Request::Get(b"key")), Reply::Value(value));
             assert_eq!(body.keys(), 1);
         }
+    }
+
+    #[test]
+    fn what_is_deleted_is_nothing_whenever_memory_is_given_back() {
+        let mut body = body();
+        let text = [b'x'; 50_000];
+        for round in 0..3 {
+            for number in 0..20_u8 {
+                assert_eq!(
+                    body.apply(Request::Put(&[b'k', number], Value::Text(&text))),
+                    Reply::Done
+                );
+            }
+            for number in 0..20 - round {
+                let key = [b'k', number];
+                assert_eq!(body.apply(Request::Delete(&key)), Reply::Done);
+                assert_eq!(body.apply(Request::Delete(&key)), Reply::Nothing);
+                assert_eq!(body.apply(Request::Get(&key)), Reply::Nothing);
+                assert_eq!(body.keys(), 19 - usize::from(number));
+            }
+        }
+        assert_eq!(
+            body.apply(Request::Get(&[b'k', 18])),
+            Reply::Value(Value::Text(&text))
+        );
     }
 
     #[test]

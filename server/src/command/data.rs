@@ -2,6 +2,7 @@
 //! kept as a count, so that it can be added to, and a count is a text wherever a text is wanted.
 use super::Fault;
 use crate::body::{Refusal, Reply, Request, ShardBody, Value, MAX_TEXT};
+use crate::memory;
 use crate::resp::number::{self, Digits};
 use crate::resp::{Command, Replies, MAX_REPLY};
 
@@ -63,7 +64,8 @@ pub fn execute(
         DataWord::MSet => set_all(body, command, replies),
         DataWord::MSetNx => set_all_new(body, command, replies),
     };
-    if let Err(fault) = done {
+    // What changed something is answered by what there was room for.
+    if let Err(fault) = done.and_then(|()| Ok(replies.are_whole()?)) {
         replies.take_back(mark);
         replies.error(fault);
     }
@@ -95,7 +97,8 @@ pub(super) fn get(
         Some(value) => write_value(value, replies),
         None => replies.null(),
     }
-    Ok(())
+    body.forget();
+    Ok(replies.are_whole()?)
 }
 
 fn get_all(
@@ -414,7 +417,7 @@ fn append_to_count(body: &mut dyn ShardBody, key: &[u8], more: &[u8]) -> Result<
         Some(Value::Text(text)) => text.to_vec(),
         None => Vec::new(),
     };
-    text.extend_from_slice(more);
+    memory::append(&mut text, more)?;
     put(body, key, &text)?;
     Ok(text.len())
 }

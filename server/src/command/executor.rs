@@ -15,6 +15,7 @@ use crate::admission::Admission;
 use crate::body::Shard;
 use crate::cluster::Cluster;
 use crate::keyspace::Keyspace;
+use crate::memory::{self, CEILING};
 use crate::resp::{number, Arguments, Command, Oversized, OwnedCommand, Replies, Unparsed};
 use crate::wait::{NotAdmitted, Wait};
 use std::sync::Arc;
@@ -23,6 +24,9 @@ use std::sync::Arc;
 const MOST_UNSENT: usize = 1 << 20;
 /// How many commands are done under one permit, so that others come to the shard.
 const MOST_OF_A_PERMIT: u64 = 128;
+/// How much memory there has to be for a command of the control: so much, and so much for a line of each shard.
+const LEAST_OF_CONTROL: usize = 64 << 10;
+const MOST_OF_LINE: usize = 512;
 
 /// Does a thread's commands.
 #[derive(Debug)]
@@ -66,7 +70,8 @@ impl Executor {
         // What the next command does, and the shard of its keys, where that was found out already.
         let mut next = None;
         let stop = loop {
-            if replies.unsent().len() >= session.most_unsent(MOST_UNSENT) {
+            let is_full = replies.unsent().len() >= session.most_unsent(MOST_UNSENT);
+            if is_full || !replies.has_room_for_one() {
                 break Stop::Full;
             }
             match self.turn(next, session, &mut reader, replies) {
@@ -112,7 +117,7 @@ impl Executor {
         why: Oversized,
         replies: &mut Replies,
     ) {
-        session.refuse(Fault::Oversized(why), replies);
+        session.refuse(why.into(), replies);
         self.admission.stats().commands.add(1);
     }
 
@@ -167,6 +172,8 @@ impl Executor {
             Ok(Step::Queue(shard)) => session.queue(command, shard, replies).map_err(Into::into),
             Err(fault) => Err(fault.into()),
         };
+        let whole = replies.are_whole().map_err(Fault::from);
+        let done = whole.map_err(Into::into).and(done);
         // What ends the turn or the connection was answered.
         if !matches!(done, Ok(()) | Err(Unanswered::Long | Unanswered::End)) {
             replies.take_back(mark);
@@ -248,7 +255,8 @@ impl Executor {
             }
             reader.advance();
             count += 1;
-            if count == MOST_OF_A_PERMIT || replies.unsent().len() >= MOST_UNSENT {
+            let is_full = replies.unsent().len() >= MOST_UNSENT || !replies.has_room_for_one();
+            if count == MOST_OF_A_PERMIT || is_full {
                 break None;
             }
             let next = reader.peek().ok();
@@ -377,6 +385,13 @@ impl Executor {
             replies.number(shard.into());
             return Ok(());
         }
+        if command.is(1, "LOAD") && CEILING.is_passed() {
+            return Err(Fault::MaxMemory.into());
+        }
+        // What the control tells of all shards may be long.
+        let lines = MOST_OF_LINE * usize::from(self.cluster.shards());
+        let most = LEAST_OF_CONTROL + lines + command.size();
+        memory::has_room(most).map_err(Fault::from)?;
         Err(Unanswered::Control)
     }
 
@@ -388,6 +403,7 @@ impl Executor {
             .ok_or(Fault::UnknownServer)?;
         let inner = command.from(3);
         let spec = Spec::of(inner)?;
+        spec.check_memory()?;
         let place = spec.place(inner, &self.keyspace).map_err(Fault::from)?;
         let (Some(word), Some(shard)) = (spec.word.data(), place.one()?) else {
             return Err(Fault::NoKeys.into());
@@ -408,6 +424,9 @@ impl Executor {
         if transaction.is_aborted() {
             return Err(Fault::Aborted.into());
         }
+        // What it changes is always told.
+        let kept = replies.keep_room(transaction.len() as usize);
+        kept.map_err(Fault::from)?;
         let cluster = &self.cluster;
         let Some(shard) = transaction.shard() else {
             transaction.execute(None, session, cluster, replies);
@@ -417,6 +436,7 @@ impl Executor {
         let done = self.admission.admit(shard, |body| {
             transaction.execute(Some(body.as_mut()), session, cluster, replies);
         });
+        replies.owe(0);
         match done {
             Ok(()) => {
                 let errors = replies.error_count() - errors;

@@ -1,5 +1,6 @@
 use super::glob::{LongPattern, MAX_PATTERN};
 use crate::body::{Refusal, MAX_KEY, MAX_TEXT};
+use crate::memory::NoRoom;
 use crate::resp::{Command, Oversized, Replies, MAX_REPLY};
 use crate::wait::Wait;
 use durkenzo::AdmitFault;
@@ -37,6 +38,10 @@ pub enum Fault {
     LongPattern,
     /// Memory was refused, and nothing has changed.
     NoMemory,
+    /// More memory is in use than may be.
+    MaxMemory,
+    /// The same, by which EXEC discards the transaction.
+    ExecMaxMemory,
     /// A key is too long, or empty.
     BadKey,
     /// The keys of one transaction, or of a command for a server, are of several shards.
@@ -205,6 +210,21 @@ impl From<BadKey> for Fault {
     }
 }
 
+impl From<NoRoom> for Fault {
+    fn from(_: NoRoom) -> Fault {
+        Fault::NoMemory
+    }
+}
+
+impl From<Oversized> for Fault {
+    fn from(why: Oversized) -> Fault {
+        match why {
+            Oversized::Arguments | Oversized::Bytes => Fault::Oversized(why),
+            Oversized::Memory => Fault::NoMemory,
+        }
+    }
+}
+
 impl From<LongPattern> for Fault {
     fn from(_: LongPattern) -> Fault {
         Fault::LongPattern
@@ -244,6 +264,9 @@ const NO_PASSWORD: &str =
      Are you sure your configuration is correct?";
 const BAD_NAME: &str = "ERR Client names cannot contain spaces, newlines or special characters.";
 const NO_MEMORY: &str = "OOM memory was refused, and nothing has changed: try again";
+const MAX_MEMORY: &str = "OOM command not allowed when used memory > 'maxmemory'.";
+const EXEC_MAX_MEMORY: &str =
+    "EXECABORT Transaction discarded because of: OOM command not allowed when used memory > 'maxmemory'.";
 const UNKNOWN_SERVER: &str =
     "REFUSED UnknownServer: there is no server of that number; try: SM SERVERS lists them";
 const NOT_NUMBERED: &str =
@@ -266,6 +289,8 @@ impl fmt::Display for Fault {
             Fault::Overflow => "ERR increment or decrement would overflow",
             Fault::NoOpposite => "ERR decrement would overflow",
             Fault::NoMemory => NO_MEMORY,
+            Fault::MaxMemory => MAX_MEMORY,
+            Fault::ExecMaxMemory => EXEC_MAX_MEMORY,
             Fault::CrossShard => CROSS_SHARD,
             Fault::BadCursor => "ERR invalid cursor",
             Fault::NestedMulti => "ERR MULTI calls can not be nested",

@@ -1,6 +1,7 @@
 //! What INFO tells.
 use super::talk::REDIS_VERSION;
 use crate::cluster::Cluster;
+use crate::memory::{resident, used, CEILING};
 use crate::resp::Command;
 use crate::stats::Stats;
 use crate::VERSION;
@@ -45,16 +46,6 @@ pub fn sum(cluster: &Cluster, of: impl Fn(&Stats) -> u64) -> u64 {
     cluster.inlets().iter().map(|it| of(it.stats())).sum()
 }
 
-/// The bytes of memory that the process has.
-pub fn memory_used() -> u64 {
-    let pages = std::fs::read_to_string("/proc/self/statm").unwrap_or_default();
-    let pages = pages
-        .split(' ')
-        .nth(1)
-        .and_then(|it| it.parse::<u64>().ok());
-    pages.unwrap_or(0) * 4_096
-}
-
 /// A line for each name and its value.
 fn lines<const N: usize>(values: [(&str, String); N]) -> String {
     values
@@ -96,15 +87,15 @@ fn clients(cluster: &Cluster) -> String {
 }
 
 fn memory(_cluster: &Cluster) -> String {
-    let used = memory_used();
+    let (used, most) = (used(), CEILING.most());
+    let human = |bytes: u64| format!("{:.2}M", bytes as f64 / 1_048_576.0);
     lines([
         ("used_memory", used.to_string()),
-        (
-            "used_memory_human",
-            format!("{:.2}M", used as f64 / 1_048_576.0),
-        ),
-        ("used_memory_rss", used.to_string()),
-        ("maxmemory", "0".to_owned()),
+        ("used_memory_human", human(used)),
+        ("used_memory_rss", resident().to_string()),
+        ("maxmemory", most.to_string()),
+        ("maxmemory_human", human(most)),
+        ("maxmemory_policy", "noeviction".to_owned()),
     ])
 }
 

@@ -25,10 +25,9 @@ mod unanswered;
 mod wanted;
 
 pub use cursors::Cursors;
-pub use durable::{is_numbered, step_of_spelled, table_of_spelled, Asked};
+pub use durable::{check_memory_of, is_numbered, step_of_spelled, table_of_spelled, Asked};
 pub use executor::Executor;
 pub use fault::{name_of, BadKey, Fault};
-pub use info::memory_used;
 pub use role::{is_of_all, Role};
 pub use session::{Session, MOST_OF_A_STRANGER};
 pub use spec::{FIRST_TABLE, TABLE};

@@ -7,6 +7,7 @@ use super::Fault;
 use crate::admission::Admission;
 use crate::body::{Pair, Range, Reply, Request, Shard, Value, MAX_PAIRS};
 use crate::keyspace::Keyspace;
+use crate::memory;
 use crate::resp::number::Digits;
 use crate::resp::{Command, Replies};
 use crate::wait::{NotAdmitted, Wait};
@@ -14,6 +15,9 @@ use std::ops::Bound;
 
 /// How often a thread yields to another one that has a shard, before its command waits.
 const MOST_YIELDS: usize = 1_000;
+
+/// The most bytes of a count as it is written.
+const LONGEST_COUNT: usize = 20;
 
 /// Does what goes over the keys of several shards, each under a permit of its own.
 #[derive(Debug)]
@@ -139,11 +143,23 @@ fn scanned<T>(
     range: Range<'_>,
     taken: impl FnMut(&Pair<'_>) -> T,
 ) -> Result<Vec<T>, Fault> {
-    match body.apply(Request::Scan(range)) {
-        Reply::Pairs(pairs) => Ok(pairs.iter().map(taken).collect()),
+    let found = match body.apply(Request::Scan(range)) {
+        Reply::Pairs(pairs) => taken_of(&pairs, taken),
         Reply::Refused(refusal) => Err(refusal.into()),
         _ => Ok(Vec::new()),
-    }
+    };
+    body.forget();
+    found
+}
+
+/// What is taken of each of these, unless there is no memory for it.
+fn taken_of<T>(pairs: &[Pair<'_>], taken: impl FnMut(&Pair<'_>) -> T) -> Result<Vec<T>, Fault> {
+    let size = |(key, value): &Pair<'_>| match value {
+        Value::Text(text) => key.len() + text.len(),
+        Value::Count(_) => key.len() + LONGEST_COUNT,
+    };
+    memory::has_room(pairs.iter().map(size).sum())?;
+    Ok(pairs.iter().map(taken).collect())
 }
 
 /// Where a scan goes on behind these keys, of which there would be more if there were fewer than were asked for; none

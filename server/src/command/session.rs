@@ -104,7 +104,7 @@ impl Session {
     /// Answers a command that is refused; a transaction executes nothing then, but for where it is begun
     /// twice.
     pub(super) fn refuse(&mut self, fault: Fault, replies: &mut Replies) {
-        if fault == Fault::ExecArity {
+        if matches!(fault, Fault::ExecArity | Fault::ExecMaxMemory) {
             self.transaction = None;
         }
         let transaction = self.transaction.as_mut();

@@ -3,6 +3,7 @@ use super::subcommands::Subcommands;
 use super::{BadKey, Fault};
 use crate::body::MAX_KEY;
 use crate::keyspace::Keyspace;
+use crate::memory::CEILING;
 use crate::packed::packed;
 use crate::resp::Command;
 
@@ -98,6 +99,17 @@ pub enum TalkWord {
     Time,
 }
 
+/// What a command does to what keys hold.
+#[derive(Clone, Copy, Debug, PartialEq, Eq)]
+pub enum Effect {
+    /// It changes nothing.
+    Reads,
+    /// It changes it, and has it take no more memory.
+    Frees,
+    /// It changes it, and may have it take more memory: by Redis' word it is `denyoom`.
+    Grows,
+}
+
 /// How a command is written, and what it does.
 #[derive(Debug)]
 pub struct Spec {
@@ -107,8 +119,8 @@ pub struct Spec {
     pub arity: i64,
     /// Which of them are keys.
     pub keys: Keys,
-    /// Whether it changes what keys hold.
-    pub is_write: bool,
+    /// What it does to what keys hold.
+    pub effect: Effect,
     /// What it does.
     pub word: Word,
     /// The first version of the table that has it.
@@ -121,12 +133,12 @@ pub const TABLE: u16 = 2;
 /// That of 0.1.0, of which its processes don't tell.
 pub const FIRST_TABLE: u16 = 1;
 
-const fn data(name: &'static str, arity: i64, keys: Keys, is_write: bool, word: DataWord) -> Spec {
+const fn data(name: &'static str, arity: i64, keys: Keys, effect: Effect, word: DataWord) -> Spec {
     Spec {
         name,
         arity,
         keys,
-        is_write,
+        effect,
         word: Word::Data(word),
         since: FIRST_TABLE,
     }
@@ -141,7 +153,7 @@ const fn other(name: &'static str, arity: i64, word: Word) -> Spec {
         name,
         arity,
         keys: Keys::None,
-        is_write: false,
+        effect: Effect::Reads,
         word,
         since: FIRST_TABLE,
     }
@@ -155,30 +167,30 @@ const fn since_2(spec: Spec) -> Spec {
 /// All commands, by their names.
 pub static COMMANDS: [Spec; 41] = [
     talk("acl", -2, TalkWord::Acl),
-    data("append", 3, Keys::First, true, DataWord::Append),
+    data("append", 3, Keys::First, Effect::Grows, DataWord::Append),
     talk("auth", -2, TalkWord::Auth),
     talk("client", -2, TalkWord::Client),
     talk("command", -1, TalkWord::Command),
     talk("config", -2, TalkWord::Config),
     talk("dbsize", 1, TalkWord::DbSize),
-    data("decr", 2, Keys::First, true, DataWord::Decr),
-    data("decrby", 3, Keys::First, true, DataWord::DecrBy),
-    data("del", -2, Keys::All, true, DataWord::Del),
+    data("decr", 2, Keys::First, Effect::Grows, DataWord::Decr),
+    data("decrby", 3, Keys::First, Effect::Grows, DataWord::DecrBy),
+    data("del", -2, Keys::All, Effect::Frees, DataWord::Del),
     other("discard", 1, Word::Discard),
     talk("echo", 2, TalkWord::Echo),
     other("exec", 1, Word::Exec),
-    data("exists", -2, Keys::All, false, DataWord::Exists),
-    data("get", 2, Keys::First, false, DataWord::Get),
-    since_2(data("getdel", 2, Keys::First, true, DataWord::GetDel)),
-    since_2(data("getrange", 4, Keys::First, false, DataWord::GetRange)),
-    since_2(data("getset", 3, Keys::First, true, DataWord::GetSet)),
+    data("exists", -2, Keys::All, Effect::Reads, DataWord::Exists),
+    data("get", 2, Keys::First, Effect::Reads, DataWord::Get),
+    since_2(data("getdel", 2, Keys::First, Effect::Frees, DataWord::GetDel)),
+    since_2(data("getrange", 4, Keys::First, Effect::Reads, DataWord::GetRange)),
+    since_2(data("getset", 3, Keys::First, Effect::Grows, DataWord::GetSet)),
     talk("hello", -1, TalkWord::Hello),
-    data("incr", 2, Keys::First, true, DataWord::Incr),
-    data("incrby", 3, Keys::First, true, DataWord::IncrBy),
+    data("incr", 2, Keys::First, Effect::Grows, DataWord::Incr),
+    data("incrby", 3, Keys::First, Effect::Grows, DataWord::IncrBy),
     talk("info", -1, TalkWord::Info),
-    data("mget", -2, Keys::All, false, DataWord::MGet),
-    data("mset", -3, Keys::Odd, true, DataWord::MSet),
-    since_2(data("msetnx", -3, Keys::Odd, true, DataWord::MSetNx)),
+    data("mget", -2, Keys::All, Effect::Reads, DataWord::MGet),
+    data("mset", -3, Keys::Odd, Effect::Grows, DataWord::MSet),
+    since_2(data("msetnx", -3, Keys::Odd, Effect::Grows, DataWord::MSetNx)),
     other("multi", 1, Word::Multi),
     talk("ping", -1, TalkWord::Ping),
     talk("quit", -1, TalkWord::Quit),
@@ -186,15 +198,15 @@ pub static COMMANDS: [Spec; 41] = [
     other("scan", -2, Word::Scan),
     other("scanrange", 4, Word::ScanRange),
     talk("select", 2, TalkWord::Select),
-    data("set", -3, Keys::First, true, DataWord::Set),
-    since_2(data("setnx", 3, Keys::First, true, DataWord::SetNx)),
+    data("set", -3, Keys::First, Effect::Grows, DataWord::Set),
+    since_2(data("setnx", 3, Keys::First, Effect::Grows, DataWord::SetNx)),
     other("sm", -2, Word::Control),
-    data("strlen", 2, Keys::First, false, DataWord::StrLen),
-    since_2(data("substr", 4, Keys::First, false, DataWord::GetRange)),
+    data("strlen", 2, Keys::First, Effect::Reads, DataWord::StrLen),
+    since_2(data("substr", 4, Keys::First, Effect::Reads, DataWord::GetRange)),
     since_2(talk("time", 1, TalkWord::Time)),
-    since_2(data("touch", -2, Keys::All, false, DataWord::Exists)),
-    data("type", 2, Keys::First, false, DataWord::Type),
-    since_2(data("unlink", -2, Keys::All, true, DataWord::Del)),
+    since_2(data("touch", -2, Keys::All, Effect::Reads, DataWord::Exists)),
+    data("type", 2, Keys::First, Effect::Reads, DataWord::Type),
+    since_2(data("unlink", -2, Keys::All, Effect::Frees, DataWord::Del)),
 ];
 
 /// How many places the commands' names are spread over, a power of two.
@@ -319,6 +331,15 @@ impl Spec {
         (NUMBERS[index] == number).then(|| &COMMANDS[index])
     }
 
+    /// Refuses a command that may have data take more memory, where too much is in use.
+    #[inline]
+    pub fn check_memory(&self) -> Result<(), Fault> {
+        match self.effect == Effect::Grows && CEILING.is_passed() {
+            true => Err(Fault::MaxMemory),
+            false => Ok(()),
+        }
+    }
+
     /// Refuses a command whose subcommand isn't there, or takes another number of arguments.
     pub fn check_subcommand(&self, command: Command<'_>) -> Result<(), Fault> {
         match self.word {
@@ -379,6 +400,17 @@ impl Spec {
             | Word::Scan
             | Word::ScanRange
             | Word::Control => false,
+        }
+    }
+}
+
+impl Effect {
+    /// Redis' flags of a command with keys.
+    pub fn flags(self) -> &'static [&'static str] {
+        match self {
+            Effect::Reads => &["readonly"],
+            Effect::Frees => &["write"],
+            Effect::Grows => &["write", "denyoom"],
         }
     }
 }

@@ -5,6 +5,7 @@ use super::session::Session;
 use super::spec::{Place, Spec, Word};
 use super::Fault;
 use crate::keyspace::Keyspace;
+use crate::memory::CEILING;
 use crate::resp::Command;
 
 /// What a command does, and the shard of its keys.
@@ -38,6 +39,7 @@ impl Step {
         if spec.word == Word::Control && !session.may_control && !is_of_all(command) {
             return Err(Fault::no_permission(spec.name, command.get(1)));
         }
+        check_memory(session, spec)?;
         let place = spec.place(command, keyspace)?;
         if is_within && spec.is_queued() {
             spec.check_subcommand(command)?;
@@ -65,5 +67,16 @@ impl Step {
             Ok(Step::Data(keyed)) => Some(keyed),
             _ => None,
         }
+    }
+}
+
+/// Refuses what may have more memory be taken, if too much is in use. As in Redis that is all that is queued.
+#[inline]
+fn check_memory(session: &Session, spec: &Spec) -> Result<(), Fault> {
+    match &session.transaction {
+        None => spec.check_memory(),
+        Some(transaction) if spec.word == Word::Exec => transaction.check_memory(),
+        Some(_) if spec.is_queued() && CEILING.is_passed() => Err(Fault::MaxMemory),
+        Some(_) => Ok(()),
     }
 }

@@ -9,6 +9,7 @@ use super::unanswered::Unanswered;
 use super::Fault;
 use crate::body::{MAX_KEY, MAX_TEXT};
 use crate::cluster::Cluster;
+use crate::memory::CEILING;
 use crate::resp::{number, Command, Protocol, Replies};
 use std::time::SystemTime;
 
@@ -280,10 +281,9 @@ fn describe(command: Command<'_>, replies: &mut Replies) -> Result<(), Fault> {
 
 /// As Redis describes a command: name, arity, flags, and the first, last and each further key.
 fn describe_one(spec: &Spec, replies: &mut Replies) {
-    let flag = match spec.word {
-        Word::Data(_) if spec.is_write => "write",
-        Word::Data(_) | Word::Scan | Word::ScanRange => "readonly",
-        Word::Talk(_) | Word::Multi | Word::Exec | Word::Discard | Word::Control => "fast",
+    let flags = match spec.word {
+        Word::Data(_) | Word::Scan | Word::ScanRange => spec.effect.flags(),
+        Word::Talk(_) | Word::Multi | Word::Exec | Word::Discard | Word::Control => &["fast"],
     };
     let (first, last, step) = match spec.keys {
         Keys::None => (0, 0, 0),
@@ -294,8 +294,8 @@ fn describe_one(spec: &Spec, replies: &mut Replies) {
     replies.array(6);
     replies.bulk(spec.name.as_bytes());
     replies.number(spec.arity);
-    replies.array(1);
-    replies.simple(flag);
+    replies.array(flags.len());
+    flags.iter().for_each(|it| replies.simple(it));
     [first, last, step]
         .into_iter()
         .for_each(|it| replies.number(it));
@@ -310,12 +310,13 @@ fn config(command: Command<'_>, cluster: &Cluster, replies: &mut Replies) -> Res
         ("appendonly", "no".to_owned()),
         ("databases", "1".to_owned()),
         ("maxclients", cluster.configuration.most_clients.to_string()),
-        ("maxmemory", "0".to_owned()),
+        ("maxmemory", CEILING.most().to_string()),
+        ("maxmemory-policy", "noeviction".to_owned()),
         ("proto-max-bulk-len", MAX_TEXT.to_string()),
         ("save", String::new()),
         ("timeout", "0".to_owned()),
     ];
-    let mut are_asked = [false; 7];
+    let mut are_asked = [false; 8];
     for written in command.iter().skip(2) {
         let pattern = Pattern::new(&written.to_ascii_lowercase())?;
         let each = are_asked.iter_mut().zip(&known);

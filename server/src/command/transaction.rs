@@ -1,11 +1,12 @@
 use super::data::{self, DataWord};
 use super::session::Session;
-use super::spec::{Spec, TalkWord, Word};
+use super::spec::{Effect, Spec, TalkWord, Word};
 use super::talk;
 use super::unanswered::Unanswered;
 use super::Fault;
 use crate::body::{ShardBody, MAX_TEXT};
 use crate::cluster::Cluster;
+use crate::memory::{self, CEILING};
 use crate::resp::{Command, OwnedCommand, Replies, MAX_ARGUMENTS, MAX_COMMAND};
 
 /// The most bytes of an answer that is a value, its length among them.
@@ -18,11 +19,14 @@ pub struct Transaction {
     shard: Option<u16>,
     size: usize,
     is_aborted: bool,
+    /// Whether a command may have data take more memory.
+    grows: bool,
 }
 
 impl Transaction {
     /// Adds a command with keys of this shard, if it has any.
     pub fn push(&mut self, command: Command<'_>, shard: Option<u16>) -> Result<(), Fault> {
+        let effect = Spec::queued(command)?.effect;
         let size = self.size + command.size();
         if self.commands.len() >= MAX_ARGUMENTS || size > MAX_COMMAND {
             return Err(Fault::QueueFull);
@@ -30,9 +34,11 @@ impl Transaction {
         if self.shard.is_some() && shard.is_some() && self.shard != shard {
             return Err(Fault::CrossShard);
         }
+        memory::reserve(&mut self.commands, 1)?;
+        self.commands.push(OwnedCommand::copied(command)?);
         self.shard = self.shard.or(shard);
         self.size = size;
-        self.commands.push(OwnedCommand::new(command));
+        self.grows |= effect == Effect::Grows;
         Ok(())
     }
 
@@ -47,9 +53,22 @@ impl Transaction {
         self.is_aborted
     }
 
+    /// Refuses EXEC, if it may have data take more memory and too much is in use.
+    pub fn check_memory(&self) -> Result<(), Fault> {
+        match self.grows && !self.is_aborted && CEILING.is_passed() {
+            true => Err(Fault::ExecMaxMemory),
+            false => Ok(()),
+        }
+    }
+
     /// How many commands there are.
     pub fn len(&self) -> u64 {
         self.commands.len() as u64
+    }
+
+    /// How many bytes their arguments have.
+    pub fn size(&self) -> usize {
+        self.size
     }
 
     /// All commands.
@@ -85,7 +104,9 @@ impl Transaction {
     ) {
         let (first, mut is_full) = (replies.mark(), false);
         replies.array(self.commands.len());
-        for command in &self.commands {
+        let left = (0..self.commands.len()).rev();
+        for (command, left) in self.commands.iter().zip(left) {
+            replies.owe(left);
             let (command, mark) = (command.command(), replies.mark());
             let word = Spec::named(command.get(0)).map(|it| it.word);
             let size = Size::of(word, command);
@@ -116,9 +137,12 @@ impl Transaction {
                 ) => Err(Fault::NotQueued.into()),
             };
             is_full |= replies.is_too_large(first);
-            let done = match size == Size::OfRead && replies.is_too_large(first) {
-                true => Err(Fault::ReplyTooLarge.into()),
-                false => done,
+            let done = match replies.are_whole() {
+                Err(refused) => Err(Fault::from(refused).into()),
+                Ok(()) if size == Size::OfRead && replies.is_too_large(first) => {
+                    Err(Fault::ReplyTooLarge.into())
+                }
+                Ok(()) => done,
             };
             if let Err(Unanswered::Fault(fault)) = done {
                 replies.take_back(mark);

@@ -9,6 +9,7 @@ use super::restart::{Restart, Rolling};
 use super::task::{Task, Work};
 use super::Refusal;
 use crate::cluster::Cluster;
+use crate::command::Fault;
 use crate::dump::DumpFault;
 use crate::io::ReplyTo;
 use crate::observer::Observer;
@@ -399,8 +400,12 @@ pub(super) fn send(reply_to: ReplyTo, answer: Result<Answer, Refusal>) {
         }
         Err(refusal) => replies.error(refusal),
     }
+    if let Err(refused) = replies.are_whole() {
+        replies.take_back(0);
+        replies.error(Fault::from(refused));
+    }
     if let Some(errors) = replies.take_errors() {
         reply_to.note_errors(errors);
     }
-    reply_to.send(replies.unsent().to_vec());
+    reply_to.send(replies.into_bytes());
 }

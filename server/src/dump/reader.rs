@@ -2,6 +2,7 @@ use super::checksum::Checksum;
 use super::writer::path_of;
 use super::{DumpFault, Head, ShardHead, MAGIC, VERSION};
 use crate::body::{Reply, Request, Shard, Storage, Value, MAX_KEY, MAX_TEXT};
+use crate::memory;
 use rustix::fs::OFlags;
 use std::fs::{File, OpenOptions};
 use std::io::{BufRead, BufReader, Read};
@@ -107,7 +108,9 @@ impl Dump {
 
     /// Takes so many bytes.
     fn bytes(&mut self, count: usize) -> Result<Vec<u8>, DumpFault> {
-        let mut bytes = vec![0; count];
+        let mut bytes = Vec::new();
+        memory::reserve(&mut bytes, count).map_err(|_| DumpFault::NoMemory)?;
+        bytes.resize(count, 0);
         self.file.read_exact(&mut bytes)?;
         self.sum.take(&bytes);
         Ok(bytes)

@@ -2,6 +2,7 @@ use super::checksum::Checksum;
 use super::reader::opened;
 use super::{DumpFault, Head, MAGIC, VERSION};
 use crate::body::{Range, Refusal, Reply, Request, ShardBody, Value, MAX_PAIRS};
+use crate::memory::{self, NoRoom};
 use std::fs::{self, DirBuilder, File};
 use std::io::{BufWriter, ErrorKind, Read, Write};
 use std::ops::Bound;
@@ -136,34 +137,42 @@ pub(super) fn path_of(folder: &Path, name: &str) -> Result<PathBuf, DumpFault> {
 
 /// The pairs of a shard as they are written, and how many there are; or why they aren't told.
 pub fn shard_text(body: &mut dyn ShardBody) -> Result<(Vec<u8>, u64), Refusal> {
-    let (mut text, mut count, mut last) = (Vec::new(), 0, None::<Vec<u8>>);
+    let (mut text, mut count, mut last, mut most) = (Vec::new(), 0, None::<Vec<u8>>, MAX_PAIRS);
     loop {
         let range = Range {
             low: last.as_deref().map_or(Bound::Unbounded, Bound::Excluded),
             high: None,
-            most: MAX_PAIRS,
+            most,
         };
         let pairs = match body.apply(Request::Scan(range)) {
             Reply::Pairs(pairs) => pairs,
+            // There may be memory for fewer.
+            Reply::Refused(Refusal::NoMemory) if most > 1 => {
+                most /= 2;
+                continue;
+            }
             Reply::Refused(refusal) => return Err(refusal),
             _ => Vec::new(),
         };
         let Some((key, _)) = pairs.last() else {
+            body.forget();
             return Ok((text, count));
         };
-        pairs.iter().for_each(|it| write_pair(*it, &mut text));
+        let mut written = pairs.iter().map(|it| write_pair(*it, &mut text));
+        written.try_for_each(|it| it.map_err(|NoRoom| Refusal::NoMemory))?;
         count += pairs.len() as u64;
         last = Some(key.to_vec());
     }
 }
 
-fn write_pair((key, value): (&[u8], Value<'_>), text: &mut Vec<u8>) {
+fn write_pair((key, value): (&[u8], Value<'_>), text: &mut Vec<u8>) -> Result<(), NoRoom> {
     let length = key.len();
     let (head, tail) = match value {
         Value::Text(told) => (format!("text {length} {}\n", told.len()), told),
         Value::Count(count) => (format!("count {length} {count}\n"), &b""[..]),
     };
     for bytes in [head.as_bytes(), key, tail, b"\n"] {
-        text.extend_from_slice(bytes);
+        memory::append(text, bytes)?;
     }
+    Ok(())
 }

@@ -1,6 +1,6 @@
 use crate::cluster::Cluster;
-use crate::command::memory_used;
 use crate::log;
+use crate::memory::{resident, used, CEILING};
 use crate::peers::Peers;
 use crate::snapshot::Snapshot;
 use crate::stats::{Stats, LATENCY_BOUNDS};
@@ -93,12 +93,22 @@ pub(super) fn text(cluster: &Cluster, snapshot: &Snapshot) -> prometheus::Result
     uptime.set(&[], cluster.started.elapsed().as_secs());
     let dropped = Family::new(&registry, "log_lines_dropped_total", DROPPED, &[])?;
     dropped.set(&[], log::dropped());
-    let memory = Family::new(&registry, "memory_bytes", "Memory of the process", &[])?;
-    memory.set(&[], memory_used());
+    memory(&registry)?;
     let mut text = Vec::new();
     TextEncoder::new().encode(&registry.gather(), &mut text)?;
     text.extend_from_slice(latencies(cluster).as_bytes());
     Ok(text)
+}
+
+fn memory(registry: &Registry) -> prometheus::Result<()> {
+    for (name, help, bytes) in [
+        ("memory_bytes", "Memory of the process", resident()),
+        ("memory_used_bytes", "Memory that is in use", used()),
+        ("memory_max_bytes", "--max-memory, or 0", CEILING.most()),
+    ] {
+        Family::new(registry, name, help, &[])?.set(&[], bytes);
+    }
+    Ok(())
 }
 
 /// How long commands took, as a histogram.

@@ -1,5 +1,6 @@
 use super::{metrics, undated};
 use crate::cluster::Cluster;
+use crate::memory;
 use crate::observer::Observer;
 use crate::run::Fault;
 use crate::snapshot::Snapshot;
@@ -24,6 +25,11 @@ use tokio_openssl::SslStream;
 
 const PAGE: &str = include_str!("page.html");
 const TEXT: &str = "text/plain; charset=utf-8";
+
+const NO_MEMORY: &str = "memory was refused: try again\n";
+/// How much memory there has to be to tell of all shards: so much, and so much for each.
+const LEAST_ROOM: usize = 256 << 10;
+const ROOM_OF_SHARD: usize = 4 << 10;
 
 /// How long a connection lasts at most.
 const LASTS: Duration = Duration::from_secs(60);
@@ -115,6 +121,9 @@ impl Site {
         }
         match request.uri().path() {
             "/" => told(StatusCode::OK, "text/html; charset=utf-8", PAGE),
+            "/state.json" | "/metrics" if self.has_no_room() => {
+                told(StatusCode::SERVICE_UNAVAILABLE, TEXT, NO_MEMORY)
+            }
             "/state.json" => self.state().unwrap_or_else(|it| failed(&*it)),
             "/metrics" => self.metrics().unwrap_or_else(|it| failed(&*it)),
             "/healthz" => told(StatusCode::OK, TEXT, "ok\n"),
@@ -124,6 +133,12 @@ impl Site {
                 "/, /metrics, /healthz, /state.json\n",
             ),
         }
+    }
+
+    /// Whether there is no memory to tell of all shards.
+    fn has_no_room(&self) -> bool {
+        let shards = usize::from(self.cluster.shards());
+        memory::has_room(LEAST_ROOM + ROOM_OF_SHARD * shards).is_err()
     }
 
     /// How all stands. Who looked is gone then, so that no earlier board is kept for it.

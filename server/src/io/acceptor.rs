@@ -1,12 +1,18 @@
 use super::inlet::{Inlet, WAKE};
 use super::stream::Stream;
 use crate::cluster::Cluster;
+use crate::memory;
 use mio::net::{TcpListener, TcpStream};
 use mio::{Events, Interest, Poll, Token, Waker};
 use std::io::{self, ErrorKind};
 use std::net::SocketAddr;
 use std::sync::Arc;
 use std::time::{Duration, Instant};
+
+/// How much memory there has to be for one more client, which has much less at first.
+const ROOM_OF_CLIENT: usize = 128 << 10;
+/// What a client is told for which there isn't.
+const NO_MEMORY: &[u8] = b"-OOM memory was refused for one more client: try again\r\n";
 
 const LISTENER: Token = Token(0);
 /// How long nothing is accepted after the system had no room for a connection.
@@ -122,6 +128,12 @@ impl Acceptor {
             // By TLS nothing can be told yet.
             if self.cluster.configuration.safety.tls.is_none() {
                 Stream::Plain(socket).refuse();
+            }
+            return;
+        }
+        if memory::has_room(ROOM_OF_CLIENT).is_err() {
+            if self.cluster.configuration.safety.tls.is_none() {
+                Stream::Plain(socket).refuse_for(NO_MEMORY);
             }
             return;
         }

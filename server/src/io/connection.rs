@@ -2,16 +2,20 @@ use super::arrived::Arrived;
 use super::caller::Caller;
 use super::stream::Stream;
 use crate::command::{Asked, Executor, Session, Stop, MOST_OF_A_STRANGER};
+use crate::memory::{self, NoRoom, CEILING};
 use crate::resp::{Oversized, OwnedCommand, ReadAway, Replies};
 use crate::stats::ErrorCounts;
 use crate::wait::Wait;
 use mio::event::Event;
 use std::io::{self, ErrorKind};
+use std::iter;
 use std::sync::Arc;
 use std::time::{Duration, Instant};
 
 /// How many bytes of a client that is known are unsent before nothing more is read.
 const MOST_UNSENT: usize = 256 << 10;
+/// How many bytes are taken at once of a command for which there is no memory.
+const PIECE: usize = 2 << 10;
 /// How long a command waits at least for a shard that other threads have, of which each has it for a short time.
 const LEAST_BUSY_WAIT: Duration = Duration::from_secs(1);
 
@@ -168,9 +172,11 @@ impl Connection {
         self.session.may_guess = true;
     }
 
-    /// Takes the answer that was owed, and says for how long it was.
-    pub(super) fn take_answer(&mut self, bytes: &[u8]) -> Duration {
-        self.replies.append(bytes);
+    /// Takes the answer that was owed, and says for how long it was. If there is no memory for it beside others, the
+    /// connection ends.
+    pub(super) fn take_answer(&mut self, bytes: Vec<u8>) -> Duration {
+        self.replies.append_owned(bytes);
+        self.is_last |= self.replies.are_whole().is_err();
         self.owed_since
             .take()
             .map_or(Duration::ZERO, |it| it.elapsed())
@@ -218,7 +224,8 @@ impl Connection {
         wait: Duration,
     ) -> io::Result<Turn> {
         self.send(executor)?;
-        let is_full = self.replies.unsent().len() >= self.session.most_unsent(MOST_UNSENT);
+        let is_full = self.replies.unsent().len() >= self.session.most_unsent(MOST_UNSENT)
+            || !self.replies.has_room_for_one();
         if self.is_last && self.is_sent() {
             return Ok(Turn::Over);
         }
@@ -387,17 +394,53 @@ impl Connection {
         let has_more = self.stream.may_have_more(count, buffer.len());
         self.is_readable = count > 0 && (has_more || self.is_half_closed);
         executor.admission().stats().received.add(count as u64);
+        CEILING.note_came(count);
         if !self.input.is_empty() || self.read_away.is_some() {
-            self.input.extend_from_slice(&buffer[..count]);
-            return Ok(match self.input.len() >= self.needs {
-                true => self.execute_input(executor),
-                false => Stop::Incomplete(self.needs),
-            });
+            return self.go_on_by(executor, &buffer[..count]);
         }
         let (session, replies) = (&mut self.session, &mut self.replies);
         let (done, stop) = executor.run(session, &buffer[..count], replies);
-        self.input.extend_from_slice(&buffer[done..count]);
-        Ok(stop)
+        self.keep(&buffer[done..count], stop, executor)
+    }
+
+    /// Keeps what is left where commands ended so.
+    fn keep(&mut self, left: &[u8], stop: Stop, executor: &mut Executor) -> io::Result<Stop> {
+        let kept = match stop {
+            Stop::Incomplete(_) => memory::append(&mut self.input, left),
+            // Whole commands are left, of which none can be refused before its turn.
+            _ => memory::append_surely(&mut self.input, left),
+        };
+        match (kept, &stop) {
+            (Ok(()), _) => Ok(stop),
+            (Err(NoRoom), Stop::Incomplete(_)) => self.go_on_by(executor, left),
+            (Err(NoRoom), _) => Err(ErrorKind::OutOfMemory.into()),
+        }
+    }
+
+    /// Goes on with a command by these further bytes of it, and does it if it is whole.
+    fn go_on_by(&mut self, executor: &mut Executor, more: &[u8]) -> io::Result<Stop> {
+        if memory::append(&mut self.input, more).is_err() {
+            self.give_up(more)?;
+            return Ok(self.execute_input(executor));
+        }
+        Ok(match self.input.len() >= self.needs {
+            true => self.execute_input(executor),
+            false => Stop::Incomplete(self.needs),
+        })
+    }
+
+    /// Keeps nothing of a command for whose further bytes there is no memory: it is refused at its end.
+    fn give_up(&mut self, more: &[u8]) -> io::Result<()> {
+        let begun = || Box::new((ReadAway::default(), Oversized::Memory));
+        let (away, _) = &mut **self.read_away.get_or_insert_with(begun);
+        // There is room for a few at a time, of which hardly any stay.
+        for piece in iter::once(&[][..]).chain(more.chunks(PIECE)) {
+            let kept = memory::append(&mut self.input, piece);
+            kept.map_err(|_| ErrorKind::OutOfMemory)?;
+            let taken = away.take(&self.input).map_err(io::Error::other)?;
+            self.input.drain(..taken.bytes);
+        }
+        Ok(())
     }
 
     /// Sends what the socket takes.

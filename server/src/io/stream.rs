@@ -22,7 +22,12 @@ impl Stream {
 
     /// Says that there is no place. Whether the client reads that or not, it is let go.
     pub(super) fn refuse(&mut self) {
-        let _ = self.write(FULL);
+        self.refuse_for(FULL);
+    }
+
+    /// The same for another reason.
+    pub(super) fn refuse_for(&mut self, why: &[u8]) {
+        let _ = self.write(why);
     }
 
     /// Whether bytes may have come for which there will be no event, because they came with the handshake.

@@ -10,6 +10,7 @@ use crate::cluster::Cluster;
 use crate::command::{is_of_all, Asked as AskedOfShards, Executor, Session};
 use crate::control::{Asked, Refusal};
 use crate::keep_alive;
+use crate::memory;
 use crate::resp::OwnedCommand;
 use crate::wait::Wait;
 use mio::{Events, Interest, Poll, Token};
@@ -216,7 +217,7 @@ impl Worker {
         for answer in answers {
             let connection = self.connections.get_mut(answer.place);
             if let Some(connection) = connection.filter(|it| it.session.id == answer.id) {
-                let took = connection.take_answer(&answer.bytes);
+                let took = connection.take_answer(answer.bytes);
                 if answer.commands > 0 {
                     let stats = self.inlet.stats();
                     stats.commands.add(answer.commands);
@@ -240,6 +241,11 @@ impl Worker {
         let interest = Interest::READABLE | Interest::WRITABLE;
         let registry = self.poll.registry();
         registry.register(arrived.stream.socket(), Token(place), interest)?;
+        if self.connections.len() == self.connections.capacity() {
+            // A list that grows has twice as much, beside what it had.
+            let more = 2 * (self.connections.len() + 1) * size_of::<Connection>();
+            memory::has_room(more).map_err(|_| ErrorKind::OutOfMemory)?;
+        }
         let safety = &self.cluster.configuration.safety;
         let connection = Connection::new(arrived, Session::of(id, from, safety));
         let is_known = connection.stranger_since().is_none();

@@ -9,11 +9,13 @@ use super::place::Place;
 use super::received::Received;
 use super::strangers::Stranger;
 use super::{Identity, WireFault};
-use crate::command::{is_of_all, step_of_spelled};
+use crate::command::{check_memory_of, is_of_all, step_of_spelled};
 use crate::control::Asked;
 use crate::io::ReplyTo;
 use crate::keyspace::Keyspace;
+use crate::memory::CEILING;
 use crate::resp::OwnedCommand;
+use crate::resp::Replies;
 use durkenzo_driver::{NotDone, Step};
 use std::io::{self, ErrorKind, Read, Write};
 use std::net::TcpStream;
@@ -144,6 +146,13 @@ impl Serving {
     /// The step of a work that is spelled so. One that isn't known here, as a process of a later version may send it,
     /// is refused alone.
     fn step(&self, spelled: &[u8], shard: u16, teller: Teller) -> Option<Step> {
+        CEILING.note_came(spelled.len());
+        if let Err(fault) = check_memory_of(spelled) {
+            let mut refused = Replies::default();
+            refused.error(fault);
+            teller.tell(Told::Answer(refused.into_bytes()));
+            return None;
+        }
         let told = teller.clone();
         let reply_to = ReplyTo::process(move |bytes| told.tell(Told::Answer(bytes)));
         let cluster = self.inner.cluster();

@@ -1,5 +1,6 @@
 use super::arguments::Span;
 use super::{parse, Arguments};
+use crate::memory::{self, NoRoom};
 use std::io::Write;
 
 /// A command: its name and its arguments, which may be any bytes.
@@ -71,7 +72,20 @@ pub struct OwnedCommand {
 impl OwnedCommand {
     /// A copy of the command.
     pub fn new(command: Command<'_>) -> OwnedCommand {
-        let (mut bytes, mut spans) = (Vec::with_capacity(command.size()), Vec::new());
+        let bytes = Vec::with_capacity(command.size());
+        OwnedCommand::within(command, bytes, Vec::with_capacity(command.len()))
+    }
+
+    /// The same, unless memory is refused for it.
+    pub fn copied(command: Command<'_>) -> Result<OwnedCommand, NoRoom> {
+        let (mut bytes, mut spans) = (Vec::new(), Vec::new());
+        memory::reserve(&mut bytes, command.size())?;
+        memory::reserve(&mut spans, command.len())?;
+        Ok(OwnedCommand::within(command, bytes, spans))
+    }
+
+    /// A copy that lies in these, which are empty.
+    fn within(command: Command<'_>, mut bytes: Vec<u8>, mut spans: Vec<Span>) -> OwnedCommand {
         for argument in command.iter() {
             let start = bytes.len();
             bytes.extend_from_slice(argument);

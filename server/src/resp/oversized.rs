@@ -8,6 +8,8 @@ pub enum Oversized {
     Arguments,
     /// Too many bytes.
     Bytes,
+    /// More bytes than there is memory for now.
+    Memory,
 }
 
 impl fmt::Display for Oversized {
@@ -18,6 +20,7 @@ impl fmt::Display for Oversized {
                 "a command has at most {MAX_ARGUMENTS} arguments, its name among them"
             ),
             Oversized::Bytes => write!(f, "a command has at most {MAX_COMMAND} bytes"),
+            Oversized::Memory => f.write_str("there is no memory for the command now"),
         }
     }
 }

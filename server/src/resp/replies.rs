@@ -1,4 +1,5 @@
 use super::number::Line;
+use crate::memory::{self, NoRoom};
 use crate::stats::ErrorCounts;
 use std::fmt::Display;
 use std::io::Write;
@@ -7,6 +8,11 @@ use std::io::Write;
 pub const MAX_REPLY: usize = 8 << 20;
 /// Room that isn't kept once all was sent; and what was sent is kept no longer than until it is as much.
 const KEPT_ROOM: usize = 16 << 10;
+
+/// The most bytes of a short reply, as an error: where there are this many already, room for one more is reserved before
+/// a command is done.
+const SHORT: usize = 512;
+const FEW: usize = 4 << 10;
 
 /// The version of the protocol in which a client is answered.
 #[derive(Clone, Copy, Debug, Default, PartialEq, Eq)]
@@ -27,6 +33,10 @@ pub struct Replies {
     pub protocol: Protocol,
     error_count: u64,
     errors: ErrorCounts,
+    /// For how many short replies room is kept, beside one.
+    owed: usize,
+    /// Whether memory was refused for something long of the last reply.
+    is_cut: bool,
 }
 
 impl Replies {
@@ -61,9 +71,75 @@ impl Replies {
         }
     }
 
+    /// Whether there is room for a short reply: else what is there is sent before another command is done.
+    #[inline]
+    pub fn has_room_for_one(&mut self) -> bool {
+        self.bytes.len() < FEW || self.reserve(0).is_ok()
+    }
+
+    /// Keeps room for so many short replies, and for one behind them, until [`Replies::owe`] says that it is for fewer;
+    /// refused where memory is.
+    pub fn keep_room(&mut self, count: usize) -> Result<(), NoRoom> {
+        // What says how many they are is one more.
+        memory::reserve(&mut self.bytes, SHORT * (2 + count))?;
+        self.owe(count);
+        Ok(())
+    }
+
+    /// Keeps room for so many short replies alone behind the next one.
+    pub fn owe(&mut self, count: usize) {
+        self.owed = count;
+    }
+
+    /// Has room for so many more bytes, and for all that it is kept for.
+    #[inline]
+    fn reserve(&mut self, more: usize) -> Result<(), NoRoom> {
+        let are_few = self.owed == 0 && self.bytes.len() + more < FEW;
+        let kept = if are_few { 0 } else { SHORT * (1 + self.owed) };
+        let more = more + kept;
+        match self.bytes.capacity() - self.bytes.len() >= more {
+            true => Ok(()),
+            false => memory::reserve(&mut self.bytes, more),
+        }
+    }
+
+    /// Writes what may be long; or notes that memory was refused for it.
+    fn put(&mut self, bytes: &[u8]) {
+        match self.reserve(bytes.len()) {
+            Ok(()) => self.bytes.extend_from_slice(bytes),
+            Err(NoRoom) => self.is_cut = true,
+        }
+    }
+
+    /// Refused where memory was for a part of the last reply, which is to be taken back then.
+    #[inline]
+    pub fn are_whole(&self) -> Result<(), NoRoom> {
+        match self.is_cut {
+            true => Err(NoRoom),
+            false => Ok(()),
+        }
+    }
+
     /// A whole reply that was written elsewhere, in the same version.
     pub fn append(&mut self, reply: &[u8]) {
-        self.bytes.extend_from_slice(reply);
+        match reply.len() <= SHORT {
+            true => self.bytes.extend_from_slice(reply),
+            false => self.put(reply),
+        }
+    }
+
+    /// The same, of which nothing is copied where there is no other one.
+    pub fn append_owned(&mut self, reply: Vec<u8>) {
+        match self.bytes.is_empty() {
+            true => self.bytes = reply,
+            false => self.put(&reply),
+        }
+    }
+
+    /// All of it that wasn't sent.
+    pub fn into_bytes(mut self) -> Vec<u8> {
+        self.bytes.drain(..self.sent);
+        self.bytes
     }
 
     /// A whole reply of another process, in the same version, which is counted where it is an error.
@@ -72,7 +148,7 @@ impl Replies {
         let line = reply.strip_prefix(b"-");
         let line = line.and_then(|it| it.strip_suffix(b"\r\n"));
         self.append(reply);
-        if line.is_some() {
+        if line.is_some() && !self.is_cut {
             let end = self.bytes.len() - 2;
             self.count_error(start, end);
         }
@@ -106,6 +182,7 @@ impl Replies {
     /// Takes back what was written since the mark.
     pub fn take_back(&mut self, mark: usize) {
         self.bytes.truncate(mark);
+        self.is_cut = false;
     }
 
     /// The word OK.
@@ -186,28 +263,33 @@ impl Replies {
 
     /// Any bytes.
     pub fn bulk(&mut self, bytes: &[u8]) {
-        self.length(b'$', bytes.len());
-        self.bytes.extend_from_slice(bytes);
-        self.bytes.extend_from_slice(b"\r\n");
+        self.text_of(b'$', &[], bytes);
+    }
+
+    /// Text of this kind, by its length.
+    fn text_of(&mut self, kind: u8, front: &[u8], bytes: &[u8]) {
+        let length = front.len() + bytes.len();
+        let line = Line::new(kind, length as i64);
+        if self.reserve(line.as_bytes().len() + length + 2).is_err() {
+            self.is_cut = true;
+            return;
+        }
+        for part in [line.as_bytes(), front, bytes, b"\r\n"] {
+            self.bytes.extend_from_slice(part);
+        }
     }
 
     /// A text for people, which is shown as it is.
     pub fn text(&mut self, text: &str) {
         match self.protocol {
             Protocol::Two => self.bulk(text.as_bytes()),
-            Protocol::Three => {
-                let kind = b"txt:";
-                self.length(b'=', kind.len() + text.len());
-                self.bytes.extend_from_slice(kind);
-                self.bytes.extend_from_slice(text.as_bytes());
-                self.bytes.extend_from_slice(b"\r\n");
-            }
+            Protocol::Three => self.text_of(b'=', b"txt:", text.as_bytes()),
         }
     }
 
     /// That there is nothing.
     pub fn null(&mut self) {
-        self.bytes.extend_from_slice(match self.protocol {
+        self.put(match self.protocol {
             Protocol::Two => b"$-1\r\n",
             Protocol::Three => b"_\r\n",
         });
@@ -228,8 +310,7 @@ impl Replies {
 
     fn length(&mut self, kind: u8, length: usize) {
         let length = i64::try_from(length).unwrap_or(i64::MAX);
-        self.bytes
-            .extend_from_slice(Line::new(kind, length).as_bytes());
+        self.put(Line::new(kind, length).as_bytes());
     }
 }
 

@@ -78,7 +78,7 @@ impl Map {
     #[inline]
     pub fn lend(&mut self, request: &Request<'_>) -> Result<LentReply<'_>, MapFault> {
         let parts = self.call(request)?;
-        Ok(LentReply::of(&mut self.reply, &parts))
+        LentReply::of(&mut self.reply, &parts)
     }
 
     // The parts of the reply, of which its handle keeps the bytes.
@@ -111,7 +111,7 @@ impl Map {
     ///
     /// # Errors
     ///
-    /// `EmptyKey` or `KeyTooLong`.
+    /// `EmptyKey`, `KeyTooLong`, or `NoMemory` if the room can't grow.
     #[inline]
     pub fn get_in<'a>(
         &mut self,
@@ -122,7 +122,10 @@ impl Map {
         let mut parts = self.parts_in(key, room)?;
         // A text alone has a length.
         if parts.kind == 2 && parts.length > room.len() {
-            room.resize(parts.length.next_power_of_two(), 0);
+            let length = parts.length.next_power_of_two();
+            let reserved = room.try_reserve_exact(length - room.len());
+            reserved.map_err(|_| MapFault::NoMemory)?;
+            room.resize(length, 0);
             parts = self.parts_in(key, room)?;
         }
         Ok(match parts.kind {
@@ -213,7 +216,7 @@ impl Map {
     /// Those of [`Map::ask`], `WrongKind` where the key holds a text, or `Overflow`.
     pub fn add(&mut self, key: impl AsRef<[u8]>, amount: i64) -> Result<i64, MapFault> {
         let parts = self.made(&Request::Add(key.as_ref(), amount))?;
-        match LentReply::of(&mut self.reply, &parts) {
+        match LentReply::of(&mut self.reply, &parts)? {
             LentReply::Count(sum) => Ok(sum),
             other => unreachable!("an addition replied {other:?}"),
         }

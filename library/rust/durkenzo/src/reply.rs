@@ -53,8 +53,8 @@ pub enum Reply {
 
 impl Reply {
     /// The reply with these parts, which the handle keeps.
-    pub(crate) fn of(handle: &mut Handle, parts: &ReplyParts) -> Reply {
-        LentReply::of(handle, parts).into()
+    pub(crate) fn of(handle: &mut Handle, parts: &ReplyParts) -> Result<Reply, MapFault> {
+        LentReply::of(handle, parts).map(Into::into)
     }
 }
 
@@ -81,19 +81,22 @@ pub enum LentReply<'a> {
 
 impl<'a> LentReply<'a> {
     #[inline]
-    pub(crate) fn of(handle: &'a mut Handle, parts: &ReplyParts) -> LentReply<'a> {
+    pub(crate) fn of(
+        handle: &'a mut Handle,
+        parts: &ReplyParts,
+    ) -> Result<LentReply<'a>, MapFault> {
         let length = parts.length;
-        match parts.kind {
+        Ok(match parts.kind {
             0 => LentReply::Nothing,
             1 => LentReply::Done,
             2 => LentReply::Text(LentText { handle, length }),
             3 => LentReply::Count(parts.count),
-            4 => LentReply::Pairs(pairs_of(handle, length)),
+            4 => LentReply::Pairs(pairs_of(handle, length)?),
             5 => LentReply::WrongKind,
             6 => LentReply::Overflow,
             7 => LentReply::TextTooLong,
             other => unreachable!("a reply of kind {other}"),
-        }
+        })
     }
 }
 
@@ -163,14 +166,23 @@ impl LentText<'_> {
     }
 }
 
-/// So many pairs, which are all of the reply.
-fn pairs_of(handle: &mut Handle, count: usize) -> Vec<(Vec<u8>, Value)> {
+/// So many pairs, which are all of the reply; or `NoMemory`.
+fn pairs_of(handle: &mut Handle, count: usize) -> Result<Vec<(Vec<u8>, Value)>, MapFault> {
     (0..count).map(|at| pair_of(handle, at)).collect()
 }
 
-/// The pair at this place of the reply.
-fn pair_of(handle: &mut Handle, at: usize) -> (Vec<u8>, Value) {
-    let (mut parts, mut key, mut length) = (ReplyParts::default(), vec![0; MAX_KEY], 0);
+/// Room for so many bytes; or `NoMemory`.
+fn room(length: usize) -> Result<Vec<u8>, MapFault> {
+    let mut room = Vec::new();
+    room.try_reserve_exact(length)
+        .map_err(|_| MapFault::NoMemory)?;
+    room.resize(length, 0);
+    Ok(room)
+}
+
+/// The pair at this place of the reply; or `NoMemory`.
+fn pair_of(handle: &mut Handle, at: usize) -> Result<(Vec<u8>, Value), MapFault> {
+    let (mut parts, mut key, mut length) = (ReplyParts::default(), room(MAX_KEY)?, 0);
     // SAFETY: the handle is borrowed alone, and the rooms are this call's.
     let code = unsafe { raw::durkenzo_pair(handle, at, &mut parts) };
     assert_eq!(code, 0, "a reply has its pairs");
@@ -180,12 +192,12 @@ fn pair_of(handle: &mut Handle, at: usize) -> (Vec<u8>, Value) {
     assert_eq!(code, 0, "a key has at most 255 bytes");
     key.truncate(length);
     if parts.kind == 3 {
-        return (key, Value::Count(parts.count));
+        return Ok((key, Value::Count(parts.count)));
     }
-    let mut text = vec![0; parts.length];
+    let mut text = room(parts.length)?;
     // SAFETY: as above.
     let code =
         unsafe { raw::durkenzo_pair_text(handle, at, text.as_mut_ptr(), text.len(), &mut length) };
     assert_eq!((code, length), (0, parts.length), "a text has its length");
-    (key, Value::Text(text))
+    Ok((key, Value::Text(text)))
 }

@@ -9,6 +9,7 @@ use crate::reply::Reply;
 use crate::request::Request;
 use crate::sent::Sent;
 use crate::service::Texts;
+use std::alloc::{self, handle_alloc_error};
 use std::error::Error;
 use std::fmt;
 use std::sync::Arc;
@@ -193,6 +194,8 @@ fn answer_of(mut envelope: Envelope) -> Answer {
     let code = unsafe { raw::durkenzo_answer(&mut envelope.handle, &mut parts, &mut reply) };
     assert_eq!(code, 0, "a served envelope keeps its answer");
     let reply = Reply::of(&mut envelope.handle, &reply);
+    // What was made isn't refused any more.
+    let reply = reply.unwrap_or_else(|_| handle_alloc_error(alloc::Layout::new::<Reply>()));
     Answer::new(envelope, &parts, reply)
 }
 

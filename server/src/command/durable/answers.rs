@@ -3,6 +3,9 @@ use crate::io::{Caller, ReplyTo};
 use crate::resp::{Protocol, Replies};
 use std::sync::{Arc, Mutex, PoisonError};
 
+/// What is told in place of another process' answer for which there is no memory.
+const NO_ROOM: &str = "UNKNOWN memory was refused for the answer: read before you try again";
+
 /// Where parts of a connection's next answer are gathered, which is sent once all are there.
 pub(super) struct Answers {
     protocol: Protocol,
@@ -74,6 +77,10 @@ impl Answers {
     pub(super) fn bring_bytes(&self, place: usize, answer: &[u8]) {
         let mut part = self.part();
         part.append_told(answer);
+        if part.are_whole().is_err() {
+            part.take_back(0);
+            part.error(NO_ROOM);
+        }
         self.bring(place, part);
     }
 
@@ -92,7 +99,7 @@ impl Answers {
             if let Some(errors) = answer.take_errors() {
                 reply_to.note_errors(errors);
             }
-            reply_to.send_of(answer.unsent().to_vec(), self.commands);
+            reply_to.send_of(answer.into_bytes(), self.commands);
         }
     }
 }

@@ -2,7 +2,7 @@ use super::begin::written_once;
 use super::ranging::Ranging;
 use super::scanning::Scanning;
 use super::Asked;
-use crate::body::MAX_TEXT;
+use crate::body::{MAX_PAIRS, MAX_TEXT};
 use crate::command::by_key::ByKey;
 use crate::command::cursors::{Cursors, OwnCursors};
 use crate::command::data::DataWord;
@@ -14,6 +14,7 @@ use crate::command::transaction::Transaction;
 use crate::command::wanted::{cursor_of, Wanted, WantedRange};
 use crate::command::Fault;
 use crate::keyspace::Keyspace;
+use crate::memory::{self, NoRoom};
 use crate::resp::{number, Command, OwnedCommand, Protocol};
 use durkenzo_driver::Numbered;
 use std::collections::HashSet;
@@ -21,6 +22,8 @@ use std::collections::HashSet;
 /// How many texts are read at once at most, so that others come to the shard, and the answers have a bound: that of
 /// one command may have more.
 const MOST_AT_ONCE: usize = 128;
+/// How often what a command takes or reads lies in memory at once while it is done, at most.
+const COPIES: usize = 3;
 /// How many arguments a transaction's commands have at most, beside their names.
 const MOST_ARGUMENTS: usize = 4_096;
 
@@ -38,7 +41,7 @@ pub fn gather(
     // Where it is refused, that is found again.
     let asked = match Step::of(session, command, keyspace).ok() {
         Some(Step::Data((word, shard))) => {
-            let commands = run_of(word, shard, reader, session, keyspace);
+            let commands = run_of(word, shard, reader, session, keyspace)?;
             return Ok(Some(Asked::keyed(protocol, shard, commands)));
         }
         Some(Step::Each(word)) => each(word, command, keyspace, protocol)?,
@@ -66,14 +69,18 @@ fn run_of(
     reader: &mut Reader<'_>,
     session: &Session,
     keyspace: &Keyspace,
-) -> Vec<(DataWord, OwnedCommand)> {
+) -> Result<Vec<(DataWord, OwnedCommand)>, Fault> {
     let (mut commands, mut texts) = (Vec::new(), 0);
     while let Ok(command) = reader.peek() {
         texts += texts_of(word, command);
         if texts > MOST_AT_ONCE && !commands.is_empty() {
             break;
         }
-        commands.push((word, OwnedCommand::new(command)));
+        match copied(word, command, texts) {
+            Ok(copied) => commands.push((word, copied)),
+            Err(refused) if commands.is_empty() => return Err(refused.into()),
+            Err(_) => break,
+        }
         reader.advance();
         let next = reader.peek().ok();
         match next.and_then(|it| Step::keyed(session, it, keyspace)) {
@@ -81,7 +88,22 @@ fn run_of(
             _ => break,
         }
     }
-    commands
+    Ok(commands)
+}
+
+/// A copy of the command, if there is memory to do it with all that is asked at once, which reads so many texts.
+fn copied(word: DataWord, command: Command<'_>, texts: usize) -> Result<OwnedCommand, NoRoom> {
+    has_room(word, command, texts)?;
+    OwnedCommand::copied(command)
+}
+
+/// Whether there is memory to do the command with others, with which it reads so many texts. What deletes reads none.
+fn has_room(word: DataWord, command: Command<'_>, texts: usize) -> Result<(), NoRoom> {
+    let texts = match word {
+        DataWord::Del => 0,
+        _ => texts.min(MOST_AT_ONCE),
+    };
+    memory::has_room(COPIES * (command.size() + texts * MAX_TEXT))
 }
 
 /// How many texts the command reads, or 1.
@@ -121,6 +143,8 @@ fn each(
         ByKey::MSet => pairs(command, keyspace)?,
         ByKey::Del | ByKey::Exists | ByKey::MGet => keys(command, keyspace)?,
     };
+    let texts = texts_of(word.word(), command);
+    has_room(word.word(), command, texts)?;
     Ok(Asked::each(protocol, word, parts))
 }
 
@@ -162,10 +186,7 @@ fn asked_by(
         // Over shards nothing goes within a transaction, which is told where that is.
         Word::Scan | Word::ScanRange if session.transaction.is_some() => Ok(None),
         Word::Scan => scan(command, (cursors, session.cursors()), keyspace, protocol).map(Some),
-        Word::ScanRange => {
-            let walk = Ranging::new(&WantedRange::of(command)?, keyspace);
-            Ok(Some(Asked::walk(protocol, Box::new(walk))))
-        }
+        Word::ScanRange => range(command, keyspace, protocol).map(Some),
         Word::Talk(TalkWord::DbSize) => Ok(Some(Asked::count(protocol))),
         Word::Control if command.is(1, "AT") => Err(Fault::NotDurable("sm at")),
         Word::Control if command.is(1, "CALL") => {
@@ -178,6 +199,8 @@ fn asked_by(
                 return Ok(None);
             };
             let shard = transaction.shard().unwrap_or_default();
+            let texts = transaction.arguments().min(MOST_AT_ONCE);
+            memory::has_room(COPIES * (transaction.size() + texts * MAX_TEXT))?;
             if transaction.arguments() > MOST_ARGUMENTS {
                 return Err(Fault::QueueOfMany(MOST_ARGUMENTS));
             }
@@ -195,10 +218,18 @@ fn scan(
     keyspace: &Keyspace,
     protocol: Protocol,
 ) -> Result<Asked, Fault> {
+    memory::has_room(COPIES * MAX_PAIRS * MAX_TEXT)?;
     let cursor = cursor_of(command)?;
     let wanted = Wanted::of(command)?;
     let next = cursors.position(cursor, own).ok_or(Fault::BadCursor)?;
     let walk = Scanning::new(wanted, next, keyspace.shards(), own.clone());
+    Ok(Asked::walk(protocol, Box::new(walk)))
+}
+
+/// What SCANRANGE asks.
+fn range(command: Command<'_>, keyspace: &Keyspace, protocol: Protocol) -> Result<Asked, Fault> {
+    memory::has_room(COPIES * MAX_PAIRS * MAX_TEXT)?;
+    let walk = Ranging::new(&WantedRange::of(command)?, keyspace);
     Ok(Asked::walk(protocol, Box::new(walk)))
 }
 
@@ -218,6 +249,7 @@ fn called(
     };
     let inner = command.from(4);
     let spec = Spec::of(inner)?;
+    spec.check_memory()?;
     let (Some(word), Some(shard)) = (spec.word.data(), spec.place(inner, keyspace)?.one()?) else {
         return Err(Fault::NotNumbered);
     };
@@ -225,7 +257,7 @@ fn called(
         return Err(Fault::NotNumbered);
     }
     let numbered = Numbered { client, number };
-    let command = OwnedCommand::new(inner);
+    let command = copied(word, inner, texts_of(word, inner))?;
     Ok(Asked::numbered(protocol, shard, numbered, (word, command)))
 }
 

@@ -38,7 +38,13 @@ fn in_order(parts: Vec<Option<Replies>>, empty: Replies) -> Replies {
     let mut parts = parts.into_iter().flatten();
     let first = parts.next().unwrap_or(empty);
     parts.fold(first, |mut all, part| {
+        let mark = all.mark();
         all.take_over(part);
+        // Only what was read has so long an answer.
+        if let Err(refused) = all.are_whole() {
+            all.take_back(mark);
+            all.error(Fault::from(refused));
+        }
         all
     })
 }
@@ -68,9 +74,13 @@ fn of_each(word: ByKey, parts: Vec<Option<Replies>>, mut answer: Replies) -> Rep
             answer.count(parts.iter().map(|it| count_of(it.unsent())).sum())
         }
     }
-    if !is_whole || answer.is_too_large(mark) {
+    let fault = match answer.are_whole() {
+        Err(refused) => Some(refused.into()),
+        Ok(()) => (!is_whole || answer.is_too_large(mark)).then_some(Fault::ReplyTooLarge),
+    };
+    if let Some(fault) = fault {
         answer.take_back(mark);
-        answer.error(Fault::ReplyTooLarge);
+        answer.error(fault);
     }
     answer
 }

@@ -18,4 +18,4 @@ mod walk;
 
 pub use asked::Asked;
 pub(super) use gather::gather;
-pub use spelling::{is_numbered, step_of_spelled, table_of_spelled};
+pub use spelling::{check_memory_of, is_numbered, step_of_spelled, table_of_spelled};

@@ -10,8 +10,10 @@ use crate::cluster::Cluster;
 use crate::command::data::DataWord;
 use crate::command::spec::{Place, Spec, FIRST_TABLE, TABLE};
 use crate::command::transaction::Transaction;
+use crate::command::Fault;
 use crate::io::ReplyTo;
 use crate::keyspace::Keyspace;
+use crate::memory::CEILING;
 use crate::resp::{OwnedCommand, Protocol};
 use durkenzo_driver::{Numbered, Step};
 use std::sync::Arc;
@@ -141,15 +143,33 @@ pub fn is_numbered(bytes: &[u8]) -> bool {
     matches!(Kind::of(bytes), Some((_, Kind::Numbered, _)))
 }
 
+/// What the commands of the work do that is spelled so; none in the place of one that isn't known.
+fn specs_of(bytes: &[u8]) -> impl Iterator<Item = Option<&'static Spec>> + '_ {
+    let mut rest = commands_of(bytes);
+    std::iter::from_fn(move || {
+        let (command, end) = OwnedCommand::first_spelled(rest)?;
+        rest = &rest[end..];
+        Some(Spec::named(command.command().get(0)))
+    })
+}
+
 /// The first version of the table of commands that has all commands of the work that is spelled so.
 pub fn table_of_spelled(bytes: &[u8]) -> u16 {
-    let (mut rest, mut table) = (commands_of(bytes), FIRST_TABLE);
-    while let Some((command, end)) = OwnedCommand::first_spelled(rest) {
-        let found = Spec::named(command.command().get(0));
-        table = table.max(found.map_or(TABLE, |it| it.since));
-        rest = &rest[end..];
+    let tables = specs_of(bytes).map(|it| it.map_or(TABLE, |it| it.since));
+    tables.max().unwrap_or(FIRST_TABLE)
+}
+
+/// Refuses the work that is spelled so, if it may have data take more memory and too much is in use.
+pub fn check_memory_of(bytes: &[u8]) -> Result<(), Fault> {
+    if !CEILING.is_passed() {
+        return Ok(());
     }
-    table
+    let refused = specs_of(bytes).flatten().try_for_each(Spec::check_memory);
+    let is_together = matches!(Kind::of(bytes), Some((_, Kind::Together, _)));
+    refused.map_err(|fault| match is_together {
+        true => Fault::ExecMaxMemory,
+        false => fault,
+    })
 }
 
 /// The commands of the work that is spelled so, one behind the other; nothing where it has none.

@@ -49,6 +49,8 @@ impl Together {
     fn requests(&self, held: &[Reply], answer: &mut Replies) -> Result<Vec<Request>, Fault> {
         let mut body = loaded(&self.keys, held)?;
         let mark = answer.mark();
+        // What it changes is always told.
+        answer.keep_room(self.transaction.len() as usize)?;
         // What is queued over a store needs nothing of its connection.
         let mut session = Session::new(0, true);
         let (transaction, cluster) = (&self.transaction, &self.cluster);

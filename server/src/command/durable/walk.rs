@@ -98,5 +98,5 @@ fn send(mut answer: Replies, reply_to: ReplyTo) {
     if let Some(errors) = answer.take_errors() {
         reply_to.note_errors(errors);
     }
-    reply_to.send_of(answer.unsent().to_vec(), 1);
+    reply_to.send_of(answer.into_bytes(), 1);
 }

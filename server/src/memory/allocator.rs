@@ -1,0 +1,143 @@
+//! The server's only unsafe code: it allocates, and asks the C library how much it has.
+#![allow(unsafe_code)]
+use super::granules::{Granules, COUNT, GRANULE};
+use super::reserve::is_fallible;
+use std::alloc::{GlobalAlloc, Layout, System};
+use std::cell::UnsafeCell;
+use std::mem::MaybeUninit;
+use std::ptr;
+use std::sync::atomic::{AtomicBool, Ordering};
+use std::sync::{Mutex, MutexGuard, PoisonError};
+
+/// How many bytes are kept back. Until they are needed the system gives no memory for them.
+const KEPT: usize = COUNT * GRANULE;
+
+/// The system's allocator. If that refuses memory, it comes from room that is kept back: half of it is for all, and half
+/// for what can't be refused.
+///
+/// The proved libraries take memory by themselves, and never have any of that room.
+#[derive(Debug)]
+pub struct Allocator;
+
+#[repr(align(256))]
+struct Room(UnsafeCell<[MaybeUninit<u8>; KEPT]>);
+
+// SAFETY: each byte is of who took its granule, and of nobody else.
+unsafe impl Sync for Room {}
+
+static ROOM: Room = Room(UnsafeCell::new([MaybeUninit::uninit(); KEPT]));
+static GRANULES: Mutex<Granules> = Mutex::new(Granules::new());
+/// Whether less than half of the room is left.
+static IS_LOW: AtomicBool = AtomicBool::new(false);
+
+fn granules() -> MutexGuard<'static, Granules> {
+    GRANULES.lock().unwrap_or_else(PoisonError::into_inner)
+}
+
+/// Where the place is in the room, if it is there.
+#[inline]
+fn within(place: *mut u8) -> Option<usize> {
+    let at = (place as usize).wrapping_sub(ROOM.0.get() as usize);
+    (at < KEPT).then_some(at)
+}
+
+/// A place in the room, of which who can be refused has half at most.
+#[cold]
+fn kept(layout: Layout) -> *mut u8 {
+    let mut granules = granules();
+    let is_refused = is_fallible() && granules.are_few(layout.size());
+    if is_refused || layout.align() > GRANULE {
+        return ptr::null_mut();
+    }
+    let taken = granules.take(layout.size());
+    IS_LOW.store(granules.are_few(0), Ordering::Relaxed);
+    match taken {
+        // The granules lie within the room.
+        Some(at) => ROOM.0.get().cast::<u8>().wrapping_add(at),
+        None => ptr::null_mut(),
+    }
+}
+
+#[cold]
+fn give_back(at: usize, size: usize) {
+    let mut granules = granules();
+    granules.give_back(at, size);
+    IS_LOW.store(granules.are_few(0), Ordering::Relaxed);
+}
+
+/// Whether less than half of the room that is kept back is left.
+pub(super) fn is_low() -> bool {
+    IS_LOW.load(Ordering::Relaxed)
+}
+
+// SAFETY: each place is the system's, or one of the room's granules, which are of one place at a time.
+unsafe impl GlobalAlloc for Allocator {
+    #[inline]
+    unsafe fn alloc(&self, layout: Layout) -> *mut u8 {
+        match System.alloc(layout) {
+            place if place.is_null() => kept(layout),
+            place => place,
+        }
+    }
+
+    #[inline]
+    unsafe fn alloc_zeroed(&self, layout: Layout) -> *mut u8 {
+        let place = System.alloc_zeroed(layout);
+        if !place.is_null() {
+            return place;
+        }
+        let place = kept(layout);
+        if !place.is_null() {
+            place.write_bytes(0, layout.size());
+        }
+        place
+    }
+
+    #[inline]
+    unsafe fn dealloc(&self, place: *mut u8, layout: Layout) {
+        match within(place) {
+            None => System.dealloc(place, layout),
+            Some(at) => give_back(at, layout.size()),
+        }
+    }
+
+    #[inline]
+    unsafe fn realloc(&self, place: *mut u8, layout: Layout, size: usize) -> *mut u8 {
+        if within(place).is_none() {
+            let grown = System.realloc(place, layout, size);
+            if !grown.is_null() {
+                return grown;
+            }
+        }
+        // A layout of this size was asked for, so it is one.
+        let moved = self.alloc(Layout::from_size_align_unchecked(size, layout.align()));
+        if !moved.is_null() {
+            place.copy_to_nonoverlapping(moved, layout.size().min(size));
+            self.dealloc(place, layout);
+        }
+        moved
+    }
+}
+
+/// The bytes that are in use of what the C library has.
+pub(super) fn used() -> u64 {
+    // SAFETY: it only counts.
+    let told = unsafe { libc::mallinfo2() };
+    (told.uordblks + told.hblkhd) as u64
+}
+
+/// Has all threads take memory from one place, so that what one has freed is there for others, and much of it from the
+/// system, so that it is there for all else.
+pub(super) fn share() {
+    // SAFETY: it only sets numbers.
+    unsafe {
+        libc::mallopt(libc::M_ARENA_MAX, 1);
+        libc::mallopt(libc::M_MMAP_THRESHOLD, 1 << 20);
+    }
+}
+
+/// Gives the system what is free of what the C library has.
+pub(super) fn trim() {
+    // SAFETY: no place that is in use changes.
+    unsafe { libc::malloc_trim(0) };
+}

@@ -1,0 +1,102 @@
+use super::used;
+use std::sync::atomic::{AtomicBool, AtomicU64, Ordering};
+use std::sync::{Mutex, TryLockError};
+use std::time::{Duration, Instant};
+
+/// How much of the process' memory may be in use before commands are refused that may have data take more.
+pub static CEILING: Ceiling = Ceiling::new();
+
+/// Of the bytes that are left, one part of so many may come from clients before it is looked again; and at least so
+/// many, and one part of so many of all.
+const OF_LEFT: u64 = 8;
+const LEAST_STEP: u64 = 64 << 10;
+const OF_ALL: u64 = 1_024;
+/// How soon it is looked again after commands were refused, at the earliest.
+const PAUSE: Duration = Duration::from_millis(10);
+/// A look that took long is followed by so many times as long without one.
+const REST: u32 = 20;
+
+/// How much memory may be in use, and whether more is: it is looked once so much has come from clients that more could
+/// be, and not at each command.
+#[derive(Debug)]
+pub struct Ceiling {
+    /// How many bytes may be in use; 0 is any number.
+    most: AtomicU64,
+    is_passed: AtomicBool,
+    /// How many bytes came since the last look, and at how many it is looked again.
+    came: AtomicU64,
+    step: AtomicU64,
+    /// When it is looked again at the earliest.
+    earliest: Mutex<Option<Instant>>,
+}
+
+impl Ceiling {
+    const fn new() -> Ceiling {
+        Ceiling {
+            most: AtomicU64::new(0),
+            is_passed: AtomicBool::new(false),
+            came: AtomicU64::new(0),
+            step: AtomicU64::new(0),
+            earliest: Mutex::new(None),
+        }
+    }
+
+    /// Sets how many bytes may be in use; 0 is any number.
+    pub fn set(&self, most: u64) {
+        self.most.store(most, Ordering::Relaxed);
+        self.look();
+    }
+
+    /// How many bytes may be in use; 0 is any number.
+    pub fn most(&self) -> u64 {
+        self.most.load(Ordering::Relaxed)
+    }
+
+    /// Notes that so many bytes came, by which data may grow.
+    #[inline]
+    pub fn note_came(&self, bytes: usize) {
+        if self.most() == 0 {
+            return;
+        }
+        let came = self.came.fetch_add(bytes as u64, Ordering::Relaxed) + bytes as u64;
+        if came >= self.step.load(Ordering::Relaxed) {
+            self.look();
+        }
+    }
+
+    /// Whether more is in use than may be. It is looked again then, as data may have been deleted.
+    #[inline]
+    pub fn is_passed(&self) -> bool {
+        self.is_passed.load(Ordering::Relaxed) && self.look()
+    }
+
+    /// Looks whether more is in use than may be, unless it was looked just before.
+    #[cold]
+    pub fn look(&self) -> bool {
+        let most = self.most();
+        let earliest = match self.earliest.try_lock() {
+            Err(TryLockError::WouldBlock) => None,
+            Err(TryLockError::Poisoned(it)) => Some(it.into_inner()),
+            Ok(it) => Some(it),
+        };
+        // Another thread looks, or has just looked.
+        let Some(mut earliest) = earliest else {
+            return self.is_passed.load(Ordering::Relaxed);
+        };
+        let began = Instant::now();
+        let is_passed = self.is_passed.load(Ordering::Relaxed);
+        if most == 0 || earliest.is_some_and(|it| began < it) {
+            return is_passed;
+        }
+        let used = used();
+        let left = most.saturating_sub(used);
+        let step = (left / OF_LEFT).max(most / OF_ALL).max(LEAST_STEP);
+        self.step.store(step, Ordering::Relaxed);
+        self.came.store(0, Ordering::Relaxed);
+        self.is_passed.store(used > most, Ordering::Relaxed);
+        let rest = began.elapsed() * REST;
+        let rest = if used > most { rest.max(PAUSE) } else { rest };
+        *earliest = Some(began + rest);
+        used > most
+    }
+}

@@ -1,0 +1,82 @@
+/// How many bytes a granule has.
+pub(super) const GRANULE: usize = 256;
+/// How many there are.
+pub(super) const COUNT: usize = 32_768;
+
+/// Which granules of a room are taken.
+pub(super) struct Granules {
+    are_taken: [bool; COUNT],
+    taken: usize,
+}
+
+impl Granules {
+    /// All are free.
+    pub(super) const fn new() -> Granules {
+        Granules {
+            are_taken: [false; COUNT],
+            taken: 0,
+        }
+    }
+
+    /// Takes the first free granules that lie side by side and have room for so many bytes; returns where they begin,
+    /// in bytes from the front of the room.
+    pub(super) fn take(&mut self, bytes: usize) -> Option<usize> {
+        let (count, mut free) = (count_of(bytes), 0);
+        let is_last = |is_taken: &bool| {
+            free = if *is_taken { 0 } else { free + 1 };
+            free == count
+        };
+        let end = self.are_taken.iter().position(is_last)? + 1;
+        let first = end - count;
+        self.are_taken[first..end].fill(true);
+        self.taken += count;
+        Some(first * GRANULE)
+    }
+
+    /// Frees the granules that were taken there for so many bytes.
+    pub(super) fn give_back(&mut self, at: usize, bytes: usize) {
+        let (first, count) = (at / GRANULE, count_of(bytes));
+        self.are_taken[first..first + count].fill(false);
+        self.taken -= count;
+    }
+
+    /// Whether more than half are taken, or would be with so many bytes more.
+    pub(super) fn are_few(&self, bytes: usize) -> bool {
+        self.taken + count_of(bytes) > COUNT / 2
+    }
+}
+
+/// How many granules have room for so many bytes.
+fn count_of(bytes: usize) -> usize {
+    bytes.div_ceil(GRANULE).max(1)
+}
+
+#[cfg(test)]
+mod tests {
+    use super::*;
+    use crate::chance::Chance;
+
+    #[test]
+    fn pieces_lie_apart_and_are_given_back() {
+        let mut chance = Chance::new(2_862_933_555_777_941_757);
+        let (mut granules, mut pieces) = (Granules::new(), Vec::new());
+        for _ in 0..2_000 {
+            if chance.below(3) > 0 {
+                let bytes = 1 + chance.below(20_000);
+                let at = granules.take(bytes).unwrap();
+                let is_apart =
+                    |(other, length): &(usize, usize)| at + bytes <= *other || other + length <= at;
+                assert!(at + bytes <= COUNT * GRANULE && pieces.iter().all(is_apart));
+                pieces.push((at, bytes));
+            } else if !pieces.is_empty() {
+                let (at, bytes) = pieces.swap_remove(chance.below(pieces.len()));
+                granules.give_back(at, bytes);
+            }
+        }
+        for (at, bytes) in pieces {
+            granules.give_back(at, bytes);
+        }
+        assert_eq!(granules.take(COUNT * GRANULE), Some(0));
+        assert!(granules.are_few(0) && granules.take(1).is_none());
+    }
+}
