@@ -1,3 +1,4 @@
+pub mod Crowds
 mod Cuts
 mod Fleets
 pub mod Lasts

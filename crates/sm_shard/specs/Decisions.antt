@@ -25,6 +25,7 @@ use Rattle.sm_shard.specs.declared.base_work.BaseStage.TheVariants.{Written, Nam
 use Rattle.sm_shard.specs.declared.base_work.BaseWork.{BaseWork}
 use Rattle.sm_shard.specs.declared.base_work.NamedBase.{NamedBase}
 use Rattle.sm_shard.specs.declared.shard_state.ShardState.{ShardState}
+use Rattle.sm_shard.specs.Bases.{kept_from}
 
 -- what is decided of a request by its client's last one, where that decides it
 abbrev pub decided_by_last : {R : Type 0} → ℕ → Option (LastRequest R) → Option (Decision R)
@@ -58,10 +59,11 @@ decided_by_number number (Some other) = if other == number then Some Waits else 
 abbrev pub decided_by_floor : {R : Type 0} → ℕ → ℕ → Option (Decision R)
 decided_by_floor client floor = if nat_lt client floor then Some Refused else None
 
--- it would be one client more than may be kept
-abbrev pub is_crowded : {M R : Type 0} → ShardLimits → Replica M R → ℕ → Bool
-is_crowded limits replica client =
-    is_none (get nat_cmp replica.lasts client) && nat_le limits.clients (length replica.lasts.entries)
+-- it would be one client more than may be kept, also once those are forgotten that the request itself lets be forgotten
+abbrev pub is_crowded : {M Q R : Type 0} → ShardLimits → Replica M R → Item Q → Bool
+is_crowded limits replica item =
+    is_none (get nat_cmp replica.lasts item.client)
+    && nat_le limits.clients (length (kept_from item.forgets replica.lasts.entries))
 
 -- what is decided of one that is new here, where so many wait, and where there may be no more clients
 abbrev pub decided_by_room : {R : Type 0} → ShardLimits → ℕ → ℕ → Bool → Decision R
@@ -97,7 +99,7 @@ decision_of limits size ready me item =
     (if accepts ready.state me item.mode
     then decided_or (by_waiting ready item)
     (decided_by_room limits (size item.request) (length ready.waiting.items)
-    (is_crowded limits ready.replica item.client))
+    (is_crowded limits ready.replica item))
     else decided_by_forward item.hops (forward_to ready.state me))
 
 -- it is new, and there is room for it
@@ -107,7 +109,7 @@ is_taken limits size ready me item =
     && (accepts ready.state me item.mode
     && (is_none (by_waiting ready item)
     && not (nat_lt limits.batch_bytes (size item.request) || (nat_le limits.waiting (length ready.waiting.items)
-    || is_crowded limits ready.replica item.client))))
+    || is_crowded limits ready.replica item))))
 
 -- what waits after the decision
 abbrev pub waiting_after : {M Q R : Type 0} → ShardLimits → (Q → ℕ) → ShardState M Q R → ℕ → Item Q → List (Item Q)

@@ -7,7 +7,7 @@ pub struct ShardLimits {
     pub batch_requests: usize,
     /// The requests that wait, and the reads that do.
     pub waiting: usize,
-    /// The clients whose last request is kept: no other comes in where so many are. Those of requests that wait or were
-    /// sent may come on top.
+    /// The clients whose last request is kept: where so many are, another comes in only if its request lets enough of
+    /// them be forgotten. Those of requests that wait or were sent may come on top.
     pub clients: usize,
 }

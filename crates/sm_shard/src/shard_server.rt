@@ -73,15 +73,16 @@ pub struct PartsSending<'a, R> {
 }
 
 impl<Q: Drop, R: Copy + Drop, M: StoreMachine<Q, R>> ShardServer<M, Q, R> {
-    ghost use Rattle.std.specs.Prelude.{◌++◌, ◌+◌, List, ◌↔◌, false, IsTrue, IsSome, IfOk, OnErr};
+    ghost use Rattle.std.specs.Prelude.{◌++◌, ◌+◌, ◌≤◌, List, ◌↔◌, false, IsTrue, IsSome, IfOk, OnErr};
     ghost use Rattle.std.specs.Prelude.{ℕ, length, map};
     ghost use Rattle.std.specs.List.{AllByRecursion};
-    ghost use Rattle.sm_shard.specs.Bases.{Part, base_of};
+    ghost use Rattle.sm_shard.specs.Bases.{Part, base_of, kept_from};
     ghost use Rattle.sm_store.specs.Store.{record_key, stored_record};
     ghost use Rattle.sm_store.specs.Deeds.{AreRight, Charter, Clearing, MaySend, WasFound, transaction_of};
     ghost use Rattle.sm_store.specs.System.{Ask, MayClaim};
     ghost use Rattle.sm_shard.specs.Decisions.{server_begins, server_behind, server_decision, server_read_decision};
     ghost use Rattle.sm_shard.specs.Decisions.{server_sends};
+    ghost use Rattle.sm_shard.specs.declared.shard_state.Decision.TheVariants.{TooManyClients};
     ghost use Rattle.sm_shard.specs.Replicas.{read_of, replies_of};
     ghost use Rattle.sm_shard.specs.ShardServers.{AreAsked, DidHold, IsAsked, IsTrueOf, StoreLog};
     ghost use Rattle.sm_shard.specs.ShardServers.{StoreSystem};
@@ -169,6 +170,9 @@ impl<Q: Drop, R: Copy + Drop, M: StoreMachine<Q, R>> ShardServer<M, Q, R> {
             → AreAsked asked since self.new }
         ensures decision { IfOk result (λ decision. decision
             ≡ server_decision self.old.limits M.size self.old.ready self.old.me item) }
+        // What forgets enough isn't refused so.
+        ensures crowded { IfOk result (λ decision. decision ≡ TooManyClients → IfSome self.old.ready (λ ready.
+            self.old.limits.clients ≤ length (kept_from item.forgets ready.replica.lasts.entries))) }
         ensures told { IfOk result (λ decision. (system : StoreSystem Q R)
             → IsTrueOf M.service system.log self.old
             → AllByRecursion (MayClaim M.service system)

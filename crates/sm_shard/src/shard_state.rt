@@ -1,10 +1,11 @@
 ghost use Rattle.std.specs.Prelude.{◌≡◌, ◌≤◌, ◌++◌, ◌+◌, List, [], ◌<◌, false, IsTrue, IfOk, OnOk, OnErr, IfSome};
 ghost use Rattle.std.specs.Prelude.{IfNone};
-ghost use Rattle.std.specs.Prelude.{ℕ, length, take, drop};
+ghost use Rattle.std.specs.Prelude.{ℕ, length, nat_le, take, drop};
 ghost use Rattle.sm_ownership.specs.declared.record.Record.{Record as RecordValue};
 ghost use Rattle.sm_ownership.specs.Rules.{forward_to};
 ghost use Rattle.sm_store.specs.declared.item.Item.{Item as ItemValue};
 ghost use Rattle.sm_store.specs.Clients.{floor_of, last_of, AreNext};
+ghost use Rattle.sm_shard.specs.Bases.{kept_from};
 ghost use Rattle.sm_shard.specs.Decisions.{asking_after, batch_from, batch_length, begins_base, decided_by_forward};
 ghost use Rattle.sm_shard.specs.Decisions.{is_behind, is_named_next, is_under_way, named_by};
 ghost use Rattle.sm_shard.specs.Decisions.{by_made, is_crowded};
@@ -17,7 +18,9 @@ ghost use Rattle.sm_shard.specs.ShardServers.{IsWorkTrue, StoreLog, named_now, n
 
 use crate::base::base_of;
 use crate::base_work::{BaseStage, BaseWork, NamedBase};
-use crate::replica::{MadeReply, ReplayFault, Replica, greater, last_request, make_all};
+use crate::replica::{
+    LastRequest, MadeReply, ReplayFault, Replica, greater, last_request, make_all,
+};
 use crate::shard_limits::ShardLimits;
 use crate::store_machine::StoreMachine;
 use sm_envelope::envelope::MOST_HOPS;
@@ -28,7 +31,7 @@ use sm_store::head::Head;
 use sm_store::item::Item;
 use sm_store::store_key::PassingKey;
 use std::alloc::{AllocError, Global};
-use std::collections::VecDeque;
+use std::collections::{BTreeMap, VecDeque};
 
 /// What a server does with a request that comes.
 #[derive(Clone, Copy, Drop)]
@@ -54,7 +57,8 @@ pub enum Decision<R> {
     TooLarge,
     /// As many wait as may. This isn't final.
     Busy,
-    /// As many clients are kept as may, and its client isn't among them. This isn't final.
+    /// As many clients are kept as may, also without those that it lets be forgotten, and its client isn't among them.
+    /// This isn't final.
     TooManyClients,
 }
 
@@ -164,15 +168,32 @@ fn floor_among<Q: Drop>(items: &[Item<Q>]) -> u64
     floor
 }
 
-// Whether it would be one client more than may be kept.
+// Whether at least so many clients are kept once those below a number are forgotten.
+fn are_kept_from<R: Copy + Drop>(
+    lasts: &BTreeMap<u64, LastRequest<R>>,
+    floor: u64,
+    count: usize,
+) -> bool
+    ensures { result ≡ nat_le count (length (kept_from floor lasts.now.entries)) }
+{
+    match lasts.len().checked_sub(count) {
+        // If one more client than that is below the number, too few are left.
+        Some(most) => lasts.range(..floor).nth(most).is_none(),
+        None => false,
+    }
+}
+
+// Whether it would be one client more than may be kept, also once those are forgotten that the request itself lets be
+// forgotten.
 fn is_crowded<Q: Drop, R: Copy + Drop, M: StoreMachine<Q, R>>(
     limits: ShardLimits,
     replica: &Replica<M, R>,
-    client: u64,
+    item: &Item<Q>,
 ) -> bool
-    ensures { result ≡ is_crowded limits replica.now client }
+    ensures { result ≡ is_crowded limits replica.now item.now }
 {
-    last_request::<Q, R, M>(replica, client).is_none() && limits.clients <= replica.lasts.len()
+    last_request::<Q, R, M>(replica, item.client).is_none()
+        && are_kept_from(&replica.lasts, item.forgets, limits.clients)
 }
 
 /// Decides on a request, which waits where it is to be made.
@@ -223,7 +244,7 @@ pub fn take<Q: Drop, R: Copy + Drop, M: StoreMachine<Q, R>>(
     if limits.waiting <= ready.waiting.len() {
         return Ok(Decision::Busy);
     }
-    if is_crowded::<Q, R, M>(limits, &ready.replica, item.client) {
+    if is_crowded::<Q, R, M>(limits, &ready.replica, &item) {
         return Ok(Decision::TooManyClients);
     }
     ready.waiting.push(item)?;

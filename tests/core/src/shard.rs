@@ -306,6 +306,7 @@ fn forgets_clients(rt: HostRuntime) {
         executes(&rt, alloc, &mut server, client, 5, client);
     }
     assert!(rt; matches!(server.on_request(item(10, 5)), Ok(Decision::TooManyClients)));
+    assert!(rt; matches!(server.on_request(forgetting(10, 6)), Ok(Decision::TooManyClients)));
     let mut next = forgetting(9, 8);
     next.number = 2;
     assert!(rt; matches!(server.on_request(next), Ok(Decision::Waits)));
@@ -321,4 +322,20 @@ fn forgets_clients(rt: HostRuntime) {
     assert!(rt; matches!(server.begin_base(alloc), Ok(true)));
     let sending = server.parts().expect(&rt, "parts");
     assert!(rt; (sending.parts[0].floor(), sending.parts[0].lasts().len()) == (8, 2));
+}
+
+#[test]
+fn judges_after_it_forgets(rt: HostRuntime) {
+    let alloc = rt.alloc();
+    let mut server = ready(&rt, alloc);
+    for client in 6..10 {
+        executes(&rt, alloc, &mut server, client, 5, client);
+    }
+    assert!(rt; matches!(server.on_request(forgetting(10, 7)), Ok(Decision::Waits)));
+    assert!(rt; matches!(server.on_request(item(6, 5)), Ok(Decision::Replied(5))));
+    assert!(rt; matches!(server.flush(alloc), Ok(true)));
+    assert!(rt; server.on_made(alloc, 10).is_ok());
+    assert!(rt; matches!(server.on_request(item(6, 5)), Ok(Decision::Forgotten)));
+    assert!(rt; matches!(server.on_request(forgetting(11, 7)), Ok(Decision::TooManyClients)));
+    assert!(rt; matches!(server.on_request(forgetting(11, 8)), Ok(Decision::Waits)));
 }

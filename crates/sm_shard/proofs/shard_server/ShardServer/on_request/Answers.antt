@@ -1,10 +1,15 @@
-use Rattle.std.proofs.Common.{List}
+use Rattle.std.proofs.Common.{◌≡◌, ◌≤◌, ◌∙◌, List, length, subst, sym}
+use Rattle.std.specs.Prelude.{IfSome, Option}
 use Rattle.std.specs.List.{AllByRecursion}
 use Rattle.sm_store.specs.declared.item.Item.{Item}
 use Rattle.sm_store.specs.System.{MayClaim}
+use Rattle.sm_shard.specs.Bases.{kept_from}
+use Rattle.sm_shard.specs.Decisions.{decision_of}
 use Rattle.sm_shard.specs.declared.shard_state.Decision.{Decision}
+use Rattle.sm_shard.specs.declared.shard_state.Decision.TheVariants.{TooManyClients}
 use Rattle.sm_shard.specs.declared.shard_state.ShardState.{ShardState}
 use Rattle.sm_shard.specs.ShardServers.{IsShardState, IsDecided, IsTrueOf, HasRead, StoreSystem, claimed_by}
+use Rattle.sm_shard.proofs.Crowds.{crowded_if_full}
 use Rattle.sm_shard.proofs.ShardServers.{ok_map, some_of, decided_so, known_of, knows_same, same_base}
 use Rattle.sm_shard.proofs.shard_server.ShardServer.on_request.Goals as goal
 
@@ -39,3 +44,19 @@ returns-in-Some-clause-known g c = λ log known.
     knows_same service log c.args.self.now.me shard ready new done.state done.stood done.head done.logged done.kept
     (same_base service log shard ready new done.head done.work)
     (known_of service log c.args.self.now.me shard c.args.self.now.ready ready c.in-Some.is known)
+
+pub returns-in-Some-clause-crowded : goal.returns-in-Some-clause-crowded
+returns-in-Some-clause-crowded g c =
+    let self = c.args.self.now in
+    let item = c.args.item in
+    let size = g.M.StoreMachine.size in
+    ok_map
+    (λ (decision : Decision g.row.R.Denot). decision ≡ decision_of self.limits size c.in-Some.ready self.me item)
+    (λ (decision : Decision g.row.R.Denot). decision ≡ TooManyClients → IfSome self.ready (λ ready.
+    self.limits.clients ≤ length (kept_from item.forgets ready.replica.lasts.entries)))
+    c.take.result
+    (λ decision is crowded.
+    subst (λ (o : Option (ShardState g.row.M.Denot g.row.Q.Denot g.row.R.Denot)). IfSome o (λ ready.
+    self.limits.clients ≤ length (kept_from item.forgets ready.replica.lasts.entries)))
+    (sym c.in-Some.is) (crowded_if_full self.limits size c.in-Some.ready self.me item (sym is ∙ crowded)))
+    c.take.ensures.decision
