@@ -22,7 +22,7 @@ pub(crate) enum Decision {
     Passed,
     /// Its client is forgotten, so it won't be made any more.
     Forgotten,
-    /// As many clients are kept as may.
+    /// As many clients are kept as may, also without those that it lets be forgotten.
     TooManyClients,
 }
 

@@ -25,6 +25,8 @@ const BASE_ROOM: (u64, u64) = (17, 16);
 const BASE_SLACK: u64 = 32 << 10;
 /// How many keys are deleted at once.
 const DELETES: usize = 64;
+/// How often it is looked whether the process is to take another number.
+const NUMBERING: Duration = Duration::from_secs(1);
 /// How long a stop waits for transactions that are under way.
 const STOP: Duration = Duration::from_secs(10);
 
@@ -82,6 +84,8 @@ enum Wanted {
     Record(u16),
     /// Of the number of a process, for this shard.
     Process(u16),
+    /// Of the number of a process, for all shards.
+    ProcessOfAll,
     /// Of the room that there is for a base of this shard, which is then written.
     Room(u16, Ticket, Parts),
 }
@@ -95,6 +99,8 @@ struct Inner {
     /// Of which shards something may wait, or become due.
     stirred: Box<[AtomicBool]>,
     process: u64,
+    /// The number of a process that was taken last for all shards.
+    number: AtomicU64,
     /// The one server of this process, where it hasn't all.
     own: Option<Own>,
     tuning: Tuning,
@@ -165,6 +171,7 @@ impl Durable {
             shards: (0..shards).map(each).collect(),
             stirred: (0..shards).map(|_| AtomicBool::new(true)).collect(),
             process,
+            number: AtomicU64::new(process),
             own,
             tuning,
             readings: Mutex::new(Some(readings)),
@@ -570,6 +577,34 @@ impl Inner {
         self.with(shard, |it, deeds| it.renew(process, Instant::now(), deeds));
     }
 
+    /// Has later requests of all shards have another number of a process. Where there is none it is tried again.
+    fn renew_all(self: &Arc<Inner>) {
+        let Ok(process) = process::begin(&*self.store) else {
+            return;
+        };
+        for shard in 0..self.shards.len() as u16 {
+            self.with(shard, |it, deeds| it.renew(process, Instant::now(), deeds));
+        }
+        self.number.fetch_max(process, Ordering::AcqRel);
+    }
+
+    /// Takes another number of a process where many others have begun since, and tells them once no shard has requests
+    /// by an earlier one: what those left is forgotten then.
+    fn keep_number(&self) {
+        let Some(own) = &self.own else {
+            return;
+        };
+        let number = self.number.load(Ordering::Acquire);
+        if own.member.is_old(number) {
+            self.want(Wanted::ProcessOfAll);
+        } else if own.member.own_lowest() < number {
+            let firsts = self.shards.iter().map(|it| locked(it).first_process());
+            if firsts.min().is_some_and(|it| it >= number) {
+                own.member.tell_lowest(number);
+            }
+        }
+    }
+
     /// Reads what is wanted until the process ends.
     fn read_all(self: Arc<Inner>, wanted: &Mutex<Receiver<Wanted>>) {
         loop {
@@ -584,6 +619,7 @@ impl Inner {
                 }
                 Ok(Wanted::Record(shard)) => self.read_record(shard),
                 Ok(Wanted::Process(shard)) => self.renew(shard),
+                Ok(Wanted::ProcessOfAll) => self.renew_all(),
                 Ok(Wanted::Room(shard, ticket, parts)) => self.write_base(shard, ticket, parts),
                 // Where it can't be read, the next base sweeps.
                 Ok(Wanted::Passing(shard, server)) => {
@@ -600,9 +636,14 @@ impl Inner {
 
     /// Refuses what has waited in vain, until the process ends.
     fn tick_all(self: Arc<Inner>) {
+        let mut numbered = Instant::now();
         while !self.is_stopping.load(Ordering::Acquire) {
             thread::sleep(TICK);
             let now = Instant::now();
+            if now.duration_since(numbered) >= NUMBERING {
+                self.keep_number();
+                numbered = now;
+            }
             (0..self.shards.len() as u16).for_each(|it| self.tick(it, now));
         }
     }

@@ -6,6 +6,7 @@
 //! | `process` | how many processes have begun here |
 //! | `leader` | the process that sends commands, under its lease where there are several |
 //! | `server/SERVER` | a process that runs this server, under its lease: where it is, and how far it follows records |
+//! | `lowest/SERVER` | the process that ran it last, and the first of the numbers by which it still has requests |
 //! | `commands` | the process that sent the latest command |
 //! | `state/SERVER` | how far a server's restart has come |
 //! | `drain/SERVER` | that the server's shards go elsewhere, until they have |
@@ -29,6 +30,8 @@ pub const COMMANDS: &[u8] = b"commands";
 pub const RECORDS: &[u8] = b"record/";
 /// What the keys of servers that are there begin with.
 pub(crate) const SERVERS: &[u8] = b"server/";
+/// What the keys begin with that tell the first numbers by which processes still have requests.
+pub(crate) const LOWESTS: &[u8] = b"lowest/";
 /// What all states of servers begin with.
 pub(crate) const STATES: &[u8] = b"state/";
 /// What the keys of servers that are to be drained begin with.
@@ -64,6 +67,11 @@ pub(crate) fn server_of(key: &[u8]) -> Option<u16> {
     number_behind(key, SERVERS)
 }
 
+/// The server of this key, where it tells the first number by which its process still has requests.
+pub(crate) fn server_of_lowest(key: &[u8]) -> Option<u16> {
+    number_behind(key, LOWESTS)
+}
+
 /// The server of this key, where it is that of a state.
 pub(crate) fn server_of_state(key: &[u8]) -> Option<u16> {
     number_behind(key, STATES)
@@ -87,6 +95,11 @@ fn number_behind(key: &[u8], prefix: &[u8]) -> Option<u16> {
 /// The key of a server that is there.
 pub(crate) fn server(server: u16) -> Vec<u8> {
     format!("server/{server:05}").into_bytes()
+}
+
+/// The key of the first number by which the server's process still has requests.
+pub(crate) fn lowest(server: u16) -> Vec<u8> {
+    format!("lowest/{server:05}").into_bytes()
 }
 
 /// The server's state.

@@ -20,6 +20,7 @@ mod key_index;
 pub mod keys;
 mod lease_clock;
 mod listing;
+mod lowest;
 mod member;
 mod members;
 mod open_fault;

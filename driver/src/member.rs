@@ -1,8 +1,10 @@
 use crate::lease_clock::{LeaseClock, Moment};
+use crate::lowest::Lowest;
 use crate::{keys, process, Addresses, JoinFault, Live, Members, OpenFault};
 use durkenzo_store::{
     LeaseError, LeaseId, Outcome, Revision, Seen, Store, Transaction, Watch, WriteError,
 };
+use std::collections::BTreeMap;
 use std::fmt;
 use std::sync::atomic::{AtomicBool, Ordering};
 use std::sync::mpsc::{sync_channel, RecvTimeoutError};
@@ -20,6 +22,9 @@ const PAUSE: Duration = Duration::from_millis(50);
 const TAKEN_PAUSE: Duration = Duration::from_secs(1);
 /// How long it isn't told how far the server follows, where nothing waits for that: each telling is seen by all.
 const LAG: Duration = Duration::from_millis(500);
+/// How many other processes begin before one that goes on takes another number: its shards keep the last requests of
+/// all that began since the first number by which any has requests.
+const BEGUN: u64 = 8;
 
 /// A server of a store that others share, as its key tells them: there as long as its lease is kept.
 ///
@@ -80,6 +85,10 @@ impl State {
 #[derive(Default)]
 struct SeenKeys {
     members: Arc<Members>,
+    /// The process that began last of those that were seen.
+    newest: u64,
+    /// The first numbers by which processes still have requests, where these took others since they began.
+    lowests: BTreeMap<u16, Lowest>,
     leader: Option<(u64, Revision)>,
     /// The revision at which the leader's key changed last.
     led: Revision,
@@ -131,7 +140,9 @@ impl Member {
         });
         inner.begin()?;
         let was_away = inner.is_away()?;
-        let watches = vec![inner.watch(keys::SERVERS)?, inner.watch(keys::LEADER)?];
+        let prefixes = [keys::SERVERS, keys::LEADER, keys::LOWESTS];
+        let watches = prefixes.map(|it| inner.watch(it));
+        let watches = watches.into_iter().collect::<Result<_, _>>()?;
         let keeping = inner.clone();
         thread::Builder::new()
             .name("member".to_owned())
@@ -211,11 +222,32 @@ impl Member {
         is_there && now.since(state.kept) < length && now.since(since) < length
     }
 
-    /// The number of the first process whose clients aren't to be forgotten, as its server is there.
+    /// The first number of a process whose clients aren't to be forgotten, as its server is there.
     pub(crate) fn lowest(&self) -> u64 {
-        let members = self.members();
-        let processes = members.values().map(|it| it.process);
-        processes.chain([self.inner.process]).min().unwrap_or(0)
+        let seen = self.inner.seen();
+        let members = seen.members.iter();
+        let lowests = members.map(|(server, live)| seen.lowest_of(*server, live.process));
+        lowests.fold(self.inner.lowest_by(&seen), u64::min)
+    }
+
+    /// The first number by which this process still has requests, as its key was seen to tell it.
+    pub(crate) fn own_lowest(&self) -> u64 {
+        self.inner.lowest_by(&self.inner.seen())
+    }
+
+    /// Whether so many others have begun since this process took its number that it is to take another one, so that
+    /// what they left may be forgotten.
+    pub(crate) fn is_old(&self, number: u64) -> bool {
+        self.inner.seen().newest > number + BEGUN
+    }
+
+    /// Tells others that this process has no requests by earlier numbers than this one any more. Whether it was told is
+    /// seen at [`Member::own_lowest`].
+    pub(crate) fn tell_lowest(&self, number: u64) {
+        let process = self.inner.process;
+        let bytes = Lowest { process, number }.bytes();
+        let transaction = Transaction::new().put(keys::lowest(self.inner.server), bytes);
+        self.inner.store.submit(transaction, Box::new(|_| {}));
     }
 
     /// Tells others that this process goes by all records up to this revision: at once where one of them is awaited by
@@ -239,6 +271,11 @@ impl Inner {
 
     fn seen(&self) -> MutexGuard<'_, SeenKeys> {
         self.seen.lock().unwrap_or_else(PoisonError::into_inner)
+    }
+
+    /// The first number by which this process still has requests, by what was seen.
+    fn lowest_by(&self, seen: &SeenKeys) -> u64 {
+        seen.lowest_of(self.server, self.process)
     }
 
     /// Takes the server's key, once nobody has it.
@@ -454,9 +491,10 @@ impl Inner {
         let mut keys = self.seen();
         match seen {
             Seen::All(reading) => {
-                match prefix == keys::LEADER {
-                    true => (keys.leader, keys.led) = (None, reading.revision),
-                    false => keys.members = Arc::default(),
+                match prefix {
+                    keys::LEADER => (keys.leader, keys.led) = (None, reading.revision),
+                    keys::LOWESTS => keys.lowests = BTreeMap::new(),
+                    _ => keys.members = Arc::default(),
                 }
                 for pair in reading.pairs {
                     keys.note(&pair.key, Some(&pair.value), pair.revision);
@@ -478,18 +516,33 @@ impl Inner {
 }
 
 impl SeenKeys {
+    /// The first number by which the process that runs this server still has requests.
+    fn lowest_of(&self, server: u16, process: u64) -> u64 {
+        let lowest = self.lowests.get(&server).filter(|it| it.process == process);
+        lowest.map_or(process, |it| it.number)
+    }
+
     /// Notes what lies at a key, or that nothing does any more.
     fn note(&mut self, key: &[u8], value: Option<&[u8]>, revision: Revision) {
         if key == keys::LEADER {
             self.leader = value.and_then(keys::process_of).map(|it| (it, revision));
             self.led = revision;
         }
+        if let Some(server) = keys::server_of_lowest(key) {
+            match value.and_then(Lowest::of) {
+                Some(lowest) => drop(self.lowests.insert(server, lowest)),
+                None => drop(self.lowests.remove(&server)),
+            }
+        }
         let Some(server) = keys::server_of(key) else {
             return;
         };
         let members = Arc::make_mut(&mut self.members);
         match value.and_then(Live::of) {
-            Some(live) => drop(members.insert(server, live)),
+            Some(live) => {
+                self.newest = self.newest.max(live.process);
+                members.insert(server, live);
+            }
             None => drop(members.remove(&server)),
         }
     }

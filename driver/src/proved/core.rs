@@ -7,7 +7,8 @@ use durkenzo_store_sys::{self as sys, Asked, Code, Limits, Server, Told};
 
 /// How much a server takes: of a batch as much as a round has at most, and of what waits more, so that what is given
 /// together is sent together. Of so many clients the last request is kept: those of 16 processes, of which each has as
-/// many as a round has requests, and all that clients who number their requests may have.
+/// many as a round has requests, and all that clients who number their requests may have. A process that goes on takes
+/// another number before so many others have begun.
 const LIMITS: Limits = Limits {
     batch_bytes: Size::MOST.bytes as u64,
     batch_requests: Size::MOST.requests,

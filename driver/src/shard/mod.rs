@@ -253,6 +253,12 @@ impl Shard {
         });
     }
 
+    /// The first number of a process by which it still has requests.
+    pub(crate) fn first_process(&self) -> u64 {
+        let round = self.round.as_ref().map_or(self.process, |it| it.process);
+        round.min(self.process)
+    }
+
     /// Has later requests have clients of this number of a process.
     pub(crate) fn renew(&mut self, process: u64, now: Instant, deeds: &mut Vec<Deed>) {
         self.process = self.process.max(process);

@@ -1,0 +1,173 @@
+//! A shard keeps the last requests of all processes that began since the first one that is there. Where these are as
+//! many as it keeps it takes no others, but takes them again once that one has ended; and one that goes on takes another
+//! number before.
+mod common;
+
+use common::cluster::{campaign, Net, Node};
+use common::{add, ask, held, step, write};
+use durkenzo_driver::{keys, Begin, Command, Control, NotDone, Numbered, Reply, Request};
+use durkenzo_store::{Embedded, Store};
+use std::sync::atomic::Ordering;
+use std::sync::mpsc::channel;
+use std::sync::Arc;
+use std::thread;
+use std::time::{Duration, Instant};
+
+/// How many requests a process writes at once: as many clients it leaves.
+const REQUESTS: usize = 4_096;
+/// How many processes leave as many clients as a shard keeps.
+const FULL: usize = 32;
+
+/// Where server 1 tells the first number by which it still has requests.
+const LOWEST: &[u8] = b"lowest/00001";
+
+struct Cluster {
+    store: Arc<dyn Store>,
+    net: Arc<Net>,
+    first: Node,
+    control: Control,
+}
+
+impl Cluster {
+    /// A process with server 1, which goes on, while this server owns the shard.
+    fn begin(owner: u16) -> Cluster {
+        let store: Arc<dyn Store> = Arc::new(Embedded::in_memory());
+        let net = Arc::new(Net::default());
+        let first = net.start(&store, 1, 1, |line| Arc::new(line));
+        let mut control = campaign(&first);
+        control
+            .command(Command::Assign(0, owner))
+            .expect("an owner of the shard");
+        Cluster {
+            store,
+            net,
+            first,
+            control,
+        }
+    }
+
+    /// How many processes have begun, and numbers were taken since.
+    fn begun(&self) -> u64 {
+        let read = self.store.read(&[keys::PROCESS]).expect("a reading");
+        let told = read.get(keys::PROCESS).expect("a number");
+        let told = std::str::from_utf8(&told.value).expect("digits");
+        told.parse().expect("a number")
+    }
+
+    /// The first number by which server 1 still has requests, where it has told one.
+    fn lowest(&self) -> Option<u64> {
+        let read = self.store.read(&[LOWEST]).expect("a reading");
+        let (_, number) = read.get(LOWEST)?.value.split_last_chunk()?;
+        Some(u64::from_be_bytes(*number))
+    }
+
+    fn start(&self, server: u16) -> Node {
+        self.net
+            .start(&self.store, server, 1, |line| Arc::new(line))
+    }
+
+    /// Whether a process with server 2, which begins and ends, has writes made.
+    fn writes_anew(&self) -> Result<Vec<Reply>, NotDone> {
+        let node = self.start(2);
+        let key = |at: usize| format!("k{at}").into_bytes().into();
+        let told = write(
+            &node.durable,
+            0,
+            (0..REQUESTS).map(|at| Request::Add(key(at), 1)).collect(),
+        );
+        end(&node);
+        told
+    }
+}
+
+/// Waits until this is so.
+fn until(is_so: impl Fn() -> bool) {
+    let end = Instant::now() + Duration::from_secs(60);
+    while !is_so() {
+        assert!(Instant::now() < end, "it isn't so");
+        thread::sleep(Duration::from_millis(20));
+    }
+}
+
+fn end(node: &Node) {
+    node.durable.member().expect("a member").leave();
+    node.durable.stop();
+}
+
+#[test]
+fn takes_writes_again_once_all_processes_began_again() {
+    let cluster = Cluster::begin(2);
+    // It sees no others begin.
+    cluster.first.is_deaf.store(true, Ordering::Release);
+    for count in 0..FULL {
+        let told = cluster.writes_anew();
+        assert!(told.is_ok(), "after {count}: {told:?}");
+    }
+    let node = cluster.start(2);
+    let numbered = Numbered {
+        client: 1,
+        number: 1,
+    };
+    let begin = Begin::Numbered(numbered, vec![Request::Add(b"k0"[..].into(), 1)]);
+    // It waits for nothing.
+    assert_eq!(
+        ask(&node.durable, 0, begin, None),
+        Err(NotDone::TooManyClients)
+    );
+    end(&node);
+    end(&cluster.first);
+    let Cluster {
+        store,
+        net,
+        first,
+        control,
+    } = cluster;
+    drop((first, control));
+    let node = net.start(&store, 2, 1, |line| Arc::new(line));
+    let count = FULL as i64 + 1;
+    assert_eq!(
+        add(&node.durable, 0, b"k0", 1),
+        Ok(vec![Reply::Count(count)])
+    );
+    assert_eq!(held(&node.durable, 0, b"k0"), Ok(vec![Reply::Count(count)]));
+}
+
+#[test]
+fn takes_writes_while_a_process_goes_on() {
+    let cluster = Cluster::begin(2);
+    for count in 0..FULL + 8 {
+        let told = cluster.writes_anew();
+        assert!(told.is_ok(), "after {count}: {told:?}");
+    }
+}
+
+#[test]
+fn keeps_a_number_while_a_round_has_it() {
+    let cluster = Cluster::begin(1);
+    let ((enter, entered), (release, released)) = (channel(), channel());
+    let withholds = move || {
+        enter.send(()).expect("a test");
+        released.recv().expect("a test");
+    };
+    *cluster.first.meanwhile.lock().unwrap() = Some(Box::new(withholds));
+    let begin = Begin::Write(vec![Request::Add(b"k0"[..].into(), 1)]);
+    let (step, told) = step(begin, None);
+    cluster.first.durable.submit(0, vec![step]);
+    entered.recv().expect("a transaction");
+    for _ in 0..9 {
+        end(&cluster.start(2));
+    }
+    let taken = 1 + cluster.first.durable.process() + 9;
+    until(|| cluster.begun() >= taken);
+    // It looks each second.
+    thread::sleep(Duration::from_secs(2));
+    assert_eq!(cluster.lowest(), None);
+    release.send(()).expect("a transaction");
+    let told = told.recv_timeout(Duration::from_secs(60));
+    assert_eq!(told, Ok(Ok(vec![Reply::Count(1)])));
+    until(|| cluster.lowest() == Some(taken));
+    assert_eq!(
+        add(&cluster.first.durable, 0, b"k0", 1),
+        Ok(vec![Reply::Count(2)])
+    );
+}
