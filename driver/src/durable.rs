@@ -108,7 +108,9 @@ struct Inner {
     away: Mutex<BTreeSet<u16>>,
     readings: Mutex<Option<Sender<Wanted>>>,
     under_way: AtomicUsize,
-    /// Whether the store had no room for what was written last, but for what makes some.
+    /// Whether the store keeps room back for bases: where it doesn't, none can be made once it is full.
+    keeps_room: bool,
+    /// Whether it had no room for what was written last, but for what makes some.
     is_full: AtomicBool,
     /// How many bytes the bases have that are being written.
     basing: AtomicU64,
@@ -166,6 +168,7 @@ impl Durable {
             let shard = Shard::new(it, process, member.clone(), tuning);
             Mutex::new(shard)
         };
+        let keeps_room = store.left().is_some();
         let inner = Arc::new(Inner {
             store,
             shards: (0..shards).map(each).collect(),
@@ -177,6 +180,7 @@ impl Durable {
             readings: Mutex::new(Some(readings)),
             away: Mutex::default(),
             under_way: AtomicUsize::new(0),
+            keeps_room,
             is_full: AtomicBool::new(false),
             basing: AtomicU64::new(0),
             is_stopping: AtomicBool::new(false),
@@ -502,7 +506,7 @@ impl Inner {
     fn note_room(&self, outcome: &Result<Outcome, WriteError>) {
         let is_full = match outcome {
             Ok(Outcome::Made(_)) => false,
-            Err(WriteError::Full(_)) => true,
+            Err(WriteError::Full(_)) => self.keeps_room,
             _ => return,
         };
         let was_full = self.is_full.swap(is_full, Ordering::AcqRel);
