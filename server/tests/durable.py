@@ -27,6 +27,7 @@ import scans
 import served
 from served import Refused, main
 
+SETTINGS = pathlib.Path(__file__).resolve().parents[2] / "tools/settings"
 SHARDS = 16
 KILLS = 20
 CLIENTS = 8
@@ -465,6 +466,21 @@ def migrations_lose_no_addition(program):
     return f"{counted} additions, {moves} migrations"
 
 
+def spent_generations_are_told(program):
+    """As in memory, where a migration would begin: nobody is told to try again what will never be."""
+    # Of which two migrations leave nothing.
+    words = [SETTINGS, "--servers", "2", "--ranges", "1", "--ceiling", "9"]
+    line = subprocess.run(words, check=True, capture_output=True, text=True).stdout
+    with folder() as data, tempfile.NamedTemporaryFile("w", suffix=".json") as settings:
+        settings.write(line)
+        settings.flush()
+        options = ["--data", data, "--settings", settings.name]
+        with served.served(program, *options) as server, server.client() as client:
+            told = [str(answer_of(client, ("SM", "MIGRATE", 0, it))) for it in (2, 1, 2)]
+            assert told[:2] == ["OK", "OK"], told
+            assert told[2].startswith("REFUSED Spent: the shard's generations are spent; try: "), told
+
+
 def owner(client, shard):
     return int(client.ask("SM", "LOOK", shard).split()[1])
 
@@ -808,6 +824,7 @@ TESTS = [
     drains_and_returns_go_on_at_the_next_start,
     restarts_wait_for_no_server_that_has_failed,
     shards_spread_as_far_as_they_fit,
+    spent_generations_are_told,
     migrations_lose_no_addition,
     what_is_written_over_or_deleted_takes_no_memory,
     kills_lose_nothing_that_was_answered,

@@ -10,6 +10,8 @@ use std::fmt;
 
 /// The name of what it may do later.
 const NOT_NOW: &str = "NotNow";
+/// What to do where a shard has no generations left.
+const OF_SPENT: &str = "the shard takes no change any more: start anew with a greater ceiling";
 
 /// Why the control does nothing, and what to do.
 #[derive(Clone, Debug, PartialEq, Eq)]
@@ -134,7 +136,7 @@ impl Refusal {
                  REASSIGN and RESUME begin from Paused, ASSIGN from Vacant"
             }
             ChangeFault::SameServer => "name another server",
-            ChangeFault::Spent(_) => "the shard takes no change any more: start anew with a greater ceiling",
+            ChangeFault::Spent(_) => OF_SPENT,
             ChangeFault::Busy(_) | ChangeFault::Raced(_) => "try again",
             ChangeFault::Leaving => "name another server, or SM BACK it first",
             ChangeFault::NoCapacity | ChangeFault::DomainLimit => "name another server",
@@ -154,6 +156,10 @@ impl Refusal {
         match refused {
             Refused::Judged(why) => match change_fault(*why) {
                 Some(fault) => Refusal::of_change(fault, row),
+                // No record was read with it.
+                None if *why == CommandFault::ChangeSpent => {
+                    Refusal::new("Spent", why.to_string(), OF_SPENT)
+                }
                 None => Refusal::for_now(*why),
             },
             other => Refusal::of_store(other),
@@ -367,6 +373,11 @@ mod tests {
         );
         let wrong = of(CommandFault::WrongPhase).to_string();
         assert!(wrong.starts_with("REFUSED WrongPhase: "));
+        let spent = of(CommandFault::ChangeSpent);
+        assert_eq!(
+            (spent.is_for_now(), &*spent.name, &*spent.advice),
+            (false, "Spent", OF_SPENT)
+        );
         assert_eq!(
             of(CommandFault::Busy).to_string(),
             "REFUSED NotNow: the control refuses it for now: the record has an admission, or has changed: it is to be \
