@@ -306,7 +306,12 @@ fn forgets_clients(rt: HostRuntime) {
         executes(&rt, alloc, &mut server, client, 5, client);
     }
     assert!(rt; matches!(server.on_request(item(10, 5)), Ok(Decision::TooManyClients)));
-    assert!(rt; matches!(server.on_request(forgetting(10, 6)), Ok(Decision::TooManyClients)));
+    assert!(rt;
+        matches!(
+            server.on_request(forgetting(10, 6)),
+            Ok(Decision::TooManyClients)
+        )
+    );
     let mut next = forgetting(9, 8);
     next.number = 2;
     assert!(rt; matches!(server.on_request(next), Ok(Decision::Waits)));
@@ -336,6 +341,11 @@ fn judges_after_it_forgets(rt: HostRuntime) {
     assert!(rt; matches!(server.flush(alloc), Ok(true)));
     assert!(rt; server.on_made(alloc, 10).is_ok());
     assert!(rt; matches!(server.on_request(item(6, 5)), Ok(Decision::Forgotten)));
-    assert!(rt; matches!(server.on_request(forgetting(11, 7)), Ok(Decision::TooManyClients)));
+    assert!(rt;
+        matches!(
+            server.on_request(forgetting(11, 7)),
+            Ok(Decision::TooManyClients)
+        )
+    );
     assert!(rt; matches!(server.on_request(forgetting(11, 8)), Ok(Decision::Waits)));
 }
