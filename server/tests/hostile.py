@@ -401,41 +401,43 @@ def told_beside(server, keys):
                 yield str(error)
 
 
+def without_memory(program, limit, *options):
+    """Where the system gives no more memory, nothing ends the process, and all that it holds stays; returns how many
+    keys that are."""
+    port = free_port()
+    with contextlib.ExitStack() as stack:
+        options = ("--threads", 2, "--http-port", port, *options)
+        server = stack.enter_context(served(program, *options, before=("prlimit", f"--as={limit}")))
+        clients = [stack.enter_context(server.client()) for _ in range(20)]
+        keys, why = filled(clients[0], b"v" * 60_000)
+        assert why.startswith("OOM memory was refused") and len(keys) > 200, (why, len(keys))
+        # Those who are there are answered, and those who come are, or are told why not.
+        for client in clients:
+            client.socket.sendall(b"".join(packed(*it) for it in TRIED) + packed("MGET", *keys[:100]))
+        for client in clients:
+            answers = [client.read() for _ in range(len(TRIED) + 1)]
+            assert answers[0] == "PONG" and all(may_be(it) for it in answers), answers
+        for _ in range(3):
+            for told in told_beside(server, keys):
+                assert server.is_alive(), told
+        for one in [stack.enter_context(server.client()) for _ in range(50)]:
+            with contextlib.suppress(ConnectionError):
+                one.send("PING")
+                assert str(one.read()).startswith(("PONG", "OOM"))
+        assert page_of(port, "healthz")[0] == 200 and page_of(port, "metrics")[0] in (200, 503)
+        # With some of it gone all else is there.
+        gone = len(keys) * 3 // 4
+        assert sum(clients[0].piped([("DEL", it) for it in keys[:gone]])) == gone
+        assert all(clients[1].ask("GET", it) == b"v" * 60_000 for it in keys[gone:])
+        soon(lambda: clients[0].piped([("SET", "a", 1)]) == ["OK"])
+        assert all(it.ask("PING") == "PONG" for it in clients)
+        return len(keys)
+
+
 def refused_memory_is_an_answer(program):
-    """Where the system gives no more memory, nothing ends the process, and all that it holds stays."""
-    port, counts = free_port(), []
-    for limit in (150 * MEBIBYTE, 300 * MEBIBYTE):
-        with contextlib.ExitStack() as stack:
-            folder = stack.enter_context(tempfile.TemporaryDirectory())
-            options = ("--threads", 2, "--http-port", port, "--folder", folder)
-            server = stack.enter_context(served(program, *options, before=("prlimit", f"--as={limit}")))
-            clients = [stack.enter_context(server.client()) for _ in range(20)]
-            keys, why = filled(clients[0], b"v" * 60_000)
-            assert why.startswith("OOM memory was refused") and len(keys) > 200, (why, len(keys))
-            assert server.is_alive()
-            # Those who are there are answered, and those who come are, or are told why not.
-            for client in clients:
-                client.socket.sendall(b"".join(packed(*it) for it in TRIED) + packed("MGET", *keys[:100]))
-            for client in clients:
-                answers = [client.read() for _ in range(len(TRIED) + 1)]
-                assert answers[0] == "PONG" and all(may_be(it) for it in answers), answers
-            for _ in range(3):
-                for told in told_beside(server, keys):
-                    assert server.is_alive(), told
-            newcomers = [stack.enter_context(server.client()) for _ in range(50)]
-            for one in newcomers:
-                with contextlib.suppress(ConnectionError):
-                    one.send("PING")
-                    assert str(one.read()).startswith(("PONG", "OOM"))
-            assert page_of(port, "healthz")[0] == 200 and page_of(port, "metrics")[0] in (200, 503)
-            # With some of it gone all else is there.
-            gone = len(keys) * 3 // 4
-            assert sum(client.piped([("DEL", it) for it in keys[:gone]])) == gone
-            assert all(clients[1].ask("GET", it) == b"v" * 60_000 for it in keys[gone:])
-            soon(lambda: client.piped([("SET", "a", 1)]) == ["OK"])
-            assert all(it.ask("PING") == "PONG" for it in clients)
-            counts.append(len(keys))
-    return f"{counts} keys"
+    with tempfile.TemporaryDirectory() as folder:
+        small, large = (without_memory(program, it * MEBIBYTE, "--folder", folder) for it in (150, 300))
+    return f"{small} and {large} keys"
 
 
 def may_be(answer):

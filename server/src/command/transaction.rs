@@ -66,6 +66,14 @@ impl Transaction {
         self.commands.len() as u64
     }
 
+    /// What they do to what keys hold.
+    pub fn effect(&self) -> Effect {
+        match self.grows {
+            true => Effect::Grows,
+            false => Effect::Reads,
+        }
+    }
+
     /// How many bytes their arguments have.
     pub fn size(&self) -> usize {
         self.size

@@ -14,7 +14,9 @@ mod trimmer;
 pub use allocator::Allocator;
 pub use bytes::Bytes;
 pub use ceiling::{Ceiling, CEILING};
-pub use reserve::{append, append_surely, fallibly, has_room, reserve, with_spare, NoRoom};
+pub use reserve::{
+    append, append_surely, fallibly, has_pieces, has_room, reserve, with_spare, NoRoom,
+};
 pub use trimmer::Trimmer;
 
 /// Prepares for a system that may refuse memory, before there are threads: what one thread frees then others can have,

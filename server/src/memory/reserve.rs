@@ -73,6 +73,8 @@ pub fn append_surely(list: &mut Vec<u8>, bytes: &[u8]) -> Result<(), NoRoom> {
     }
 }
 
+/// How many bytes a piece has of what lies in many.
+const PIECE: usize = 256 << 10;
 /// How many bytes are there for who frees more by them.
 const SPARE: usize = 8 << 20;
 
@@ -121,6 +123,22 @@ pub fn has_room(bytes: usize) -> Result<(), NoRoom> {
         true => would_give(bytes),
         false => Ok(()),
     }
+}
+
+/// The same of bytes in many pieces.
+pub fn has_pieces(bytes: usize) -> Result<(), NoRoom> {
+    if !may_be_refused() {
+        return Ok(());
+    }
+    let mut pieces = Vec::with_capacity(bytes.div_ceil(PIECE));
+    for at in (0..bytes).step_by(PIECE) {
+        let mut piece = Vec::<u8>::new();
+        let reserved = fallibly(|| piece.try_reserve_exact(PIECE.min(bytes - at)));
+        reserved.map_err(|_| NoRoom)?;
+        pieces.push(piece);
+    }
+    std::hint::black_box(&pieces);
+    Ok(())
 }
 
 fn would_give(bytes: usize) -> Result<(), NoRoom> {

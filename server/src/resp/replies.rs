@@ -9,9 +9,9 @@ pub const MAX_REPLY: usize = 8 << 20;
 /// Room that isn't kept once all was sent; and what was sent is kept no longer than until it is as much.
 const KEPT_ROOM: usize = 16 << 10;
 
-/// The most bytes of a short reply, as an error: where there are this many already, room for one more is reserved before
-/// a command is done.
+/// The most bytes of a short reply, as of an error.
 const SHORT: usize = 512;
+/// Where there are so many bytes, room for a short reply is reserved before a command is done.
 const FEW: usize = 4 << 10;
 
 /// The version of the protocol in which a client is answered.
@@ -120,7 +120,8 @@ impl Replies {
         }
     }
 
-    /// A whole reply that was written elsewhere, in the same version.
+    /// A whole reply that was written elsewhere, in the same version. Memory isn't refused for a short one, which may tell
+    /// of a change.
     pub fn append(&mut self, reply: &[u8]) {
         match reply.len() <= SHORT {
             true => self.bytes.extend_from_slice(reply),

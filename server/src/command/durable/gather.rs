@@ -8,7 +8,7 @@ use crate::command::cursors::{Cursors, OwnCursors};
 use crate::command::data::DataWord;
 use crate::command::reader::Reader;
 use crate::command::session::Session;
-use crate::command::spec::{shard_of, Spec, TalkWord, Word};
+use crate::command::spec::{shard_of, Effect, Spec, TalkWord, Word};
 use crate::command::step::Step;
 use crate::command::transaction::Transaction;
 use crate::command::wanted::{cursor_of, Wanted, WantedRange};
@@ -24,6 +24,9 @@ use std::collections::HashSet;
 const MOST_AT_ONCE: usize = 128;
 /// How often what a command takes or reads lies in memory at once while it is done, at most.
 const COPIES: usize = 3;
+/// How much memory there has to be beside that, as stores end where they are refused any: more before data takes more.
+const LEAST_OF_READS: usize = 8 << 20;
+const LEAST_OF_WRITES: usize = 24 << 20;
 /// How many arguments a transaction's commands have at most, beside their names.
 const MOST_ARGUMENTS: usize = 4_096;
 
@@ -76,7 +79,7 @@ fn run_of(
         if texts > MOST_AT_ONCE && !commands.is_empty() {
             break;
         }
-        match copied(word, command, texts) {
+        match copied(command, texts) {
             Ok(copied) => commands.push((word, copied)),
             Err(refused) if commands.is_empty() => return Err(refused.into()),
             Err(_) => break,
@@ -92,18 +95,26 @@ fn run_of(
 }
 
 /// A copy of the command, if there is memory to do it with all that is asked at once, which reads so many texts.
-fn copied(word: DataWord, command: Command<'_>, texts: usize) -> Result<OwnedCommand, NoRoom> {
-    has_room(word, command, texts)?;
+fn copied(command: Command<'_>, texts: usize) -> Result<OwnedCommand, NoRoom> {
+    may_take(command, texts)?;
     OwnedCommand::copied(command)
 }
 
-/// Whether there is memory to do the command with others, with which it reads so many texts. What deletes reads none.
-fn has_room(word: DataWord, command: Command<'_>, texts: usize) -> Result<(), NoRoom> {
-    let texts = match word {
-        DataWord::Del => 0,
-        _ => texts.min(MOST_AT_ONCE),
-    };
-    memory::has_room(COPIES * (command.size() + texts * MAX_TEXT))
+/// Whether there is memory to do the command with others, with which it reads so many texts.
+fn may_take(command: Command<'_>, texts: usize) -> Result<(), NoRoom> {
+    let effect = Spec::named(command.get(0)).map_or(Effect::Reads, |it| it.effect);
+    has_room(effect, command.size(), texts)
+}
+
+/// Whether there is memory for commands of so many bytes, which have this effect and read so many texts.
+fn has_room(effect: Effect, bytes: usize, texts: usize) -> Result<(), NoRoom> {
+    let read = texts.min(MOST_AT_ONCE) * MAX_TEXT;
+    memory::has_pieces(match effect {
+        // What deletes reads none.
+        Effect::Frees => COPIES * bytes,
+        Effect::Reads => LEAST_OF_READS + COPIES * (bytes + read),
+        Effect::Grows => LEAST_OF_WRITES + COPIES * (bytes + read),
+    })
 }
 
 /// How many texts the command reads, or 1.
@@ -144,7 +155,7 @@ fn each(
         ByKey::Del | ByKey::Exists | ByKey::MGet => keys(command, keyspace)?,
     };
     let texts = texts_of(word.word(), command);
-    has_room(word.word(), command, texts)?;
+    may_take(command, texts)?;
     Ok(Asked::each(protocol, word, parts))
 }
 
@@ -199,8 +210,8 @@ fn asked_by(
                 return Ok(None);
             };
             let shard = transaction.shard().unwrap_or_default();
-            let texts = transaction.arguments().min(MOST_AT_ONCE);
-            memory::has_room(COPIES * (transaction.size() + texts * MAX_TEXT))?;
+            let texts = transaction.arguments();
+            has_room(transaction.effect(), transaction.size(), texts)?;
             if transaction.arguments() > MOST_ARGUMENTS {
                 return Err(Fault::QueueOfMany(MOST_ARGUMENTS));
             }
@@ -218,7 +229,7 @@ fn scan(
     keyspace: &Keyspace,
     protocol: Protocol,
 ) -> Result<Asked, Fault> {
-    memory::has_room(COPIES * MAX_PAIRS * MAX_TEXT)?;
+    memory::has_pieces(COPIES * MAX_PAIRS * MAX_TEXT)?;
     let cursor = cursor_of(command)?;
     let wanted = Wanted::of(command)?;
     let next = cursors.position(cursor, own).ok_or(Fault::BadCursor)?;
@@ -228,7 +239,7 @@ fn scan(
 
 /// What SCANRANGE asks.
 fn range(command: Command<'_>, keyspace: &Keyspace, protocol: Protocol) -> Result<Asked, Fault> {
-    memory::has_room(COPIES * MAX_PAIRS * MAX_TEXT)?;
+    memory::has_pieces(COPIES * MAX_PAIRS * MAX_TEXT)?;
     let walk = Ranging::new(&WantedRange::of(command)?, keyspace);
     Ok(Asked::walk(protocol, Box::new(walk)))
 }
@@ -257,7 +268,7 @@ fn called(
         return Err(Fault::NotNumbered);
     }
     let numbered = Numbered { client, number };
-    let command = copied(word, inner, texts_of(word, inner))?;
+    let command = copied(inner, texts_of(word, inner))?;
     Ok(Asked::numbered(protocol, shard, numbered, (word, command)))
 }
 
