@@ -12,8 +12,8 @@ use std::sync::{Mutex, MutexGuard, PoisonError};
 /// How many bytes are kept back. Until they are needed the system gives no memory for them.
 const KEPT: usize = COUNT * GRANULE;
 
-/// The system's allocator. If that refuses memory, it comes from room that is kept back: half of it is for all, and half
-/// for what can't be refused.
+/// The system's allocator. If that refuses memory, it comes from room that is kept back: half of it is for all, and
+/// half for what can't be refused.
 ///
 /// The proved libraries take memory by themselves, and never have any of that room.
 #[derive(Debug)]
