@@ -101,6 +101,8 @@ struct Inner {
     process: u64,
     /// The number of a process that was taken last for all shards.
     number: AtomicU64,
+    /// Whether another one is being taken for all of them.
+    is_numbering: AtomicBool,
     /// The one server of this process, where it hasn't all.
     own: Option<Own>,
     tuning: Tuning,
@@ -175,6 +177,7 @@ impl Durable {
             stirred: (0..shards).map(|_| AtomicBool::new(true)).collect(),
             process,
             number: AtomicU64::new(process),
+            is_numbering: AtomicBool::new(false),
             own,
             tuning,
             readings: Mutex::new(Some(readings)),
@@ -583,13 +586,13 @@ impl Inner {
 
     /// Has later requests of all shards have another number of a process. Where there is none it is tried again.
     fn renew_all(self: &Arc<Inner>) {
-        let Ok(process) = process::begin(&*self.store) else {
-            return;
-        };
-        for shard in 0..self.shards.len() as u16 {
-            self.with(shard, |it, deeds| it.renew(process, Instant::now(), deeds));
+        if let Ok(process) = process::begin(&*self.store) {
+            for shard in 0..self.shards.len() as u16 {
+                self.with(shard, |it, deeds| it.renew(process, Instant::now(), deeds));
+            }
+            self.number.fetch_max(process, Ordering::AcqRel);
         }
-        self.number.fetch_max(process, Ordering::AcqRel);
+        self.is_numbering.store(false, Ordering::Release);
     }
 
     /// Takes another number of a process where many others have begun since, and tells them once no shard has requests
@@ -600,7 +603,9 @@ impl Inner {
         };
         let number = self.number.load(Ordering::Acquire);
         if own.member.is_old(number) {
-            self.want(Wanted::ProcessOfAll);
+            if !self.is_numbering.swap(true, Ordering::AcqRel) {
+                self.want(Wanted::ProcessOfAll);
+            }
         } else if own.member.own_lowest() < number {
             let firsts = self.shards.iter().map(|it| locked(it).first_process());
             if firsts.min().is_some_and(|it| it >= number) {

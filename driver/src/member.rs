@@ -89,6 +89,8 @@ struct SeenKeys {
     newest: u64,
     /// The first numbers by which processes still have requests, where these took others since they began.
     lowests: BTreeMap<u16, Lowest>,
+    /// The first of the numbers by which any that is there still has requests; 0 before that was seen.
+    lowest: u64,
     leader: Option<(u64, Revision)>,
     /// The revision at which the leader's key changed last.
     led: Revision,
@@ -224,15 +226,20 @@ impl Member {
 
     /// The first number of a process whose clients aren't to be forgotten, as its server is there.
     pub(crate) fn lowest(&self) -> u64 {
-        let seen = self.inner.seen();
-        let members = seen.members.iter();
-        let lowests = members.map(|(server, live)| seen.lowest_of(*server, live.process));
-        lowests.fold(self.inner.lowest_by(&seen), u64::min)
+        self.inner.seen().lowest
     }
 
     /// The first number by which this process still has requests, as its key was seen to tell it.
     pub(crate) fn own_lowest(&self) -> u64 {
-        self.inner.lowest_by(&self.inner.seen())
+        let inner = &self.inner;
+        inner.seen().lowest_of(inner.server, inner.process)
+    }
+
+    /// Of how many processes shards may keep the last requests: those that were seen to begin since the first number by
+    /// which one that is there still has requests.
+    pub fn processes_kept(&self) -> u64 {
+        let seen = self.inner.seen();
+        seen.newest.saturating_sub(seen.lowest) + 1
     }
 
     /// Whether so many others have begun since this process took its number that it is to take another one, so that
@@ -271,11 +278,6 @@ impl Inner {
 
     fn seen(&self) -> MutexGuard<'_, SeenKeys> {
         self.seen.lock().unwrap_or_else(PoisonError::into_inner)
-    }
-
-    /// The first number by which this process still has requests, by what was seen.
-    fn lowest_by(&self, seen: &SeenKeys) -> u64 {
-        seen.lowest_of(self.server, self.process)
     }
 
     /// Takes the server's key, once nobody has it.
@@ -507,6 +509,10 @@ impl Inner {
             }
         }
         keys.changes += 1;
+        // Where none was seen yet, some may be there.
+        if !keys.members.is_empty() {
+            keys.lowest = keys.lowest_with(self.server, self.process);
+        }
         let own = keys.members.get(&self.server);
         let is_replaced = own.is_some_and(|it| it.process != self.process);
         self.is_replaced.store(is_replaced, Ordering::Release);
@@ -520,6 +526,13 @@ impl SeenKeys {
     fn lowest_of(&self, server: u16, process: u64) -> u64 {
         let lowest = self.lowests.get(&server).filter(|it| it.process == process);
         lowest.map_or(process, |it| it.number)
+    }
+
+    /// The first of the numbers by which this process, or any that is there, still has requests.
+    fn lowest_with(&self, server: u16, process: u64) -> u64 {
+        let members = self.members.iter();
+        let lowests = members.map(|(server, live)| self.lowest_of(*server, live.process));
+        lowests.fold(self.lowest_of(server, process), u64::min)
     }
 
     /// Notes what lies at a key, or that nothing does any more.

@@ -162,10 +162,13 @@ fn keeps_a_number_while_a_round_has_it() {
     // It looks each second.
     thread::sleep(Duration::from_secs(2));
     assert_eq!(cluster.lowest(), None);
+    let member = cluster.first.durable.member().expect("a member");
+    assert_eq!(member.processes_kept(), 10);
     release.send(()).expect("a transaction");
     let told = told.recv_timeout(Duration::from_secs(60));
     assert_eq!(told, Ok(Ok(vec![Reply::Count(1)])));
     until(|| cluster.lowest() == Some(taken));
+    until(|| member.processes_kept() == 1);
     assert_eq!(
         add(&cluster.first.durable, 0, b"k0", 1),
         Ok(vec![Reply::Count(2)])

@@ -44,8 +44,10 @@ const SENT: &str = "Works that went to other processes";
 const CAME: &str = "Works that came from other processes";
 const AGAIN: &str = "Works that came back and went on here";
 const UNASKED: &str = "Works for which a process couldn't be asked";
+const KEPT: &str =
+    "Processes whose last requests shards may keep: there is room for 16 whose rounds were full";
 /// What there is where servers have a process each: its name, what it is, and where it stands.
-const OF_PROCESSES: [OfProcesses; 10] = [
+const OF_PROCESSES: [OfProcesses; 11] = [
     ("works_sent_total", SENT, |it| it.counts().sent()),
     ("works_came_total", CAME, |it| it.counts().came()),
     ("works_again_total", AGAIN, |it| it.counts().again()),
@@ -63,6 +65,7 @@ const OF_PROCESSES: [OfProcesses; 10] = [
     ("servers_there", "Servers whose process is there", |it| {
         it.member().members().len() as u64
     }),
+    ("processes_kept", KEPT, |it| it.member().processes_kept()),
     ("leads", "Whether this process leads", |it| {
         u64::from(it.leader() == Some(it.member().server()))
     }),
