@@ -152,8 +152,8 @@ impl ProvedBody {
         Ok(())
     }
 
-    /// Has the map give back memory, if more of it was deleted than stays: it looks at that before it writes. A key that
-    /// holds nothing holds nothing behind that, too.
+    /// Has the map give back memory, if more of it was deleted than stays: it looks at that before it writes. A key
+    /// that holds nothing holds nothing behind that, too.
     fn give_back(&mut self, key: &[u8]) {
         let map = &mut self.map;
         let written = memory::with_spare(|| lent(map, &Asked::Append(key, b"")).is_ok());

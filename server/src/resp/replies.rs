@@ -120,8 +120,8 @@ impl Replies {
         }
     }
 
-    /// A whole reply that was written elsewhere, in the same version. Memory isn't refused for a short one, which may tell
-    /// of a change.
+    /// A whole reply that was written elsewhere, in the same version. Memory isn't refused for a short one, which may
+    /// tell of a change.
     pub fn append(&mut self, reply: &[u8]) {
         match reply.len() <= SHORT {
             true => self.bytes.extend_from_slice(reply),
