@@ -82,6 +82,7 @@ enum durkenzo_code {
     DURKENZO_CHANGE_SPENT = 13,    /* the shard's generations are spent; `read` is written */
     DURKENZO_BUSY = 14,            /* the shard is admitted; `read` is written */
     DURKENZO_RACED = 15,           /* another thread was first; `read` is written */
+    DURKENZO_BAD_AFTER = 16,       /* fencing tokens begin after at most 9,223,371,968,135,299,072 */
     DURKENZO_NOBODY_OWNS = 21,     /* nobody owns the shard; `read` is written */
     DURKENZO_IS_PAUSED = 22,       /* the shard is paused; `read` is written */
     DURKENZO_NOT_EXECUTOR = 23,    /* another server executes the shard's requests; `read` is written */
@@ -211,13 +212,17 @@ enum durkenzo_restart_kind {
 uint32_t durkenzo_open(durkenzo_handle *control, const uint64_t *numbers, size_t count, uint16_t servers, uint16_t ops,
                        uint64_t ceiling);
 
-/* Makes a new pass on the board of this control, as this server for good. The pass's handle keeps it, in place of
- * what it kept; the board lives until its control and all its passes are closed. Errors: WRONG_HANDLE,
- * BAD_ARGUMENT, NO_MEMORY. */
+/* The same, but that fencing tokens begin after this number, not after 0: see durkenzo_token. Error besides:
+ * BAD_AFTER. */
+uint32_t durkenzo_open_after(durkenzo_handle *control, const uint64_t *numbers, size_t count, uint16_t servers,
+                             uint16_t ops, uint64_t ceiling, uint64_t after);
+
+/* Makes a new pass on the board of this control, as this server of the board for good. The pass's handle keeps it, in
+ * place of what it kept; the board lives until its control and all its passes are closed. Errors: WRONG_HANDLE,
+ * BAD_ARGUMENT, UNKNOWN_SERVER, NO_MEMORY. */
 uint32_t durkenzo_pass(durkenzo_handle *control, durkenzo_handle *pass, uint16_t server);
 
-/* Writes the shard's record to `record`. The pass may hold an admission, of whose shard the generation then is a
- * fencing token: each later admission to the shard has a greater one. Errors: WRONG_HANDLE, UNKNOWN_SHARD. */
+/* Writes the shard's record to `record`, also while the pass has an admission. Errors: WRONG_HANDLE, UNKNOWN_SHARD. */
 uint32_t durkenzo_look(durkenzo_handle *pass, uint16_t shard, durkenzo_record *record);
 
 /* The word of the shard's record, for the calls on words: the quickest look. It is DURKENZO_NO_WORD where the handle
@@ -232,6 +237,13 @@ uint32_t durkenzo_admit(durkenzo_handle *pass, uint16_t shard, uint16_t from, ui
 
 /* The same, but that 21 to 26 and RACED write the word of the record that was read to `word`: the quickest. */
 uint32_t durkenzo_admit_word(durkenzo_handle *pass, uint16_t shard, uint16_t from, uint64_t *number, uint64_t *word);
+
+/* Writes the fencing token of the pass's admission: each later admission to the shard has a greater one, so a store
+ * that keeps the greatest that it saw, and refuses lesser ones, refuses late writes. Each token of a board is above the
+ * number after which they begin, and at most DURKENZO_MAX_GENERATION above it. So raise a number in your store by
+ * that at each start, and open the board after the number as it was: then its tokens are above all of earlier boards,
+ * also of those that still write. Error: WRONG_HANDLE, where the pass has no admission. */
+uint32_t durkenzo_token(durkenzo_handle *pass, uint64_t *token);
 
 /* Ends the admission of the pass, and writes the shard's generation since then. Error: WRONG_HANDLE, where it has
  * none. */
@@ -351,6 +363,10 @@ uint32_t durkenzo_open_settings(durkenzo_handle *control, durkenzo_handle *layou
  * Errors: BAD_COUNT where the numbers aren't as many as the line's shards, and as above. */
 uint32_t durkenzo_open_bodies(durkenzo_handle *control, durkenzo_handle *layout, const uint8_t *line, size_t length,
                               const uint64_t *numbers, size_t count);
+
+/* The same, but that fencing tokens begin after this number, not after 0. Error besides: BAD_AFTER. */
+uint32_t durkenzo_open_bodies_after(durkenzo_handle *control, durkenzo_handle *layout, const uint8_t *line,
+                                    size_t length, const uint64_t *numbers, size_t count, uint64_t after);
 
 /* An envelope but for its request and its note. */
 typedef struct durkenzo_envelope_parts {

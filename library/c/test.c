@@ -90,6 +90,27 @@ static void full_shards(void) {
     assert(durkenzo_checkpoint(&pass, 0, &generation, &read) == DURKENZO_OK && generation == after.generation + 2);
 }
 
+/* Tokens begin after the number that the board was opened after, and a pass is of a server that the board has. */
+static void fencing_tokens(void) {
+    const uint64_t numbers[] = {7}, greatest = (UINT64_C(1) << 63) - (UINT64_C(1) << 36);
+    durkenzo_handle board = DURKENZO_HANDLE_INIT, two = DURKENZO_HANDLE_INIT;
+    durkenzo_record read;
+    uint64_t number, token = 9;
+    assert(durkenzo_open_after(&board, numbers, 1, 2, 1, 100, greatest + 1) == DURKENZO_BAD_AFTER);
+    assert(durkenzo_open_after(&board, numbers, 1, 2, 1, 2, 500) == DURKENZO_BAD_CEILING);
+    assert(durkenzo_pass(&board, &two, 2) == DURKENZO_WRONG_HANDLE);
+    assert(durkenzo_open_after(&board, numbers, 1, 2, 1, 100, 500) == DURKENZO_OK);
+    assert(durkenzo_pass(&board, &two, 3) == DURKENZO_UNKNOWN_SERVER);
+    assert(durkenzo_pass(&board, &two, 0) == DURKENZO_BAD_ARGUMENT);
+    assert(durkenzo_pass(&board, &two, 2) == DURKENZO_OK);
+    assert(durkenzo_change(&board, 0, DURKENZO_ASSIGN, 2, &read) == DURKENZO_OK);
+    assert(durkenzo_token(&two, &token) == DURKENZO_WRONG_HANDLE && token == 9);
+    assert(durkenzo_admit(&two, 0, 0, &number, &read) == DURKENZO_OK && number == 7);
+    assert(durkenzo_token(&two, &token) == DURKENZO_OK && token == 502);
+    durkenzo_close(&two);
+    durkenzo_close(&board);
+}
+
 static void words(void) {
     uint64_t next = 7, admitted;
     assert(durkenzo_changed(0, DURKENZO_ASSIGN, 1, DURKENZO_MAX_GENERATION + 1, &next) == DURKENZO_BAD_CEILING);
@@ -160,6 +181,7 @@ static void routes_rise(void) {
 int main(void) {
     sizes_and_settings();
     full_shards();
+    fencing_tokens();
     words();
     routes_that_are_refused();
     routes_rise();

@@ -65,6 +65,9 @@ pub(crate) const BUSY: u32 = 14;
 /// Another thread was first.
 pub(crate) const RACED: u32 = 15;
 
+/// Fencing tokens begin after at most 9,223,371,968,135,299,072.
+pub(crate) const BAD_AFTER: u32 = 16;
+
 /// Nobody owns the shard.
 pub(crate) const NOBODY_OWNS: u32 = 21;
 

@@ -21,6 +21,7 @@ ghost use Rattle.sm_c.specs.Words.{AcceptsWord, AdmitsWord, ArePartsOf, ChangesW
 ghost use Rattle.sm_c.specs.Words.{HasNoRecord, IsNoServer, IsNoWord, PacksParts, RefusesWord};
 
 mod codes;
+mod fences;
 mod kinds;
 mod layouts;
 mod maps;
@@ -48,6 +49,7 @@ pub use record_parts::RecordParts;
 use record_parts::number;
 pub use route_parts::RouteParts;
 use sm_desk::Command;
+use sm_foreign::Fence;
 use sm_handle::Handle;
 use sm_ranges::server_id::ServerId;
 use sm_ranges::shard_id::ShardId;
@@ -213,19 +215,19 @@ pub extern "C" fn durkenzo_open(
     ops: u16,
     ceiling: u64,
 ) -> u32
-    ensures made { result ≡ 0 → IsOpened chief.new.owned.state numbers.now servers ops ceiling }
+    ensures made { result ≡ 0 → IsOpened chief.new.owned.state numbers.now servers ops ceiling 0 }
     ensures refused { result ≢ 0 → (fault : OpenFaultValue)
         × OpensNothing (length numbers.now) servers ops ceiling fault × (result ≡ open_fault_code fault) }
     ensures kept { result ≢ 0 → chief.new.owned.state ≡ chief.old.owned.state }
 {
-    match chief.open(alloc, numbers, servers, ops, ceiling) {
+    match chief.open(alloc, numbers, servers, ops, ceiling, Fence::first()) {
         Ok(()) => 0,
         Err(fault) => code_of_open(fault),
     }
 }
 
-/// Makes a new pass on the board of this control, with this server. The pass's handle keeps it, in place of what it
-/// kept.
+/// Makes a new pass on the board of this control, with this server, which the board has. The pass's handle keeps it, in
+/// place of what it kept.
 #[unsafe(no_mangle)]
 pub extern "C" fn durkenzo_pass(
     alloc: Global,
@@ -236,7 +238,7 @@ pub extern "C" fn durkenzo_pass(
     ensures chief { chief.new.owned.state ≡ chief.old.owned.state }
     ensures made { result ≡ 0 → IsPassOf chief.old.owned.state pass.new.owned.state (Some server) }
     ensures refused { result ≢ 0 → ((result ≡ BAD_ARGUMENT) × IsNoServer server)
-        ⊎ IsCodeOf (GivesNoPass chief.old.owned.state) result }
+        ⊎ IsCodeOf (GivesNoPass chief.old.owned.state (Some server)) result }
     ensures kept { result ≢ 0 → pass.new.owned.state ≡ pass.old.owned.state }
 {
     let Some(server) = known_server(server) else {

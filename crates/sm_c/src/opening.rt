@@ -1,10 +1,12 @@
 //! Boards that a line of settings describes.
-ghost use Rattle.std.specs.Prelude.{◌≡◌, ◌≢◌, ◌≤◌, length};
+ghost use Rattle.std.specs.Prelude.{◌≡◌, ◌≢◌, ◌≤◌, ◌<◌, ◌⊎◌, length};
+ghost use Rattle.sm_foreign.specs.declared.fence.TheConstants.{MAX_AFTER};
 ghost use Rattle.sm_handle.specs.Opening.{OpensBoard, OpensNoBoard, OpensNoService, OpensService};
 ghost use Rattle.sm_handle.specs.declared.settings_open_fault.SettingsOpenFault.{SettingsOpenFault as FaultValue};
 ghost use Rattle.sm_c.specs.Opening.{HasFault, settings_code, settings_open_code};
 
-use crate::codes::{NO_MEMORY, code_of_open};
+use crate::codes::{BAD_AFTER, NO_MEMORY, code_of_open};
+use sm_foreign::Fence;
 use sm_handle::{Handle, SettingsOpenFault};
 use sm_settings::SettingsFault;
 use std::alloc::Global;
@@ -50,14 +52,58 @@ pub extern "C" fn durkenzo_open_bodies(
     numbers: &[u64],
 ) -> u32
     ensures made { result ≡ 0
-        → OpensBoard line.now numbers.now chief.new.owned.state layout.new.owned.state }
+        → OpensBoard line.now numbers.now 0 chief.new.owned.state layout.new.owned.state }
     ensures fault { 70 ≤ result → HasFault line.now result }
     ensures refused { result ≢ 0 → (fault : FaultValue) × OpensNoBoard line.now (length numbers.now) fault
         × (result ≡ settings_open_code fault) }
     ensures kept { result ≢ 0 → chief.new.owned.state ≡ chief.old.owned.state }
     ensures unwritten { result ≢ 0 → layout.new.owned.state ≡ layout.old.owned.state }
 {
-    match chief.open_bodies_by(alloc, layout, line, numbers) {
+    open_fenced(alloc, chief, layout, line, numbers, Fence::first())
+}
+
+/// Opens a board as `durkenzo_open_bodies` does, whose fencing tokens are all above this number.
+#[unsafe(no_mangle)]
+pub extern "C" fn durkenzo_open_bodies_after(
+    alloc: Global,
+    chief: &mut Handle,
+    layout: &mut Handle,
+    line: &[u8],
+    numbers: &[u64],
+    after: u64,
+) -> u32
+    ensures made { result ≡ 0
+        → OpensBoard line.now numbers.now after chief.new.owned.state layout.new.owned.state }
+    ensures fault { 70 ≤ result → HasFault line.now result }
+    ensures refused { result ≢ 0 → ((result ≡ BAD_AFTER) × (MAX_AFTER < after)) ⊎ ((fault : FaultValue)
+        × OpensNoBoard line.now (length numbers.now) fault × (result ≡ settings_open_code fault)) }
+    ensures kept { result ≢ 0 → chief.new.owned.state ≡ chief.old.owned.state }
+    ensures unwritten { result ≢ 0 → layout.new.owned.state ≡ layout.old.owned.state }
+{
+    match Fence::new(after) {
+        Some(fence) => open_fenced(alloc, chief, layout, line, numbers, fence),
+        None => BAD_AFTER,
+    }
+}
+
+// Opens a board with a body for each number as the line of settings says, with this fence.
+fn open_fenced(
+    alloc: Global,
+    chief: &mut Handle,
+    layout: &mut Handle,
+    line: &[u8],
+    numbers: &[u64],
+    fence: Fence,
+) -> u32
+    ensures made { result ≡ 0
+        → OpensBoard line.now numbers.now fence.after chief.new.owned.state layout.new.owned.state }
+    ensures fault { 70 ≤ result → HasFault line.now result }
+    ensures refused { result ≢ 0 → (fault : FaultValue) × OpensNoBoard line.now (length numbers.now) fault
+        × (result ≡ settings_open_code fault) }
+    ensures kept { result ≢ 0 → chief.new.owned.state ≡ chief.old.owned.state }
+    ensures unwritten { result ≢ 0 → layout.new.owned.state ≡ layout.old.owned.state }
+{
+    match chief.open_bodies_by(alloc, layout, line, numbers, fence) {
         Ok(()) => 0,
         Err(SettingsOpenFault::Settings(fault)) => code_of_settings(fault),
         Err(SettingsOpenFault::Open(fault)) => code_of_open(fault),

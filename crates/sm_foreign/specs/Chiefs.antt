@@ -1,5 +1,5 @@
 -- The bodies of a board that another program owns, and the books of new ones.
-use Rattle.std.specs.Prelude.{ℕ, zero, suc, ◌≡◌, ◌++◌, ⊤, false, List, [], ◌∷◌, length, map, replicate}
+use Rattle.std.specs.Prelude.{ℕ, zero, suc, ◌≡◌, ◌++◌, ⊤, true, false, List, [], ◌∷◌, length, map, replicate}
 use Rattle.std.specs.Prelude.{Option, Some, None}
 use Rattle.sm_control.specs.Controls.{ControlValue}
 use Rattle.sm_control.specs.declared.drain_fault.DrainFault.{DrainFault}
@@ -16,6 +16,8 @@ use Rattle.sm_rows.specs.declared.server_row.ServerRow.{ServerRow}
 use Rattle.sm_rows.specs.declared.shard_row.ShardRow.{ShardRow}
 use Rattle.sm_settings.specs.SettingsLine.{SettingsValues}
 use Rattle.sm_foreign.specs.declared.foreign.Foreign.{Foreign}
+use Rattle.sm_foreign.specs.declared.pass_fault.PassFault.{PassFault}
+use Rattle.sm_foreign.specs.declared.pass_fault.PassFault.TheVariants.{NoMemory as NoPass, UnknownServer as NoServer}
 
 -- the bodies of these numbers
 abbrev pub foreign_of : List ℕ → List Foreign
@@ -66,6 +68,16 @@ planned_for books None = assign_plan books
 abbrev pub HasNoServer : BooksView → Option ℕ → Type 0
 HasNoServer books (Some server) = is_known books.servers server ≡ false
 HasNoServer books None = ⊥
+
+-- the books have this server, if one is named
+abbrev pub HasServer : BooksView → Option ℕ → Type 0
+HasServer books (Some server) = is_known books.servers server ≡ true
+HasServer books None = ⊤
+
+-- why there is no pass of this server
+abbrev pub HasNoPass : BooksView → Option ℕ → PassFault → Type 0
+HasNoPass books server NoServer = HasNoServer books server
+HasNoPass books server NoPass = ⊤
 
 -- why there is no plan
 abbrev pub PlansNothing : BooksView → Option ℕ → DrainFault → Type 0

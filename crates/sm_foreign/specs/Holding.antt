@@ -1,5 +1,5 @@
 -- Passes with the permits that they hold.
-use Rattle.std.specs.Prelude.{ℕ, ◌≡◌, List, Option, Some, None}
+use Rattle.std.specs.Prelude.{ℕ, ◌≡◌, ◌+◌, List, Option, Some, None}
 use Rattle.std.specs.Option.{option_map}
 use Rattle.sm_ownership.specs.declared.entry.Ending.TheVariants.{Nothing}
 use Rattle.sm_ownership.specs.declared.entry.Kind.TheVariants.{Done}
@@ -16,6 +16,14 @@ use Rattle.sm_foreign.specs.declared.foreign.Foreign.{Foreign}
 -- the shard that a pass holds, with its record since the admission
 abbrev pub admission_of : {Q : Type 0} → Option (HeldShard Q) → Option (ℕ × Record)
 admission_of held = option_map (λ it. (it.shard, it.state)) held
+
+-- the generation of the shard that a pass holds, since the admission
+abbrev pub generation_held : {Q : Type 0} → PassValue Q → Option ℕ
+generation_held pass = option_map (λ held. held.state.generation) pass.held
+
+-- the fencing token of what a pass holds, if it holds anything, where tokens begin after this number
+abbrev pub token_of : {Q : Type 0} → ℕ → PassValue Q → Option ℕ
+token_of after pass = option_map (λ generation. after + generation) (generation_held pass)
 
 -- a pass on this board that holds this shard has this permit, whose body is the shard's and as it was
 abbrev pub IsPermitOf : {S Q : Type 0} → (S → ℕ → List Q → Type 0) → (S → ℕ) → BoardValue → Option (HeldShard Q)

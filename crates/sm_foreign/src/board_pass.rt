@@ -1,10 +1,11 @@
-ghost use Rattle.std.specs.Prelude.{◌≡◌, ◌<◌, None, IfErr, IfNone, IfOk, IfSome, is_none};
+ghost use Rattle.std.specs.Prelude.{◌≡◌, ◌<◌, ◌≤◌, None, IfErr, IfNone, IfOk, IfSome, is_none};
 ghost use Rattle.std.specs.Arc.{arc_value};
+ghost use Rattle.sm_ownership.specs.declared.record.TheConstants.{MAX_GENERATION};
 ghost use Rattle.sm_rule.specs.Admissions.{RefusedBy};
 ghost use Rattle.sm_rule.specs.Passes.{PassLooks, record_of};
 ghost use Rattle.sm_rule.specs.Views.{Begins, IsMet};
 ghost use Rattle.sm_rule.specs.Words.{IsWordOf};
-ghost use Rattle.sm_foreign.specs.Holding.{AdmitsPass, EndsPass};
+ghost use Rattle.sm_foreign.specs.Holding.{AdmitsPass, EndsPass, generation_held};
 
 use crate::foreign::Foreign;
 use sm_body::service::Service;
@@ -67,6 +68,19 @@ impl BoardPass<Foreign> {
         ensures { result ≡ is_none self.now.1 }
     {
         self.permit.is_none()
+    }
+
+    /// The generation of the shard that the pass holds, since the admission, if it holds one.
+    pub fn generation(&self) -> Option<u64>
+        ensures generation { result ≡ generation_held self.now.0 }
+        ensures counted { IfSome result (λ generation. 0 < generation) }
+        ensures low { IfSome result (λ generation. generation ≤ MAX_GENERATION) }
+        ensures free { IfNone result (self.now.1 ≡ None) }
+    {
+        match &self.permit {
+            Some(permit) => Some(permit.generation()),
+            None => None,
+        }
     }
 
     /// The word of the shard's record after all that the pass then has seen.
@@ -154,7 +168,7 @@ impl BoardPass<Foreign> {
     }
 
     // Ends the admission, if there is one, for good.
-    fn end(self) {
+    pub(crate) fn end(self) {
         let BoardPass {
             board,
             mut pass,
@@ -166,27 +180,5 @@ impl BoardPass<Foreign> {
             }
             None => {}
         }
-    }
-}
-
-/// A pass to foreign bodies, whose admission ends where it is let go.
-pub struct ForeignPass {
-    pub held: BoardPass<Foreign>,
-}
-
-impl ForeignPass {
-    /// The pass.
-    pub fn into_held(self) -> BoardPass<Foreign>
-        ensures { result ≡ self.held }
-    {
-        let ForeignPass { held } = self;
-        held
-    }
-}
-
-impl Drop for ForeignPass {
-    fn drop(self) {
-        let ForeignPass { held } = self;
-        held.end();
     }
 }

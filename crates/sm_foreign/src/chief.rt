@@ -6,7 +6,8 @@ ghost use Rattle.sm_desk.specs.Desk.{desk_fault};
 ghost use Rattle.sm_settings.specs.SettingsLine.{values_of};
 ghost use Rattle.sm_settings.specs.SettingsRules.{KeepsRules};
 ghost use Rattle.sm_place.specs.Books.{first_books_fault};
-ghost use Rattle.sm_foreign.specs.Chiefs.{IsControlBy, PlansNothing, desk_of_rows, equal_shards, first_desk};
+ghost use Rattle.sm_foreign.specs.Chiefs.{HasNoPass, HasServer, IsControlBy, PlansNothing};
+ghost use Rattle.sm_foreign.specs.Chiefs.{desk_of_rows, equal_shards, first_desk};
 ghost use Rattle.sm_foreign.specs.Chiefs.{first_servers, one_group, own_domains, planned_for};
 ghost use Rattle.sm_foreign.specs.Refusals.{OpensNothingBy, OpensNothing};
 
@@ -14,6 +15,7 @@ use crate::board_pass::BoardPass;
 use crate::foreign::Foreign;
 use crate::free_pass::FreePass;
 use crate::open_fault::OpenFault;
+use crate::pass_fault::PassFault;
 use sm_body::service::Service;
 use sm_control::{Control, DrainFault};
 use sm_desk::{Command, CommandFault, Desk};
@@ -147,13 +149,32 @@ impl<S: Service> Chief<S> {
         }
     }
 
-    /// A new pass on the board, admitted as this server, or never. It is refused for want of memory alone.
-    pub fn pass(&self, server: Option<ServerId>) -> Result<FreePass<S>, AllocError>
+    /// A new pass on the board, admitted as this server, which the board has, or never.
+    pub fn pass(&self, server: Option<ServerId>) -> Result<FreePass<S>, PassFault>
         ensures board { IfOk result (λ free. free.board ≡ self.now.chair.board) }
         ensures server { IfOk result (λ free. free.server ≡ server) }
+        ensures known { IfOk result (λ free. HasServer self.now.desk.books server) }
+        ensures refused { IfErr result (HasNoPass self.now.desk.books server) }
     {
+        let server = self.known(server)?;
         let board = Arc::try_clone(&self.board)?;
         Ok(FreePass::new(board, server))
+    }
+
+    // The server, or none where none is named, if the board has it.
+    fn known(&self, server: Option<ServerId>) -> Result<Option<ServerId>, PassFault>
+        ensures same { IfOk result (λ it. it ≡ server) }
+        ensures known { IfOk result (λ it. HasServer self.now.desk.books server) }
+        ensures refused { IfErr result (HasNoPass self.now.desk.books server) }
+    {
+        let Some(named) = server else {
+            return Ok(None);
+        };
+        if self.control.desk().knows(named) {
+            Ok(Some(named))
+        } else {
+            Err(PassFault::UnknownServer)
+        }
     }
 
     /// Where the control would have the shards of the server go, or without one the vacant shards; or the first fault
@@ -181,12 +202,15 @@ impl<S: Service> Chief<S> {
 }
 
 impl Chief<Foreign> {
-    /// A new pass to foreign bodies, admitted as this server, or never. It is refused for want of memory alone.
-    pub fn foreign_pass(&self, server: Option<ServerId>) -> Result<BoardPass<Foreign>, AllocError>
+    /// A new pass to foreign bodies, admitted as this server, which the board has, or never.
+    pub fn foreign_pass(&self, server: Option<ServerId>) -> Result<BoardPass<Foreign>, PassFault>
         ensures board { IfOk result (λ pass. pass.0.board ≡ self.now.chair.board) }
         ensures server { IfOk result (λ pass. pass.0.server ≡ server) }
+        ensures known { IfOk result (λ pass. HasServer self.now.desk.books server) }
         ensures free { IfOk result (λ pass. pass.1 ≡ None) }
+        ensures refused { IfErr result (HasNoPass self.now.desk.books server) }
     {
+        let server = self.known(server)?;
         let board = Arc::try_clone(&self.board)?;
         Ok(BoardPass::new(board, server))
     }

@@ -1,20 +1,21 @@
 -- What calls do to the state of a handle.
-use Rattle.std.specs.Prelude.{ℕ, ◌≡◌, ◌≤◌, ◌⊎◌, ⊤, true, List, length, map}
+use Rattle.std.specs.Prelude.{ℕ, ◌≡◌, ◌≤◌, ◌<◌, ◌+◌, ◌⊎◌, ⊤, true, List, length, map}
 use Rattle.std.specs.Prelude.{Option, Some, None, is_some, Result, Ok, Err}
 use Rattle.sm_ownership.specs.declared.mode.Mode.{Mode}
 use Rattle.sm_ownership.specs.declared.record.Record.{Record}
+use Rattle.sm_ownership.specs.declared.record.TheConstants.{MAX_GENERATION}
 use Rattle.sm_rule.specs.Admissions.{RefusedBy}
 use Rattle.sm_rule.specs.Passes.{PassLooks, record_of}
 use Rattle.sm_rule.specs.Words.{IsWordOf}
 use Rattle.sm_desk.specs.declared.command.Command.{Command}
 use Rattle.sm_desk.specs.Desk.{desk_fault}
 use Rattle.sm_foreign.specs.declared.foreign.Foreign.{Foreign}
-use Rattle.sm_foreign.specs.Chiefs.{first_desk, foreign_of}
+use Rattle.sm_foreign.specs.Chiefs.{HasNoServer, HasServer, first_desk, foreign_of}
 use Rattle.sm_foreign.specs.Controls.{Commanded}
-use Rattle.sm_foreign.specs.Holding.{AdmitsPass, EndsPermit}
+use Rattle.sm_foreign.specs.Holding.{AdmitsPass, EndsPermit, token_of}
 use Rattle.sm_handle.specs.declared.act_fault.ActFault.{ActFault}
 use Rattle.sm_handle.specs.declared.act_fault.ActFault.TheVariants.{WrongHandle, UnknownShard, NoMemory, Admit}
-use Rattle.sm_handle.specs.declared.act_fault.ActFault.TheVariants.{Command as CommandRefused}
+use Rattle.sm_handle.specs.declared.act_fault.ActFault.TheVariants.{Command as CommandRefused, UnknownServer}
 use Rattle.sm_handle.specs.declared.handle_state.HandleState.{HandleState}
 use Rattle.sm_handle.specs.declared.handle_state.HandleState.TheVariants.{Chief, Pass, TextChief, TextPass}
 
@@ -22,6 +23,7 @@ use Rattle.sm_handle.specs.declared.handle_state.HandleState.TheVariants.{Chief,
 abbrev pub AdmitsState : HandleState → HandleState → ℕ → Mode → ℕ → Type 0
 AdmitsState (Pass before) (Pass after) shard mode number =
     (before.held.1 ≡ None) × AdmitsPass before.held after.held shard mode number
+    × (after.fence.after ≡ before.fence.after)
 AdmitsState before after shard mode number = ⊥
 
 -- this is why no pass is admitted: the handle keeps none to foreign bodies that holds no permit, or its board hasn't
@@ -36,13 +38,14 @@ AdmitsNowhere state shard fault = fault ≡ WrongHandle
 abbrev pub RefusesState : HandleState → HandleState → ℕ → Mode → ActFault → Type 0
 RefusesState (Pass before) (Pass after) shard mode (Admit refusal) =
     PassLooks before.held.0 after.held.0 × RefusedBy before.held.0 after.held.0 shard mode refusal
-    × (after.held.1 ≡ before.held.1)
+    × (after.held.1 ≡ before.held.1) × (after.fence.after ≡ before.fence.after)
 RefusesState before after shard mode fault = (after ≡ before) × AdmitsNowhere (Some before) shard fault
 
 -- the admission of the pass has ended, and it holds nothing
 abbrev pub EndsState : HandleState → HandleState → ℕ → Type 0
 EndsState (Pass before) (Pass after) generation =
     EndsPermit before.held.1 before.held.0 after.held.0 generation × (after.held.1 ≡ None)
+    × (after.fence.after ≡ before.fence.after)
 EndsState before after generation = ⊥
 
 -- the handle keeps no pass that holds a permit
@@ -50,10 +53,19 @@ abbrev pub HoldsNothing : Option HandleState → Type 0
 HoldsNothing (Some (Pass pass)) = pass.held.1 ≡ None
 HoldsNothing state = ⊤
 
+-- this is the fencing token of the admission that the pass holds. It is above the fence of the board, and at most as
+-- far as the generations of a board reach
+abbrev pub TellsToken : Option HandleState → ℕ → Type 0
+TellsToken (Some (Pass pass)) token =
+    (token_of pass.fence.after pass.held.0 ≡ Some token) × (pass.fence.after < token)
+    × (token ≤ pass.fence.after + MAX_GENERATION)
+TellsToken state token = ⊥
+
 -- the pass has seen more, in which this is the shard's record, and what it holds is as it was
 abbrev pub LooksState : HandleState → HandleState → ℕ → Record → Type 0
 LooksState (Pass before) (Pass after) shard state =
     PassLooks before.held.0 after.held.0 × (after.held.1 ≡ before.held.1) × (state ≡ record_of after.held.0 shard)
+    × (after.fence.after ≡ before.fence.after)
 LooksState (TextPass before) (TextPass after) shard state = PassLooks before after × (state ≡ record_of after shard)
 LooksState before after shard state = ⊥
 
@@ -69,16 +81,27 @@ KeepsNoControl (Some (Chief chief)) = ⊥
 KeepsNoControl (Some (TextChief chief)) = ⊥
 KeepsNoControl state = ⊤
 
--- why there is no new pass: the handle keeps no control, or memory was refused
-abbrev pub GivesNoPass : Option HandleState → ActFault → Type 0
-GivesNoPass state fault = ((fault ≡ WrongHandle) × KeepsNoControl state) ⊎ (fault ≡ NoMemory)
+-- the handle keeps a control whose books have no such server
+abbrev pub KnowsNoServer : Option HandleState → Option ℕ → Type 0
+KnowsNoServer (Some (Chief chief)) server = HasNoServer chief.held.value.desk.books server
+KnowsNoServer (Some (TextChief chief)) server = HasNoServer chief.value.desk.books server
+KnowsNoServer state server = ⊥
+
+-- why there is no new pass of this server: the handle keeps no control, its board hasn't the server, or memory was
+-- refused
+abbrev pub GivesNoPass : Option HandleState → Option ℕ → ActFault → Type 0
+GivesNoPass state server fault =
+    ((fault ≡ WrongHandle) × KeepsNoControl state) ⊎ ((fault ≡ UnknownServer) × KnowsNoServer state server)
+    ⊎ (fault ≡ NoMemory)
 
 -- the control answers the command and is then what it leaves; or there is none, and the state is as it was
 abbrev pub CommandsState : HandleState → HandleState → Command → Result (Unit {0}) ActFault → Type 0
 CommandsState (Chief before) (Chief after) command (Ok made) =
-    Commanded (desk_fault before.value.desk command) before.value after.value command (Ok tt)
+    Commanded (desk_fault before.held.value.desk command) before.held.value after.held.value command (Ok tt)
+    × (after.fence.after ≡ before.fence.after)
 CommandsState (Chief before) (Chief after) command (Err (CommandRefused fault)) =
-    Commanded (desk_fault before.value.desk command) before.value after.value command (Err fault)
+    Commanded (desk_fault before.held.value.desk command) before.held.value after.held.value command (Err fault)
+    × (after.fence.after ≡ before.fence.after)
 CommandsState (TextChief before) (TextChief after) command (Ok made) =
     Commanded (desk_fault before.value.desk command) before.value after.value command (Ok tt)
 CommandsState (TextChief before) (TextChief after) command (Err (CommandRefused fault)) =
@@ -87,11 +110,13 @@ CommandsState before after command (Ok made) = ⊥
 CommandsState before after command (Err fault) =
     (fault ≡ WrongHandle) × (after ≡ before) × KeepsNoControl (Some before)
 
--- a new pass on the board of the control, with this server or none
+-- a new pass on the board of the control and with its fence, with this server, which the board has, or none
 abbrev pub IsPassOfState : HandleState → Option ℕ → HandleState → Type 0
 IsPassOfState (Chief chief) server (Pass pass) =
-    (pass.held.0.board ≡ chief.value.chair.board) × (pass.held.0.server ≡ server) × (pass.held.1 ≡ None)
-IsPassOfState (TextChief chief) server (TextPass pass) = (pass.board ≡ chief.value.chair.board) × (pass.server ≡ server)
+    (pass.held.0.board ≡ chief.held.value.chair.board) × (pass.held.0.server ≡ server) × (pass.held.1 ≡ None)
+    × HasServer chief.held.value.desk.books server × (pass.fence.after ≡ chief.fence.after)
+IsPassOfState (TextChief chief) server (TextPass pass) =
+    (pass.board ≡ chief.value.chair.board) × (pass.server ≡ server) × HasServer chief.value.desk.books server
 IsPassOfState chief server pass = ⊥
 
 -- the same of handles, which keep a state or none
@@ -133,10 +158,11 @@ abbrev pub foreign_limits : List ℕ → List ℕ
 foreign_limits numbers = map (λ (body : Foreign). body.number) (foreign_of numbers)
 
 -- the handle keeps the control of a new board with a body for each number, of so many servers, under this cap of
--- restarts and this ceiling
-abbrev pub IsOpened : Option HandleState → List ℕ → ℕ → ℕ → ℕ → Type 0
-IsOpened (Some (Chief chief)) numbers servers ops ceiling =
-    (chief.value.chair.board.limits.count ≡ length numbers) × (chief.value.chair.board.limits.ceiling ≡ ceiling)
-    × (chief.value.chair.board.limits.bodies ≡ foreign_limits numbers)
-    × (chief.value.desk ≡ first_desk servers (length numbers) ops)
-IsOpened state numbers servers ops ceiling = ⊥
+-- restarts and this ceiling, whose tokens begin after this number
+abbrev pub IsOpened : Option HandleState → List ℕ → ℕ → ℕ → ℕ → ℕ → Type 0
+IsOpened (Some (Chief chief)) numbers servers ops ceiling after =
+    let board = chief.held.value.chair.board in
+    (board.limits.count ≡ length numbers) × (board.limits.ceiling ≡ ceiling)
+    × (board.limits.bodies ≡ foreign_limits numbers)
+    × (chief.held.value.desk ≡ first_desk servers (length numbers) ops) × (chief.fence.after ≡ after)
+IsOpened state numbers servers ops ceiling after = ⊥

@@ -11,7 +11,7 @@ use Rattle.sm_handle.specs.declared.handle_state.HandleState.TheVariants.{Answer
 abbrev pub IsSplitFrom : Option HandleState → Option HandleState → Type 0
 IsSplitFrom (Some (Pass from)) (Some (Pass pass)) =
     (pass.held.0.board ≡ from.held.0.board) × (pass.held.0.server ≡ from.held.0.server)
-    × Begins from.held.0.seen pass.held.0.seen × (pass.held.1 ≡ None)
+    × Begins from.held.0.seen pass.held.0.seen × (pass.held.1 ≡ None) × (pass.fence.after ≡ from.fence.after)
 IsSplitFrom (Some (TextPass from)) (Some (TextPass pass)) =
     (pass.board ≡ from.board) × (pass.server ≡ from.server) × Begins from.seen pass.seen
 IsSplitFrom from pass = ⊥
@@ -35,7 +35,7 @@ AreOfOneBoard pass other = ⊤
 abbrev pub MeetsHandle : Option HandleState → Option HandleState → Option HandleState → Type 0
 MeetsHandle (Some (Pass before)) (Some (Pass other)) (Some (Pass after)) =
     PassLooks before.held.0 after.held.0 × (after.held.1 ≡ before.held.1)
-    × IsMet other.held.0.number other.held.0.seen after.held.0.seen
+    × IsMet other.held.0.number other.held.0.seen after.held.0.seen × (after.fence.after ≡ before.fence.after)
 MeetsHandle (Some (TextPass before)) (Some (TextPass other)) (Some (TextPass after)) =
     PassLooks before after × IsMet other.number other.seen after.seen
 MeetsHandle (Some (TextPass before)) (Some (Answer answer)) (Some (TextPass after)) =

@@ -16,10 +16,12 @@ KeepsService (Some (TextChief chief)) settings =
     IsControlBy chief.value (replicate (length settings.shards) settings.kept) settings
 KeepsService state settings = ⊥
 
--- the handle keeps the control of a new board with a body for each number, as the settings say
-abbrev pub KeepsBoard : Option HandleState → SettingsValues → List ℕ → Type 0
-KeepsBoard (Some (Chief chief)) settings numbers = IsControlBy chief.value (foreign_limits numbers) settings
-KeepsBoard state settings numbers = ⊥
+-- the handle keeps the control of a new board with a body for each number, as the settings say, whose tokens begin
+-- after this number
+abbrev pub KeepsBoard : Option HandleState → SettingsValues → List ℕ → ℕ → Type 0
+KeepsBoard (Some (Chief chief)) settings numbers after =
+    IsControlBy chief.held.value (foreign_limits numbers) settings × (chief.fence.after ≡ after)
+KeepsBoard state settings numbers after = ⊥
 
 -- the handle keeps the layout with these bounds
 abbrev pub KeepsLayout : Option HandleState → List (List ℕ) → Type 0
@@ -33,10 +35,10 @@ OpensService line control layout count =
     (settings : SettingsValues) × (settings_of line ≡ Ok settings) × KeepsService control settings
     × KeepsLayout layout settings.bounds × (count ≡ length settings.shards)
 
--- the same of a board with a body for each number
-abbrev pub OpensBoard : List ℕ → List ℕ → Option HandleState → Option HandleState → Type 0
-OpensBoard line numbers control layout =
-    (settings : SettingsValues) × (settings_of line ≡ Ok settings) × KeepsBoard control settings numbers
+-- the same of a board with a body for each number, whose tokens begin after this one
+abbrev pub OpensBoard : List ℕ → List ℕ → ℕ → Option HandleState → Option HandleState → Type 0
+OpensBoard line numbers after control layout =
+    (settings : SettingsValues) × (settings_of line ≡ Ok settings) × KeepsBoard control settings numbers after
     × KeepsLayout layout settings.bounds
 
 -- why the line opens no board with so many bodies: its first fault, or it says another number of shards, or memory was

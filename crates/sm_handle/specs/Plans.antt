@@ -10,13 +10,13 @@ use Rattle.sm_handle.specs.declared.handle_state.HandleState.TheVariants.{Chief,
 
 -- the plan of the control's books
 abbrev pub IsPlanOf : Option HandleState → Option HandleState → Option ℕ → Type 0
-IsPlanOf (Some (Chief chief)) (Some (Plan plan)) from = plan ≡ planned_for chief.value.desk.books from
+IsPlanOf (Some (Chief chief)) (Some (Plan plan)) from = plan ≡ planned_for chief.held.value.desk.books from
 IsPlanOf (Some (TextChief chief)) (Some (Plan plan)) from = plan ≡ planned_for chief.value.desk.books from
 IsPlanOf chief plan from = ⊥
 
 -- why there is no plan: the handle keeps no control, or its books have none to plan for, or memory was refused
 abbrev pub HasNoPlan : Option HandleState → Option ℕ → ActFault → Type 0
-HasNoPlan (Some (Chief chief)) from UnknownServer = HasNoServer chief.value.desk.books from
+HasNoPlan (Some (Chief chief)) from UnknownServer = HasNoServer chief.held.value.desk.books from
 HasNoPlan (Some (TextChief chief)) from UnknownServer = HasNoServer chief.value.desk.books from
 HasNoPlan chief from NoMemory = ⊤
 HasNoPlan chief from fault = (fault ≡ WrongHandle) × KeepsNoControl chief

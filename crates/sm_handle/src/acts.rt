@@ -1,12 +1,12 @@
 //! What a call does to the state of a handle.
 ghost use Rattle.std.specs.Prelude.{◌≡◌, IfErr, IfOk, Some};
 ghost use Rattle.sm_handle.specs.Acts.{AdmitsState, CommandsState, EndsState, GivesNoPass, HoldsNothing};
-ghost use Rattle.sm_handle.specs.Acts.{IsPassOfState, LooksNowhere, RefusesState, TellsWord};
+ghost use Rattle.sm_handle.specs.Acts.{IsPassOfState, LooksNowhere, RefusesState, TellsToken, TellsWord};
 
 use crate::act_fault::ActFault;
 use crate::handle_state::HandleState;
 use sm_desk::Command;
-use sm_foreign::ForeignPass;
+use sm_foreign::PassFault;
 use sm_ownership::mode::Mode;
 use sm_ranges::server_id::ServerId;
 use sm_ranges::shard_id::ShardId;
@@ -47,6 +47,20 @@ pub fn finish(state: &mut HandleState) -> Result<u64, ActFault>
     }
 }
 
+/// The fencing token of the admission of the state's pass; or why there is none.
+pub fn token(state: &HandleState) -> Result<u64, ActFault>
+    ensures told { IfOk result (TellsToken (Some state.now)) }
+    ensures refused { IfErr result (λ fault. (fault ≡ ActFault.WrongHandle) × HoldsNothing (Some state.now)) }
+{
+    match state {
+        HandleState::Pass(pass) => match pass.token() {
+            Some(token) => Ok(token),
+            None => Err(ActFault::WrongHandle),
+        },
+        _ => Err(ActFault::WrongHandle),
+    }
+}
+
 /// The word of the shard's record after a look by the state's pass; or why not, and the state is as it was.
 pub fn look(state: &mut HandleState, k: ShardId) -> Result<u64, ActFault>
     ensures seen { IfOk result (TellsWord (Some state.old) (Some state.new) k) }
@@ -73,16 +87,18 @@ pub fn look(state: &mut HandleState, k: ShardId) -> Result<u64, ActFault>
 /// A new pass on the board of the state's control, with this server or none; or why not.
 pub fn pass(state: &HandleState, server: Option<ServerId>) -> Result<HandleState, ActFault>
     ensures made { IfOk result (IsPassOfState state.now server) }
-    ensures refused { IfErr result (GivesNoPass (Some state.now)) }
+    ensures refused { IfErr result (GivesNoPass (Some state.now) server) }
 {
     match state {
-        HandleState::Chief(chief) => match chief.foreign_pass(server) {
-            Ok(held) => Ok(HandleState::Pass(ForeignPass { held })),
-            Err(_) => Err(ActFault::NoMemory),
+        HandleState::Chief(chief) => match chief.pass(server) {
+            Ok(pass) => Ok(HandleState::Pass(pass)),
+            Err(PassFault::UnknownServer) => Err(ActFault::UnknownServer),
+            Err(PassFault::NoMemory) => Err(ActFault::NoMemory),
         },
         HandleState::TextChief(chief) => match chief.pass(server) {
             Ok(free) => Ok(HandleState::TextPass(free)),
-            Err(_) => Err(ActFault::NoMemory),
+            Err(PassFault::UnknownServer) => Err(ActFault::UnknownServer),
+            Err(PassFault::NoMemory) => Err(ActFault::NoMemory),
         },
         _ => Err(ActFault::WrongHandle),
     }
@@ -93,7 +109,7 @@ pub fn command(state: &mut HandleState, command: Command) -> Result<(), ActFault
     ensures answer { CommandsState state.old state.new command result }
 {
     match state {
-        HandleState::Chief(chief) => match chief.command(command) {
+        HandleState::Chief(chief) => match chief.held.command(command) {
             Ok(()) => Ok(()),
             Err(fault) => Err(ActFault::Command(fault)),
         },

@@ -2,14 +2,14 @@
 ghost use Rattle.std.specs.Prelude.{◌≡◌, IfErr, IfOk, OnOk, length};
 ghost use Rattle.sm_foreign.specs.Refusals.{OpensNothing};
 ghost use Rattle.sm_handle.specs.Acts.{AdmitsHandle, CommandsHandle, EndsHandle, GivesNoPass, HoldsNothing, IsOpened};
-ghost use Rattle.sm_handle.specs.Acts.{IsPassOf, LooksNowhere, RefusesHandle, TellsWord};
+ghost use Rattle.sm_handle.specs.Acts.{IsPassOf, LooksNowhere, RefusesHandle, TellsToken, TellsWord};
 
 use crate::act_fault::ActFault;
 use crate::acts;
 use crate::handle::Handle;
 use crate::handle_state::HandleState;
 use sm_desk::Command;
-use sm_foreign::{Chief, Foreign, OpenFault};
+use sm_foreign::{Chief, Fence, Foreign, ForeignChief, OpenFault};
 use sm_ownership::mode::Mode;
 use sm_ranges::server_id::ServerId;
 use sm_ranges::shard_id::ShardId;
@@ -17,7 +17,7 @@ use std::alloc::Global;
 
 impl Handle {
     /// Keeps the control of a new board with a body for each number, of servers 1 to this one, at most `ops` of which
-    /// restart at once, in place of what was kept; or says why not, and the handle is as it was.
+    /// restart at once, with this fence, in place of what was kept; or says why not, and the handle is as it was.
     pub fn open(
         &mut self,
         alloc: Global,
@@ -25,16 +25,18 @@ impl Handle {
         servers: u16,
         ops: u16,
         ceiling: u64,
+        fence: Fence,
     ) -> Result<(), OpenFault>
-        ensures made { OnOk result (IsOpened self.new.owned.state numbers.now servers ops ceiling) }
+        ensures made { OnOk result
+            (IsOpened self.new.owned.state numbers.now servers ops ceiling fence.after) }
         ensures refused { IfErr result (OpensNothing (length numbers.now) servers ops ceiling) }
         ensures kept { IfErr result (λ fault. self.new.owned.state ≡ self.old.owned.state) }
     {
         let Ok(bodies) = Foreign::all(alloc, numbers) else {
             return Err(OpenFault::NoMemory);
         };
-        let chief = Chief::make(alloc, bodies, servers, ops, ceiling)?;
-        match self.keep(alloc, HandleState::Chief(chief)) {
+        let held = Chief::make(alloc, bodies, servers, ops, ceiling)?;
+        match self.keep(alloc, HandleState::Chief(ForeignChief { held, fence })) {
             Ok(()) => Ok(()),
             Err(_) => Err(OpenFault::NoMemory),
         }
@@ -63,6 +65,18 @@ impl Handle {
             return Err(ActFault::WrongHandle);
         }
         acts::finish(self.owned.state_mut())
+    }
+
+    /// The fencing token of the admission of the pass; or why there is none. The handle is as it was.
+    pub fn token(&mut self) -> Result<u64, ActFault>
+        ensures told { IfOk result (TellsToken self.old.owned.state) }
+        ensures refused { IfErr result (λ fault. (fault ≡ ActFault.WrongHandle) × HoldsNothing self.old.owned.state) }
+        ensures unchanged { self.new.owned.state ≡ self.old.owned.state }
+    {
+        if !self.full {
+            return Err(ActFault::WrongHandle);
+        }
+        acts::token(self.owned.state_mut())
     }
 
     /// The word of the shard's record after all that the pass then has seen; or why not, and the handle is as it was.
@@ -97,7 +111,7 @@ impl Handle {
     ) -> Result<(), ActFault>
         ensures chief { chief.new.owned.state ≡ chief.old.owned.state }
         ensures made { OnOk result (IsPassOf chief.old.owned.state self.new.owned.state server) }
-        ensures refused { IfErr result (GivesNoPass chief.old.owned.state) }
+        ensures refused { IfErr result (GivesNoPass chief.old.owned.state server) }
         ensures kept { IfErr result (λ fault. self.new.owned.state ≡ self.old.owned.state) }
     {
         if !chief.full {

@@ -1,5 +1,5 @@
 use sm_envelope::envelope::Envelope;
-use sm_foreign::{Chief, Foreign, ForeignPass, FreePass};
+use sm_foreign::{Chief, ForeignChief, ForeignPass, FreePass};
 use sm_place::Plan;
 use sm_publish::{WordPublisher, WordRouter};
 use sm_ranges::layout::Layout;
@@ -13,7 +13,7 @@ pub enum HandleState {
     /// Nothing, within a call alone.
     Empty,
     /// A board's control.
-    Chief(Box<Chief<Foreign>>),
+    Chief(ForeignChief),
     /// The control of a board of the sample service.
     TextChief(Box<Chief<CounterText>>),
     /// A pass to foreign bodies, with the permit that it holds, if any.

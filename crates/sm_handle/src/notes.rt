@@ -63,8 +63,8 @@ fn split_of(state: &mut HandleState) -> Result<HandleState, ActFault>
     ensures refused { IfErr result (SplitsNothing (Some state.old)) }
 {
     match state {
-        HandleState::Pass(pass) if pass.held.is_free() => match pass.held.split() {
-            Ok(held) => Ok(HandleState::Pass(ForeignPass { held })),
+        HandleState::Pass(pass) if pass.held.is_free() => match pass.split() {
+            Ok(new) => Ok(HandleState::Pass(new)),
             Err(_) => Err(ActFault::NoMemory),
         },
         HandleState::TextPass(pass) => match pass.split() {

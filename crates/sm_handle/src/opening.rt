@@ -11,7 +11,7 @@ use crate::handle::Handle;
 use crate::handle_state::HandleState;
 use crate::serving::empty_bodies;
 use crate::settings_open_fault::SettingsOpenFault;
-use sm_foreign::{Chief, Foreign, OpenFault};
+use sm_foreign::{Chief, Fence, Foreign, ForeignChief, OpenFault};
 use sm_ranges::layout::Layout;
 use sm_service::CounterText;
 use sm_settings::Settings;
@@ -46,26 +46,28 @@ impl Handle {
         Ok(count)
     }
 
-    /// Keeps the control of a new board with a body for each number, as the line of settings says, in place of what was
-    /// kept, and the other handle keeps the layout; or says why not, and both are as they were.
+    /// Keeps the control of a new board with a body for each number, as the line of settings says and with this fence,
+    /// in place of what was kept, and the other handle keeps the layout; or says why not, and both are as they were.
     pub fn open_bodies_by(
         &mut self,
         alloc: Global,
         layout: &mut Handle,
         line: &[u8],
         numbers: &[u64],
+        fence: Fence,
     ) -> Result<(), SettingsOpenFault>
         ensures made { OnOk result
-            (OpensBoard line.now numbers.now self.new.owned.state layout.new.owned.state) }
+            (OpensBoard line.now numbers.now fence.after self.new.owned.state layout.new.owned.state) }
         ensures refused { IfErr result (OpensNoBoard line.now (length numbers.now)) }
         ensures kept { IfErr result (λ fault. self.new.owned.state ≡ self.old.owned.state) }
         ensures unwritten { IfErr result (λ fault. layout.new.owned.state ≡ layout.old.owned.state) }
     {
         let settings = read(alloc, line)?;
-        let chief = match board_by(alloc, &settings, numbers) {
-            Ok(chief) => chief,
+        let held = match board_by(alloc, &settings, numbers) {
+            Ok(held) => held,
             Err(fault) => return Err(SettingsOpenFault::Open(fault)),
         };
+        let chief = ForeignChief { held, fence };
         self.keep_both(alloc, HandleState::Chief(chief), layout, settings.layout)
     }
 

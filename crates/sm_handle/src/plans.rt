@@ -69,7 +69,7 @@ fn plan_of(
     ensures refused { IfErr result (HasNoPlan (Some state.now) from) }
 {
     let made = match state {
-        HandleState::Chief(chief) => chief.plan(alloc, from),
+        HandleState::Chief(chief) => chief.held.plan(alloc, from),
         HandleState::TextChief(chief) => chief.plan(alloc, from),
         _ => return Err(ActFault::WrongHandle),
     };

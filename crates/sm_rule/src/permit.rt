@@ -1,5 +1,6 @@
 ghost use Rattle.std.specs.Borrow.{sem, Lends};
-ghost use Rattle.std.specs.Prelude.{◌≡◌};
+ghost use Rattle.std.specs.Prelude.{◌≡◌, ◌<◌, ◌≤◌};
+ghost use Rattle.sm_ownership.specs.declared.record.TheConstants.{MAX_GENERATION};
 ghost use Rattle.sm_rule.specs.contracts.permit.Permit.{the_row};
 ghost use Rattle.sm_rule.specs.Admissions.{with_body};
 
@@ -7,6 +8,7 @@ use crate::board::Board;
 use sm_body::service::Service;
 use sm_ownership::record::Record;
 use sm_ranges::shard_id::ShardId;
+use sm_word::word::record_of_word;
 use std::marker::Model;
 use std::snapshot::Snapshot;
 
@@ -42,6 +44,15 @@ impl<S: Service> Model for Permit<S> {
 }
 
 impl<S: Service> Permit<S> {
+    /// The shard's generation since the admission. An admission is an entry, so no generation of one is 0.
+    pub fn generation(&self) -> u64
+        ensures state { result ≡ self.now.state.generation }
+        ensures counted { 0 < result }
+        ensures low { result ≤ MAX_GENERATION }
+    {
+        record_of_word(self.word).generation
+    }
+
     /// The shard's body. What is written through the loan is in the permit once the loan ends.
     pub fn body(&mut self) -> &mut S
         ensures* writes_back { sem 𝓛 (Lends (the_row S.row S.Request.row S.Reply.row S.Service) S.row self.entry result

@@ -64,9 +64,19 @@ class Permit(Generic[T]):
         return self._body
 
     @property
+    def token(self) -> int:
+        """The fencing token of this admission: each later admission to the shard has a greater one. Tokens of a board
+        begin after its `after`. Raises NotAdmitted once the admission has ended."""
+        token, of = ctypes.c_uint64(), self._pass
+        with of._lock:
+            if self._turn != of._turn:
+                raise NotAdmitted()
+            _check(LIBRARY.durkenzo_token(ctypes.byref(of._handle), ctypes.byref(token)))
+        return token.value
+
+    @property
     def generation(self) -> int:
-        """The shard's generation at this admission, a fencing token: each later admission to the shard has a
-        greater one."""
+        """The shard's generation at this admission. It begins at 0 in each board, so it is no fencing token."""
         with self._pass._lock:
             if self._turn != self._pass._turn:
                 raise NotAdmitted()
@@ -311,26 +321,34 @@ class PassOpen(DurkenzoError):
 class Board(_Kept, Generic[T]):
     """A board: a body for each shard, and who may use it. Threads may share it: each call takes its lock."""
 
-    def __init__(self, bodies: Iterable[T], servers: int, restarts: int = 1, ceiling: int = MAX_GENERATION) -> None:
+    def __init__(
+        self,
+        bodies: Iterable[T],
+        servers: int,
+        restarts: int = 1,
+        ceiling: int = MAX_GENERATION,
+        after: int = 0,
+    ) -> None:
         """Makes a board with these bodies, 1 to 4,096, of servers 1 to this one, at most `restarts` of which
-        restart at once.
+        restart at once. Fencing tokens begin after `after`: each is greater, and at most `after + MAX_GENERATION`.
 
-        Raises NoShard, TooMany, BadArgument, BadBooks where there are no servers, BadCeiling or NoMemory.
+        Raises NoShard, TooMany, BadArgument, BadBooks where there are no servers, BadCeiling, BadAfter or NoMemory.
         """
         super().__init__()
         numbers, count = self._begin(bodies)
-        _check(LIBRARY.durkenzo_open(ctypes.byref(self._handle), numbers, count, servers, restarts, ceiling))
+        sizes = servers, restarts, ceiling, after
+        _check(LIBRARY.durkenzo_open_after(ctypes.byref(self._handle), numbers, count, *sizes))
 
     @classmethod
-    def by_settings(cls, line: bytes, bodies: Iterable[T]) -> tuple[Board[T], Layout]:
+    def by_settings(cls, line: bytes, bodies: Iterable[T], after: int = 0) -> tuple[Board[T], Layout]:
         """Makes the board that a line of settings says, but for its workers and how many requests a shard keeps, with
-        these bodies, as many as its shards; and its layout. Raises BadSettings, BadCount or NoMemory."""
+        these bodies, as many as its shards; and its layout. Raises BadSettings, BadCount, BadAfter or NoMemory."""
         board, layout = cls.__new__(cls), Layout.__new__(Layout)
         for kept in (board, layout):
             _Kept.__init__(kept)
         numbers, count = board._begin(bodies)
         handles = map(ctypes.byref, (board._handle, layout._handle))
-        _check_settings(LIBRARY.durkenzo_open_bodies(*handles, line, len(line), numbers, count))
+        _check_settings(LIBRARY.durkenzo_open_bodies_after(*handles, line, len(line), numbers, count, after))
         layout._count = count
         return board, layout
 
@@ -347,7 +365,7 @@ class Board(_Kept, Generic[T]):
         return len(self._bodies)
 
     def new_pass(self, server: int) -> Pass[T]:
-        """Returns a new pass, admitted as this server. Raises BadArgument or NoMemory."""
+        """Returns a new pass, admitted as this server. Raises BadArgument, UnknownServer or NoMemory."""
         return Pass(self, server)
 
     def into_bodies(self) -> list[T]:
@@ -440,5 +458,6 @@ class Service(_Kept):
         self.control: Control[None] = Control(self)
 
     def new_pass(self, server: int) -> ServicePass:
-        """Returns a new pass, which serves as this server, and makes envelopes. Raises BadArgument or NoMemory."""
+        """Returns a new pass, which serves as this server, and makes envelopes. Raises BadArgument, UnknownServer or
+        NoMemory."""
         return ServicePass(self, server)

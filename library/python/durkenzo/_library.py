@@ -7,7 +7,7 @@ import os
 import pathlib
 from typing import Any, Callable
 
-from .errors import BadArgument, BadCeiling, DurkenzoError, UnknownShard
+from .errors import BadAfter, BadArgument, BadCeiling, DurkenzoError, UnknownShard
 
 u8, u16, u32, u64 = ctypes.c_uint8, ctypes.c_uint16, ctypes.c_uint32, ctypes.c_uint64
 i64 = ctypes.c_int64
@@ -94,14 +94,15 @@ def calls() -> dict[str, list[Any]]:
     """Returns the types of each call's arguments, by its name."""
     handle, record, number = map(ctypes.POINTER, (Handle, RecordParts, u64))
     size, kind, server, amount = map(Number, (ctypes.c_size_t, u8, u16, i64))
-    shard, ceiling = Number(u16, UnknownShard), Number(u64, BadCeiling)
+    shard, ceiling, after = Number(u16, UnknownShard), Number(u64, BadCeiling), Number(u64, BadAfter)
     text, into, length = ctypes.c_char_p, ctypes.POINTER(u16), ctypes.POINTER(ctypes.c_size_t)
     sent, parts = map(ctypes.POINTER, (SentParts, ReplyParts))
     return {
-        "open": [handle, number, size, server, server, ceiling],
+        "open_after": [handle, number, size, server, server, ceiling, after],
         "pass": [handle, handle, server],
         "look": [handle, shard, record],
         "admit": [handle, shard, server, number, record],
+        "token": [handle, number],
         "finish": [handle, number],
         "change": [handle, shard, kind, server, record],
         "restart": [handle, kind, server],
@@ -126,7 +127,7 @@ def calls() -> dict[str, list[Any]]:
         "pair_text": [handle, size, text, size, length],
         "open_service": [handle, size, size, server, server, ceiling],
         "open_settings": [handle, handle, text, size, length],
-        "open_bodies": [handle, handle, text, size, number, size],
+        "open_bodies_after": [handle, handle, text, size, number, size, after],
         "envelope": [handle, handle, sent, kind, text, size, text, size, amount],
         "sent": [handle, sent],
         "serve": [handle, handle, handle, into, record],

@@ -99,6 +99,12 @@ class Raced(DurkenzoError):
     code = 15
 
 
+class BadAfter(DurkenzoError):
+    """Fencing tokens begin after at most 9,223,371,968,135,299,072."""
+
+    code = 16
+
+
 class NobodyOwns(DurkenzoError):
     """Nobody owns the shard."""
 
@@ -310,6 +316,7 @@ __all__ = [
     "ChangeSpent",
     "Busy",
     "Raced",
+    "BadAfter",
     "NobodyOwns",
     "IsPaused",
     "NotExecutor",

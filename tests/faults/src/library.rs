@@ -1,7 +1,7 @@
 //! Faults of what the library for other languages is made of.
 use crate::texts::assert_texts;
 use sm_desk::CommandFault;
-use sm_foreign::{Chief, Foreign, ForeignPass, OpenFault};
+use sm_foreign::{Chief, Fence, Foreign, ForeignChief, ForeignPass, OpenFault, PassFault};
 use sm_handle::act_fault::ActFault;
 use sm_handle::{CutFault, PublishFault, SettingsOpenFault};
 use sm_ownership::Mode;
@@ -90,6 +90,11 @@ fn faults_of_acts_have_texts(rt: HostRuntime) {
         ),
     ];
     assert_texts(&rt, rt.alloc(), &acts);
+    let passes = [
+        (PassFault::UnknownServer, "the board has no such server"),
+        (PassFault::NoMemory, "out of memory"),
+    ];
+    assert_texts(&rt, rt.alloc(), &passes);
 }
 
 #[test]
@@ -115,12 +120,12 @@ fn refusal(rt: &impl Abort, pass: &mut ForeignPass) -> Option<ToldRefusal> {
 fn told_refusals_have_texts(rt: HostRuntime) -> Result<(), Fail> {
     let (alloc, one) = (rt.alloc(), ServerId::of(1));
     let bodies = Foreign::all(alloc, &[70, 80])?;
-    let Ok(mut chief) = Chief::make(alloc, bodies, 2, 1, 100) else {
+    let Ok(held) = Chief::make(alloc, bodies, 2, 1, 100) else {
         return Err("no board".into());
     };
-    let mut pass = ForeignPass {
-        held: chief.foreign_pass(Some(one))?,
-    };
+    let fence = Fence::first();
+    let chief = ForeignChief { held, fence };
+    let mut pass = chief.pass(Some(one))?;
     let (told, other) = (refusal(&rt, &mut pass), refusal(&rt, &mut pass));
     let told = told.ok_or("admitted")?;
     let shown = format!(in alloc; "{told:?}")?;

@@ -1,5 +1,5 @@
 //! A board of foreign bodies.
-use sm_foreign::{Chief, Foreign, ForeignPass};
+use sm_foreign::{Chief, Fence, Foreign, ForeignChief, PassFault};
 use sm_ranges::ServerId;
 use std::test::Fail;
 
@@ -7,12 +7,15 @@ use std::test::Fail;
 fn makes_a_pass(rt: HostRuntime) -> Result<(), Fail> {
     let (alloc, one) = (rt.alloc(), ServerId::of(1));
     let bodies = Foreign::all(alloc, &[70, 80])?;
-    let Ok(mut chief) = Chief::make(alloc, bodies, 2, 1, 100) else {
+    let Ok(held) = Chief::make(alloc, bodies, 2, 1, 100) else {
         return Err("no board".into());
     };
-    let pass = ForeignPass {
-        held: chief.foreign_pass(Some(one))?,
-    };
+    let fence = Fence::first();
+    let chief = ForeignChief { held, fence };
+    let pass = chief.pass(Some(one))?;
     assert_eq!(rt; pass.held.count(), 2);
+    assert!(rt; pass.token().is_none());
+    let stranger = chief.pass(Some(ServerId::of(3)));
+    assert!(rt; matches!(stranger, Err(PassFault::UnknownServer)));
     Ok(())
 }

@@ -1,5 +1,6 @@
 //! Handles as a caller in C keeps them.
 use sm_desk::Command;
+use sm_foreign::Fence;
 use sm_handle::{ActFault, Handle};
 use sm_ownership::change::Change;
 use sm_ownership::mode::Mode;
@@ -10,7 +11,9 @@ use std::alloc::Global;
 fn open(alloc: Global, chief: &mut Handle, pass: &mut Handle) -> Option<ShardId> {
     let (one, k) = (ServerId::of(1), ShardId::new(1)?);
     let assign = Command::Change(k, Change::Assign(one));
-    let done = chief.open(alloc, &[70, 80], 2, 1, 100).is_ok()
+    let done = chief
+        .open(alloc, &[70, 80], 2, 1, 100, Fence::first())
+        .is_ok()
         && chief.command(assign).is_ok()
         && pass.pass(alloc, chief, Some(one)).is_ok();
     if done { Some(k) } else { None }
@@ -25,10 +28,15 @@ fn admits_and_finishes(rt: HostRuntime) {
     let assign = Command::Change(k, Change::Assign(one));
     let (mut chief, mut pass) = (Handle::new(alloc), Handle::new(alloc));
     assert!(rt; matches!(pass.admit(k, Mode::Direct), Err(ActFault::WrongHandle)));
-    assert!(rt; chief.open(alloc, &[70, 80], 2, 1, 100).is_ok());
+    let Some(fence) = Fence::new(500) else {
+        unreachable!()
+    };
+    assert!(rt; chief.open(alloc, &[70, 80], 2, 1, 100, fence).is_ok());
     assert!(rt; chief.command(assign).is_ok());
     assert!(rt; pass.pass(alloc, &mut chief, Some(one)).is_ok());
+    assert!(rt; matches!(pass.token(), Err(ActFault::WrongHandle)));
     assert!(rt; matches!(pass.admit(k, Mode::Direct), Ok(80)));
+    assert!(rt; matches!(pass.token(), Ok(502)));
     assert!(rt; matches!(pass.finish(), Ok(3)));
     assert!(rt; matches!(pass.finish(), Err(ActFault::WrongHandle)));
     pass.close(alloc);

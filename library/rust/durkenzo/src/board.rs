@@ -54,6 +54,7 @@ pub struct Builder {
     servers: u16,
     restarts: u16,
     ceiling: u64,
+    after: u64,
 }
 
 impl Builder {
@@ -75,11 +76,20 @@ impl Builder {
         self
     }
 
+    /// The number after which the board's [fencing tokens](crate::Permit::token) begin, which is 0 where nothing is
+    /// said: each of them is greater, and at most `after + MAX_GENERATION`. So a process that begins after the tokens of
+    /// the boards before it fences off their late writes, and its own are none.
+    pub fn after(mut self, token: u64) -> Builder {
+        self.after = token;
+        self
+    }
+
     /// A board with these bodies, 1 to 4,096: one for each shard, in order. Nobody owns a shard yet.
     ///
     /// # Errors
     ///
-    /// `NoShard` and `TooMany` by the bodies, `BadServers` and `BadCeiling` by the sizes, or `NoMemory`.
+    /// `NoShard` and `TooMany` by the bodies, `BadServers` and `BadCeiling` by the sizes, `BadAfter` where tokens would
+    /// have more than 63 bits, or `NoMemory`.
     pub fn build<T>(self, bodies: impl IntoIterator<Item = T>) -> Result<Board<T>, BuildFault> {
         if self.servers == 0 {
             return Err(BuildFault::BadServers);
@@ -88,13 +98,14 @@ impl Builder {
         let mut chief = Handle::empty();
         // SAFETY: the handle is this call's alone, and the slice lasts as long as the call.
         let code = unsafe {
-            raw::durkenzo_open(
+            raw::durkenzo_open_after(
                 &mut chief,
                 numbers.as_ptr(),
                 numbers.len(),
                 self.servers,
                 self.restarts,
                 self.ceiling,
+                self.after,
             )
         };
         match code {
@@ -118,6 +129,7 @@ impl Board<()> {
             servers: 1,
             restarts: 1,
             ceiling: MAX_GENERATION,
+            after: 0,
         }
     }
 }
@@ -158,18 +170,32 @@ impl<T> Board<T> {
         line: impl AsRef<[u8]>,
         bodies: impl IntoIterator<Item = T>,
     ) -> Result<(Board<T>, Layout), SettingsFault> {
+        Board::by_settings_after(line, bodies, 0)
+    }
+
+    /// The same, whose [fencing tokens](crate::Permit::token) begin after this number, as [`Builder::after`] says.
+    ///
+    /// # Errors
+    ///
+    /// Those of [`Board::by_settings`], and `BadAfter` where tokens would have more than 63 bits.
+    pub fn by_settings_after(
+        line: impl AsRef<[u8]>,
+        bodies: impl IntoIterator<Item = T>,
+        after: u64,
+    ) -> Result<(Board<T>, Layout), SettingsFault> {
         let (bodies, numbers) = numbered(bodies);
         let (mut chief, mut layout) = (Handle::empty(), Handle::empty());
         let line = line.as_ref();
         // SAFETY: the handles are this call's alone, and the slices last as long as the call.
         let code = unsafe {
-            raw::durkenzo_open_bodies(
+            raw::durkenzo_open_bodies_after(
                 &mut chief,
                 &mut layout,
                 line.as_ptr(),
                 line.len(),
                 numbers.as_ptr(),
                 numbers.len(),
+                after,
             )
         };
         match code {
@@ -187,7 +213,7 @@ impl<T> Board<T> {
     ///
     /// # Errors
     ///
-    /// `BadServer` where no server has the number, or `NoMemory`.
+    /// `BadServer` where the board has no such server, or `NoMemory`.
     pub fn pass(&self, server: u16) -> Result<Pass<T>, PassFault> {
         let mut handle = Handle::empty();
         // SAFETY: the control's handle is locked, and the other is this call's alone.

@@ -129,7 +129,8 @@ impl<T> Control<T> {
     }
 
     /// Makes the changes that lead a vacant shard, or one on its way, to the stand, as where an older board's is to be
-    /// reached anew: its generations aren't.
+    /// reached anew. Its generations aren't reached: tokens go on from its own where the board is opened
+    /// [`after`](crate::Builder::after) them.
     ///
     /// # Errors
     ///

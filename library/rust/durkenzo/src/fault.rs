@@ -63,6 +63,8 @@ pub enum BuildFault {
     NoShard,
     /// A board has at most 4,096 shards.
     TooMany,
+    /// Fencing tokens begin after at most 9,223,371,968,135,299,072.
+    BadAfter,
     /// The library answered this code, which this version doesn't know.
     Other(u32),
 }
@@ -76,6 +78,7 @@ impl BuildFault {
             5 => BuildFault::BadCeiling,
             6 => BuildFault::NoShard,
             7 => BuildFault::TooMany,
+            16 => BuildFault::BadAfter,
             code => BuildFault::Other(code),
         }
     }
@@ -91,6 +94,7 @@ impl fmt::Display for BuildFault {
             BuildFault::BadCeiling => "the ceiling of generations is 3 to 68,719,476,735",
             BuildFault::NoShard => "a board has at least one shard",
             BuildFault::TooMany => "a board has at most 4,096 shards",
+            BuildFault::BadAfter => "fencing tokens begin after at most 9,223,371,968,135,299,072",
             BuildFault::Other(code) => return write!(f, "the library answered code {code}"),
         })
     }
@@ -102,7 +106,7 @@ impl Error for BuildFault {}
 #[derive(Clone, Copy, Debug, PartialEq, Eq)]
 #[non_exhaustive]
 pub enum PassFault {
-    /// A server has a number from 1 to 4,095.
+    /// The board has no such server.
     BadServer,
     /// Out of memory.
     NoMemory,
@@ -114,7 +118,7 @@ impl PassFault {
     #[inline]
     pub(crate) fn of(code: u32) -> PassFault {
         match code {
-            2 => PassFault::BadServer,
+            2 | 30 => PassFault::BadServer,
             3 => PassFault::NoMemory,
             code => PassFault::Other(code),
         }
@@ -124,7 +128,7 @@ impl PassFault {
 impl fmt::Display for PassFault {
     fn fmt(&self, f: &mut fmt::Formatter<'_>) -> fmt::Result {
         f.write_str(match self {
-            PassFault::BadServer => "a server has a number from 1 to 4,095",
+            PassFault::BadServer => "the board has no such server",
             PassFault::NoMemory => "out of memory",
             PassFault::Other(code) => return write!(f, "the library answered code {code}"),
         })

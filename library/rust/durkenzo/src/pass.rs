@@ -153,8 +153,9 @@ fn wait_after(code: u32, word: u64) -> Result<(), AdmitFault> {
 /// The right to a shard's body, which nobody else has. The admission ends where the permit is dropped, also by a
 /// panic: the body then stays as the panic left it, and others are admitted to it.
 ///
-/// It derefs to the body, of which its own [`shard`](Permit::shard), [`generation`](Permit::generation) and
-/// [`finish`](Permit::finish) hide methods of these names: `(*permit).finish()` is the body's.
+/// It derefs to the body, of which its own [`shard`](Permit::shard), [`token`](Permit::token),
+/// [`generation`](Permit::generation) and [`finish`](Permit::finish) hide methods of these names: `(*permit).finish()`
+/// is the body's.
 #[must_use = "the admission ends where the permit is dropped"]
 pub struct Permit<'a, T> {
     pass: &'a mut Pass<T>,
@@ -175,18 +176,30 @@ impl<T> Permit<'_, T> {
         self.shard
     }
 
-    /// The shard's generation at this admission: a fencing token. Each later admission to the shard has a greater
-    /// one, so a store that keeps the greatest that it saw, and refuses lesser ones, refuses late writes.
+    /// The fencing token of this admission. Each later admission to the shard has a greater one, so a store that keeps
+    /// the greatest that it saw, and refuses lesser ones, refuses late writes. A write that it refuses is an error:
+    /// nothing was written. Tokens of a board begin after what [`Builder::after`](crate::Builder::after) says.
     ///
     /// ```
     /// # use durkenzo::{Board, Mode};
-    /// let board = Board::builder().servers(1).build(vec![0u64])?;
+    /// let board = Board::builder().servers(1).after(200).build(vec![0u64])?;
     /// board.control().assign(0, 1)?;
     /// let mut pass = board.pass(1)?;
-    /// let earlier = pass.admit(0, Mode::Direct)?.generation();
-    /// assert!(pass.admit(0, Mode::Direct)?.generation() > earlier);
+    /// let earlier = pass.admit(0, Mode::Direct)?.token();
+    /// assert!(earlier > 200);
+    /// assert!(pass.admit(0, Mode::Direct)?.token() > earlier);
     /// # Ok::<(), Box<dyn std::error::Error>>(())
     /// ```
+    pub fn token(&mut self) -> u64 {
+        let mut token = 0;
+        // SAFETY: the handle is the pass's, which holds this permit.
+        let code = unsafe { raw::durkenzo_token(&mut self.pass.handle, &mut token) };
+        debug_assert_eq!(code, 0, "the pass of a permit holds it");
+        token
+    }
+
+    /// The shard's generation at this admission. It begins at 0 in each board, so it is no fencing token: see
+    /// [`Permit::token`].
     pub fn generation(&mut self) -> u64 {
         let record = self.pass.look(self.shard);
         record.expect("the shard of a permit is there").generation

@@ -124,13 +124,14 @@ pub(crate) const BAD_ARGUMENT: u32 = 2;
 pub(crate) const NO_WORD: u64 = u64::MAX;
 
 extern "C" {
-    pub(crate) fn durkenzo_open(
+    pub(crate) fn durkenzo_open_after(
         chief: *mut Handle,
         numbers: *const u64,
         count: usize,
         servers: u16,
         ops: u16,
         ceiling: u64,
+        after: u64,
     ) -> u32;
     pub(crate) fn durkenzo_pass(chief: *mut Handle, pass: *mut Handle, server: u16) -> u32;
     pub(crate) fn durkenzo_look_word(pass: *mut Handle, shard: u16) -> u64;
@@ -141,6 +142,7 @@ extern "C" {
         number: *mut u64,
         word: *mut u64,
     ) -> u32;
+    pub(crate) fn durkenzo_token(pass: *mut Handle, token: *mut u64) -> u32;
     pub(crate) fn durkenzo_finish(pass: *mut Handle, generation: *mut u64) -> u32;
     pub(crate) fn durkenzo_change(
         chief: *mut Handle,
@@ -246,13 +248,14 @@ extern "C" {
         length: usize,
         shards: *mut usize,
     ) -> u32;
-    pub(crate) fn durkenzo_open_bodies(
+    pub(crate) fn durkenzo_open_bodies_after(
         chief: *mut Handle,
         layout: *mut Handle,
         line: *const u8,
         length: usize,
         numbers: *const u64,
         count: usize,
+        after: u64,
     ) -> u32;
     pub(crate) fn durkenzo_sent(envelope: *mut Handle, parts: *mut SentParts) -> u32;
     pub(crate) fn durkenzo_envelope(

@@ -154,7 +154,7 @@ impl Service {
     ///
     /// # Errors
     ///
-    /// `BadServer` where no server has the number, or `NoMemory`.
+    /// `BadServer` where the board has no such server, or `NoMemory`.
     pub fn pass(&self, server: u16) -> Result<ServicePass, PassFault> {
         let mut handle = Handle::empty();
         // SAFETY: the control's handle is locked, and the other is this call's alone.

@@ -8,6 +8,8 @@ use std::fmt;
 #[derive(Clone, Copy, Debug, PartialEq, Eq)]
 #[non_exhaustive]
 pub enum SettingsFault {
+    /// Fencing tokens begin after at most 9,223,371,968,135,299,072.
+    BadAfter,
     /// The line has more than 1,048,576 bytes.
     TooLong,
     /// The line is no JSON in UTF-8, is too deep, or has too large a number.
@@ -46,6 +48,7 @@ impl SettingsFault {
     #[inline]
     pub(crate) fn of(code: u32) -> SettingsFault {
         match code {
+            16 => SettingsFault::BadAfter,
             70 => SettingsFault::TooLong,
             71 => SettingsFault::BadJson,
             72 => SettingsFault::BadVersion,

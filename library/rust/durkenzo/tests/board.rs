@@ -1,11 +1,13 @@
 use durkenzo::word::{Change, WordFault};
 use durkenzo::{
     word, AdmitFault, Board, BuildFault, ChangeFault, Layout, LayoutFault, Mode, Move, NoteFault,
-    PlanFault, PublishFault, Record, RestartFault, Route, Router, Routes, RoutesFault, Stand,
-    MAX_GENERATION, MAX_KEY,
+    PassFault, PlanFault, PublishFault, Record, RestartFault, Route, Router, Routes, RoutesFault,
+    SettingsFault, Stand, MAX_GENERATION, MAX_KEY,
 };
 use std::error::Error;
 use std::panic::{catch_unwind, AssertUnwindSafe};
+
+const SETTINGS: &str = r#"{"version":2,"bounds":[""],"servers":[{"id":1,"domain":0,"capacity":1}],"groups":[{"limit":1,"down":1}],"shards":[{"group":0,"load":1,"cap":1}],"ops":1,"kept":1,"ceiling":100,"workers":1,"domains":[{"domain":0,"down":1}]}"#;
 
 fn board(shards: usize) -> Board<Vec<u32>> {
     Board::builder()
@@ -372,19 +374,48 @@ fn a_server_that_has_failed_is_admitted_until_its_shard_pauses() {
 }
 
 #[test]
-fn the_generation_is_a_fencing_token() {
+fn tokens_grow_with_each_admission() {
     let board = board(1);
     board.control().assign(0, 1).unwrap();
     let (mut old, mut new) = (board.pass(1).unwrap(), board.pass(2).unwrap());
     let mut permit = old.admit(0, Mode::Direct).unwrap();
-    let before = permit.generation();
-    assert_eq!(permit.generation(), before);
+    let before = permit.token();
+    assert_eq!((permit.token(), permit.generation()), (before, before));
     assert!(permit.finish().generation > before);
     board.control().migrate(0, 2).unwrap();
-    let after = new
-        .with(0, Mode::Direct, |permit| permit.generation())
-        .unwrap();
+    let after = new.with(0, Mode::Direct, |permit| permit.token()).unwrap();
     assert!(after > before);
+}
+
+#[test]
+fn tokens_begin_after_those_of_earlier_boards() {
+    let greatest = (1 << 63) - (1 << 36);
+    for after in [0, 200, greatest] {
+        let built = Board::builder().after(after).build(["body"]).unwrap();
+        let (described, _) = Board::by_settings_after(SETTINGS, ["body"], after).unwrap();
+        for board in [built, described] {
+            board.control().assign(0, 1).unwrap();
+            let mut pass = board.pass(1).unwrap();
+            let mut permit = pass.admit(0, Mode::Direct).unwrap();
+            assert!(permit.token() > after && permit.token() <= after + MAX_GENERATION);
+            assert_eq!(permit.token(), after + permit.generation());
+        }
+    }
+    for after in [greatest + 1, u64::MAX] {
+        let built = Board::builder().after(after).build([()]);
+        assert_eq!(built.unwrap_err(), BuildFault::BadAfter);
+        let described = Board::by_settings_after(SETTINGS, [()], after);
+        assert_eq!(described.unwrap_err(), SettingsFault::BadAfter);
+    }
+}
+
+#[test]
+fn a_board_has_passes_of_its_servers() {
+    let board = board(1);
+    for stranger in [0, 4, 4095, 4096] {
+        assert_eq!(board.pass(stranger).unwrap_err(), PassFault::BadServer);
+    }
+    assert!(board.pass(3).is_ok());
 }
 
 #[test]
