@@ -4,6 +4,9 @@ import gc
 import pathlib
 import pydoc
 import sqlite3
+import subprocess
+import sys
+import tempfile
 import threading
 import time
 import unittest
@@ -84,10 +87,10 @@ class Boards(unittest.TestCase):
         with board.new_pass(1) as one:
             with self.assertRaises(ZeroDivisionError):
                 with one.admit(0) as permit:
-                    token = permit.generation
+                    token = permit.token
                     _ = 1 // 0
             with one.admit(0) as permit:
-                self.assertGreater(permit.generation, token)
+                self.assertGreater(permit.token, token)
 
     def test_a_permit_ends_with_its_pass(self):
         board = Board([Counter()], servers=1)
@@ -102,30 +105,31 @@ class Boards(unittest.TestCase):
             for ended in (closed, out):
                 self.assertRaises(durkenzo.NotAdmitted, lambda: ended.body)
                 self.assertRaises(durkenzo.NotAdmitted, lambda: ended.generation)
+                self.assertRaises(durkenzo.NotAdmitted, lambda: ended.token)
                 self.assertRaises(durkenzo.NotAdmitted, ended.finish)
             self.assertIsInstance(permit.body, Counter)
             two.close()
             self.assertRaises(durkenzo.NotAdmitted, lambda: permit.body)
         self.assertRaises(durkenzo.WrongHandle, one.admit, 0)
 
-    def test_the_generation_fences_late_writes(self):
+    def test_the_token_fences_late_writes(self):
         board = Board([None], servers=2)
         board.control.assign(0, 1)
         store = sqlite3.connect(":memory:")
-        store.execute("CREATE TABLE accounts (shard INTEGER, balance INTEGER, generation INTEGER)")
+        store.execute("CREATE TABLE accounts (shard INTEGER, balance INTEGER, token INTEGER)")
         store.execute("INSERT INTO accounts VALUES (0, 0, 0)")
 
-        def put(balance, generation):
-            change = "UPDATE accounts SET balance = ?1, generation = ?2 WHERE shard = 0 AND generation <= ?2"
-            return store.execute(change, (balance, generation)).rowcount
+        def put(balance, token):
+            change = "UPDATE accounts SET balance = ?1, token = ?2 WHERE shard = 0 AND token <= ?2"
+            return store.execute(change, (balance, token)).rowcount
 
         with board.new_pass(1) as one, board.new_pass(2) as two:
             with one.admit(0) as permit:
-                old = permit.generation
+                old = permit.token
                 self.assertEqual(put(10, old), 1)
             board.control.migrate(0, 2)
             with two.admit(0) as permit:
-                self.assertEqual(put(20, permit.generation), 1)
+                self.assertEqual(put(20, permit.token), 1)
             self.assertEqual(put(30, old), 0)
         self.assertEqual(store.execute("SELECT balance FROM accounts").fetchall(), [(20,)])
 
@@ -156,6 +160,40 @@ class Boards(unittest.TestCase):
             held.put(b"a", b"b")
         for call in (lambda: board.new_pass(1), lambda: service.new_pass(1), lambda: held.get(b"a")):
             self.assertRaises(durkenzo.WrongHandle, call)
+
+    def test_tokens_begin_after_what_came_before(self):
+        greatest = (1 << 63) - (1 << 36)
+        for after in (0, 200, greatest):
+            for board in (Board([None], servers=1, after=after), Board.by_settings(SETTINGS, [1, 2], after)[0]):
+                board.control.assign(0, 1)
+                with board.new_pass(1) as one, one.admit(0) as permit:
+                    self.assertEqual(permit.token, after + permit.generation)
+                    self.assertGreater(permit.token, after)
+        for after in (greatest + 1, (1 << 64) - 1, 1 << 64, -1):
+            self.assertRaises(durkenzo.BadAfter, Board, [None], servers=1, after=after)
+            self.assertRaises(durkenzo.BadAfter, Board.by_settings, SETTINGS, [1, 2], after)
+
+    def test_two_processes_lose_no_write(self):
+        program = pathlib.Path(__file__).with_name("fenced.py")
+        with tempfile.TemporaryDirectory() as room:
+
+            def write(*words):
+                command = [sys.executable, program, f"{room}/store", *words]
+                return subprocess.run(command, capture_output=True, text=True)
+
+            self.assertEqual(write("100").stdout, "the accounts have 100\n")
+            self.assertEqual(write("60").stdout, "the accounts have 160\n")
+            late = write("60", "0")
+            self.assertEqual((late.returncode, late.stdout), (1, ""))
+            self.assertIn("LateWrite: account 0 has a later token than 2", late.stderr)
+
+    def test_a_board_has_passes_of_its_servers(self):
+        for board in (Board([None], servers=2), Service(Layout([b""]), servers=2)):
+            board.new_pass(2).close()
+            for stranger in (3, 4095):
+                self.assertRaises(durkenzo.UnknownServer, board.new_pass, stranger)
+            for none in (0, 4096):
+                self.assertRaises(durkenzo.BadArgument, board.new_pass, none)
 
     def test_sizes_and_restarts(self):
         self.assertRaises(durkenzo.NoShard, Board, [], servers=1)

@@ -25,6 +25,9 @@ PROGRAM = sources.CRATES / "sm_cli/out/sm_cli"
 COUNTED = "every admission was counted\n"
 TOLD = "the header is right\n"
 SECONDS = 170
+STRICT = ["gcc", "-std=c11", "-Wall", "-Wextra", "-Werror"]
+# The C example with a database is compiled where this is.
+SQLITE = pathlib.Path("/usr/include/sqlite3.h")
 # The Pythons of which one may have what makes a wheel: Debian's, and the first of the PATH.
 PYTHONS = ("/usr/bin/python3", "python3")
 
@@ -53,12 +56,22 @@ def ran(name, command, folder, wanted=None, **env):
     return verdict(name, is_well, f"exit status {done.returncode}\n{done.stdout[-2000:]}{done.stderr[-2000:]}")
 
 
+def fenced(room, program, name, **env):
+    """Of two processes, one after the other, the store has all writes; tokens that begin too low are refused aloud."""
+    words, refuses = [*program, room / f"{name}.store"], '! "$@" 2> refused && grep -q later refused'
+    yield ran(f"the fenced writes in {name}", [*words, 100], room, "the accounts have 100\n", **env)
+    yield ran(f"those of a second process in {name}", [*words, 60], room, "the accounts have 160\n", **env)
+    yield ran(f"late writes are refused in {name}", ["sh", "-c", refuses, "sh", *words, 60, 0], room, "", **env)
+
+
 def in_rust(room):
     env = {"CARGO_TARGET_DIR": room / "target"}
     run = ["cargo", "run", "--quiet", "--offline", "--example"]
     yield ran("the crate's tests", ["cargo", "test", "--offline"], CRATE, **env)
     yield ran("the crate's example", [*run, "counters"], CRATE, COUNTED, **env)
     yield ran("its example that holds two shards", [*run, "transfer"], CRATE, **env)
+    yield ran("the example of fences compiles", ["cargo", "build", "--offline", "--example", "fenced"], CRATE, **env)
+    yield from fenced(room, [room / "target/debug/examples/fenced"], "Rust")
     yield ran("the driver of scripts compiles", ["cargo", "build", "--offline", "--example", "script"], CRATE, **env)
     if not PROGRAM.is_file():
         return
@@ -70,8 +83,8 @@ def in_rust(room):
 def of_program(room, prefix, flags, name, wanted):
     """The program of this name in library/c compiles, and writes what is wanted."""
     program, env = room / name, {"LD_LIBRARY_PATH": prefix / "lib"}
-    strict = ["gcc", "-std=c11", "-Wall", "-Wextra", "-Werror", FOLDER / f"c/{name}.c", "-o", program]
-    yield ran(f"the C {name} compiles", [*strict, *flags, "-pthread"], room)
+    made = [*STRICT, FOLDER / f"c/{name}.c", "-o", program]
+    yield ran(f"the C {name} compiles", [*made, *flags, "-pthread"], room)
     if program.exists():
         yield ran(f"the C {name}", [program], room, wanted, **env)
     if program.exists() and shutil.which("valgrind"):
@@ -124,6 +137,10 @@ def in_c(room):
         flags = [f"-I{prefix}/include", f"-L{prefix}/lib", "-ldurkenzo"]
     yield from of_program(room, prefix, flags, "example", COUNTED)
     yield from of_program(room, prefix, flags, "test", TOLD)
+    if SQLITE.is_file():
+        program, source = room / "fenced", FOLDER / "c/fenced.c"
+        yield ran("the C fenced compiles", [*STRICT, source, "-o", program, *flags, "-lsqlite3"], room)
+        yield from fenced(room, [program], "C", LD_LIBRARY_PATH=prefix / "lib")
 
 
 def in_python(room):

@@ -1,0 +1,102 @@
+//! Adds 1 to accounts of a store, so that no write of an earlier admission or process lands after a later one:
+//! `fenced FILE WRITES [AFTER]`.
+//!
+//! Prints what all accounts have in the end. AFTER shows what becomes of tokens that begin too low: the first write
+//! that the store refuses is an error. The store is a file here; of a database, `claim` and `add` are a transaction
+//! each.
+use durkenzo::{Board, Mode, MAX_GENERATION};
+use std::error::Error;
+use std::fs;
+use std::path::PathBuf;
+
+type Fault = Box<dyn Error + Send + Sync>;
+
+const ACCOUNTS: u16 = 4;
+
+#[derive(Clone, Copy, Default)]
+struct Account {
+    balance: u64,
+    /// The greatest token of those who wrote it.
+    token: u64,
+}
+
+struct Store {
+    file: PathBuf,
+    /// The number after which the tokens of the next process begin.
+    after: u64,
+    accounts: [Account; ACCOUNTS as usize],
+}
+
+impl Store {
+    /// The store of the file: its first line is `after`, and each other one an account.
+    fn open(file: PathBuf) -> Result<Store, Fault> {
+        let kept = fs::read_to_string(&file).unwrap_or_default();
+        let mut numbers = kept.split_whitespace().map(str::parse);
+        let after = numbers.next().transpose()?.unwrap_or_default();
+        let mut accounts = [Account::default(); ACCOUNTS as usize];
+        for account in &mut accounts {
+            account.balance = numbers.next().transpose()?.unwrap_or_default();
+            account.token = numbers.next().transpose()?.unwrap_or_default();
+        }
+        Ok(Store {
+            file,
+            after,
+            accounts,
+        })
+    }
+
+    fn save(&self) -> Result<(), Fault> {
+        let lines = self.accounts.iter();
+        let lines = lines.map(|it| format!("{} {}\n", it.balance, it.token));
+        let text = format!("{}\n{}", self.after, lines.collect::<String>());
+        Ok(fs::write(&self.file, text)?)
+    }
+
+    /// The number after which the tokens of this process begin. Those of the next one begin above them, so a process
+    /// that was cut off and still writes has lower ones.
+    fn claim(&mut self) -> Result<u64, Fault> {
+        let after = self.after;
+        self.after += MAX_GENERATION;
+        self.save()?;
+        Ok(after)
+    }
+
+    /// Adds 1, as `UPDATE .. SET balance = balance + 1, token = ?1 WHERE shard = ?2 AND token <= ?1` does. A write that
+    /// changes no row is an error.
+    fn add(&mut self, shard: u16, token: u64) -> Result<(), Fault> {
+        let account = &mut self.accounts[usize::from(shard)];
+        if token < account.token {
+            return Err(format!("account {shard} has a later token than {token}").into());
+        }
+        account.balance += 1;
+        account.token = token;
+        self.save()
+    }
+}
+
+fn main() -> Result<(), Fault> {
+    let mut words = std::env::args().skip(1);
+    let (Some(file), Some(writes)) = (words.next(), words.next()) else {
+        return Err("fenced FILE WRITES [AFTER]".into());
+    };
+    let mut store = Store::open(file.into())?;
+    let after = match words.next() {
+        Some(after) => after.parse()?,
+        None => store.claim()?,
+    };
+    let board = Board::builder()
+        .servers(1)
+        .after(after)
+        .build([(); ACCOUNTS as usize])?;
+    for shard in 0..ACCOUNTS {
+        board.control().assign(shard, 1)?;
+    }
+    let mut pass = board.pass(1)?;
+    for turn in 0..writes.parse::<u32>()? {
+        let mut permit = pass.admit((turn % u32::from(ACCOUNTS)) as u16, Mode::Direct)?;
+        store.add(permit.shard(), permit.token())?;
+    }
+    let sum: u64 = store.accounts.iter().map(|it| it.balance).sum();
+    println!("the accounts have {sum}");
+    Ok(())
+}
