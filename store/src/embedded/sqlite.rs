@@ -221,7 +221,7 @@ fn open_error(folder: &Path, file: PathBuf, error: &rusqlite::Error) -> OpenErro
 impl From<rusqlite::Error> for Failure {
     fn from(error: rusqlite::Error) -> Failure {
         match error.sqlite_error_code() {
-            Some(ErrorCode::DiskFull) => Failure::Full(error.to_string()),
+            Some(ErrorCode::DiskFull | ErrorCode::OutOfMemory) => Failure::Full(error.to_string()),
             // Of a row whose head was changed, or that holds another kind of value.
             Some(ErrorCode::DatabaseCorrupt) | None => Failure::Damaged(error.to_string()),
             _ => Failure::Broken(error.to_string()),
