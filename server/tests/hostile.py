@@ -28,7 +28,8 @@ MANY = "TOOLARGE a command has at most 1024 arguments, its name among them: send
 LARGE = "TOOLARGE a command has at most 1048576 bytes: send it in parts"
 # What is said of a command that may have data take more memory, above --max-memory.
 OVER = "OOM command not allowed when used memory > 'maxmemory'."
-# What each client asks where the system gives no more memory.
+# How refusals begin where the system gives no more memory, and what each client asks then.
+NO_MEMORY = "OOM memory was refused"
 TRIED = [("PING",), ("STRLEN", "key 0"), ("GET", "key 0"), ("APPEND", "key 1", ""), ("DEL", "nothing"), ("DBSIZE",)]
 # How many bytes a client reads that always waits for more, and for how many answers.
 READ, OUTSTANDING = 100_000_000, 100
@@ -410,7 +411,7 @@ def without_memory(program, limit, *options):
         server = stack.enter_context(served(program, *options, before=("prlimit", f"--as={limit}")))
         clients = [stack.enter_context(server.client()) for _ in range(20)]
         keys, why = filled(clients[0], b"v" * 60_000)
-        assert why.startswith("OOM memory was refused") and len(keys) > 200, (why, len(keys))
+        assert why.startswith(NO_MEMORY) and len(keys) > 200, (why, len(keys))
         # Those who are there are answered, and those who come are, or are told why not.
         for client in clients:
             client.socket.sendall(b"".join(packed(*it) for it in TRIED) + packed("MGET", *keys[:100]))
@@ -442,7 +443,7 @@ def refused_memory_is_an_answer(program):
 
 def may_be(answer):
     """Whether it is no refusal but for want of memory."""
-    return not isinstance(answer, Refused) or str(answer).startswith("OOM memory was refused")
+    return not isinstance(answer, Refused) or str(answer).startswith(NO_MEMORY)
 
 
 def what_clients_took_is_given_back(program):

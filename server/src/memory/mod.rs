@@ -1,10 +1,10 @@
 //! The memory of the process: how much of it is used, how much may be, and what becomes of it if the system refuses
 //! more.
 //!
-//! With data in memory nothing that a command does ends the process then. A store, which takes memory by itself, may
-//! end, and the process with it, in order. What may be large is reserved by [`reserve`], and the command is refused if
-//! that fails. What is small, and can't be refused, comes from [room that is kept back](Allocator). What frees memory
-//! once it has some has [spare](with_spare).
+//! Nothing that a command does with data in memory ends the process then; over a store, which takes memory by itself,
+//! that is only made unlikely. What may be large is reserved by [`reserve`], and the command is refused if that fails.
+//! What is small, and can't be refused, comes from [room that is kept back](Allocator). What frees memory once it has
+//! some has [spare](with_spare).
 mod allocator;
 mod bytes;
 mod ceiling;
