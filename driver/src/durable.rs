@@ -505,7 +505,8 @@ impl Inner {
         self.store.submit(transaction, Box::new(done));
     }
 
-    /// Notes whether the store had room for what was written. If it hadn't, shards of which keys were deleted get a base.
+    /// Notes whether the store had room for what was written. If it hadn't, shards of which keys were deleted get a
+    /// base.
     fn note_room(&self, outcome: &Result<Outcome, WriteError>) {
         let is_full = match outcome {
             Ok(Outcome::Made(_)) => false,

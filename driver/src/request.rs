@@ -36,10 +36,7 @@ impl Request {
 
     /// Whether it only deletes.
     pub(crate) fn deletes(&self) -> bool {
-        match self {
-            Request::Delete(_) => true,
-            Request::Put(..) | Request::Append(..) | Request::Add(..) => false,
-        }
+        matches!(self, Request::Delete(_))
     }
 
     /// How many its bytes are.
@@ -61,6 +58,11 @@ impl Request {
             Request::Delete(key) => spelled(DELETE, key, &[]),
         }
     }
+}
+
+/// Whether a request of these bytes only deletes.
+pub(crate) fn is_deletion(bytes: &[u8]) -> bool {
+    bytes.first() == Some(&DELETE)
 }
 
 /// The bytes of a request for what the key holds.

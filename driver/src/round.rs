@@ -1,5 +1,5 @@
 use crate::listing::{Listed, Listing};
-use crate::request::get_bytes;
+use crate::request::{get_bytes, is_deletion};
 use crate::size::Size;
 use crate::work::{Begin, Numbered, Outcome, Step, Work};
 use crate::{Came, Key, NotDone, Reply, Request};
@@ -269,13 +269,7 @@ impl Round {
             self.wrote.insert(next.origin.run);
             self.note_written(&next.requests);
             let bytes = next.requests.iter().map(Request::bytes).collect();
-            let frees = frees(&next.requests);
             self.add(next.step, Kind::Decided, next.origin, bytes, None);
-            self.taken
-                .iter_mut()
-                .last()
-                .into_iter()
-                .for_each(|it| it.frees = frees);
         }
         if !decided.is_empty() {
             self.takes = Takes::OnlyReads;
@@ -330,13 +324,7 @@ impl Round {
             Begin::Numbered(numbered, _) => Some(*numbered),
             _ => None,
         };
-        let frees = frees(step.begin.requests());
         self.add(step, kind, origin, bytes, numbered);
-        self.taken
-            .iter_mut()
-            .last()
-            .into_iter()
-            .for_each(|it| it.frees = frees);
         Ok(())
     }
 
@@ -389,6 +377,7 @@ impl Round {
         self.since = self.since.min(origin.since);
         let (first, count, place) = (self.asked.len(), requests.len(), self.taken.len());
         self.bytes += requests.iter().map(Vec::len).sum::<usize>();
+        let frees = kind.writes() && count > 0 && requests.iter().all(|it| is_deletion(it));
         let floor = self.process << PLACE_BITS;
         for (at, bytes) in requests.into_iter().enumerate() {
             let (client, number) = match numbered {
@@ -414,7 +403,7 @@ impl Round {
             first,
             count,
             listed: None,
-            frees: false,
+            frees,
             ends: None,
         });
     }
@@ -557,11 +546,6 @@ impl Round {
         });
         told.collect()
     }
-}
-
-/// Whether these requests only delete.
-fn frees(requests: &[Request]) -> bool {
-    !requests.is_empty() && requests.iter().all(Request::deletes)
 }
 
 /// The replies to these requests, where each has one.

@@ -17,6 +17,17 @@ pub(super) enum Basing {
     Named(u64),
 }
 
+/// What a base is wished for.
+#[derive(Debug, Default)]
+pub(super) struct BaseWish {
+    /// Whether one is to begin as soon as its server has read the shard.
+    pub(super) is_wanted: bool,
+    /// Whether it is to make room, so that nothing else that takes some is sent meanwhile.
+    pub(super) is_alone: bool,
+    /// Whether keys were deleted since the last one.
+    pub(super) has_freed: bool,
+}
+
 /// How many bytes a log has at least before it gets another base for their number.
 const LEAST_BYTES: u64 = 1 << 20;
 /// How many bytes are read in the time that it takes to read a batch beside its own.
@@ -26,14 +37,14 @@ impl Shard {
     /// Begins a base where one is due.
     pub(crate) fn begin_base(&mut self, is_full: bool, now: Instant, deeds: &mut Vec<Deed>) {
         let may_begin = self.base.is_none() && self.base_pause.is_over(now);
-        if self.wants_base || self.is_base_due(is_full) && may_begin {
+        if self.base_wish.is_wanted || self.is_base_due(is_full) && may_begin {
             self.want_base(is_full, now, deeds);
         }
     }
 
     /// Whether the log is to get another base: it is long, or the store is full and keys were deleted.
     pub(super) fn is_base_due(&self, is_full: bool) -> bool {
-        self.wants_base || self.is_log_long() || is_full && self.has_freed
+        self.base_wish.is_wanted || self.is_log_long() || is_full && self.base_wish.has_freed
     }
 
     /// Whether the log is to get another base.
@@ -51,26 +62,37 @@ impl Shard {
     /// it reads that first. If the store is full, nothing that takes room is sent until it is over: what is refused has
     /// the server be read anew, and so its base begun anew.
     pub(crate) fn want_base(&mut self, is_full: bool, now: Instant, deeds: &mut Vec<Deed>) {
-        self.wants_base = false;
-        self.is_alone |= is_full;
+        self.base_wish.is_wanted = false;
         if self.base.is_some() {
+            self.base_wish.is_alone |= is_full;
             return;
         }
-        self.is_alone = is_full;
+        self.base_wish.is_alone = is_full;
         let owner = self.standing.record().and_then(|it| it.owner());
         let is_other = |it: &u16| self.me().is_some_and(|me| me != *it);
         let Some(server) = owner.filter(|it| !is_other(it) && !self.away.contains(it)) else {
             return;
         };
-        let Some(Seat::Ready(core, _) | Seat::Sent(core, ..)) = self.seats.get_mut(&server) else {
-            self.wants_base = true;
-            self.ready_core(server, now, deeds);
-            return;
+        let core = match self.seats.get_mut(&server) {
+            Some(Seat::Ready(core, _)) => core,
+            Some(Seat::Sent(core, ..)) if !is_full => core,
+            // What is sent may be refused, so a base begins after it.
+            Some(Seat::Sent(..)) => {
+                self.base_wish.is_wanted = true;
+                return;
+            }
+            Some(Seat::Unread(_) | Seat::Reading(_)) | None => {
+                self.base_wish.is_wanted = true;
+                self.ready_core(server, now, deeds);
+                return;
+            }
         };
         // Where it fails, the log stays as long as it is, and it is tried again.
         if let Ok(Some(Base { number, parts })) = core.base() {
             self.log.base = parts.iter().map(|it| it.len() as u64).sum();
             self.log_before = self.log;
+            // What is deleted from now on needs another one; where this one fails, the log is read again.
+            self.base_wish.has_freed = false;
             self.tickets += 1;
             let ticket = Ticket {
                 server,
@@ -87,12 +109,13 @@ impl Shard {
 
     /// Whether a base is made, or what is behind it isn't deleted yet.
     pub(crate) fn makes_base(&self) -> bool {
-        self.base.is_some() || self.wants_base || self.sweeps > 0
+        self.base.is_some() || self.base_wish.is_wanted || self.sweeps > 0
     }
 
-    /// Whether a base is made in order to make room.
+    /// Whether a base is made, or is to be made soon, in order to make room; or what is behind it isn't deleted yet, as
+    /// a server that is read anew wouldn't do that.
     pub(super) fn makes_room(&self) -> bool {
-        self.is_alone && self.base.is_some()
+        self.base_wish.is_alone && self.makes_base()
     }
 
     /// Whether the last one that began wasn't written.

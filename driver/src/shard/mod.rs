@@ -12,7 +12,7 @@ use crate::round::{Decided, Origin, Round, Run, MOST_BYTES};
 use crate::work::{self, NotDone, Step, Work};
 use crate::{Came, Elsewhere, Member, Standing, Tuning};
 use base_pause::BasePause;
-use basing::Basing;
+use basing::{BaseWish, Basing};
 use durkenzo_store::{Revision, Transaction};
 use leasing::Leasing;
 use std::collections::{BTreeMap, BTreeSet, VecDeque};
@@ -112,12 +112,8 @@ pub(crate) struct Shard {
     log_before: LogSize,
     /// How long none begins after one failed.
     base_pause: BasePause,
-    /// Whether one is to begin as soon as its server has read the shard.
-    wants_base: bool,
-    /// Whether it is to make room, so that nothing else that takes some is sent meanwhile.
-    is_alone: bool,
-    /// Whether keys were deleted since the last one.
-    has_freed: bool,
+    /// What the next one is wished for.
+    base_wish: BaseWish,
     /// How often it is looked for what is behind a base.
     sweeps: usize,
     tuning: Tuning,
@@ -168,9 +164,7 @@ impl Shard {
             base: None,
             log_before: LogSize::default(),
             base_pause: BasePause::default(),
-            wants_base: false,
-            is_alone: false,
-            has_freed: false,
+            base_wish: BaseWish::default(),
             sweeps: 0,
             tuning,
             leasing: Leasing::default(),
@@ -353,8 +347,8 @@ impl Shard {
         match read {
             Ok(read) => {
                 self.seat(server, read);
-                if std::mem::take(&mut self.wants_base) {
-                    self.want_base(self.is_alone, now, deeds);
+                if std::mem::take(&mut self.base_wish.is_wanted) {
+                    self.want_base(self.base_wish.is_alone, now, deeds);
                 }
             }
             Err(later @ (NotRead::Later | NotRead::Unanswered(_))) => {
@@ -365,13 +359,13 @@ impl Shard {
                 self.seats.insert(server, again);
             }
             Err(NotRead::Ended(why)) => {
-                self.wants_base = false;
+                self.base_wish.is_wanted = false;
                 self.seats.insert(server, Seat::Unread(None));
                 self.give_up(&NotDone::Stopped, deeds);
                 deeds.push(Deed::StoreEnded(why));
             }
             Err(NotRead::Damaged(why)) => {
-                self.wants_base = false;
+                self.base_wish.is_wanted = false;
                 self.seats.insert(server, Seat::Unread(None));
                 self.give_up(&NotDone::Damaged(why), deeds);
             }
@@ -389,7 +383,7 @@ impl Shard {
         } = read;
         self.log = log;
         // What was read may have deletions.
-        self.has_freed |= log.batches > 0;
+        self.base_wish.has_freed |= log.batches > 0;
         self.unanswered = None;
         let stood = standing.revision();
         let at = At { stood, logged };
@@ -406,7 +400,8 @@ impl Shard {
     /// Refuses what has waited for so long, where no transaction is under way for it.
     pub(crate) fn tick(&mut self, now: Instant, wait: Duration, deeds: &mut Vec<Deed>) {
         let is_sent = self.is_sent();
-        if self.runs.is_empty() && self.round.is_none() || is_sent || self.holds > 0 {
+        let is_idle = self.runs.is_empty() && self.decided.is_empty() && self.round.is_none();
+        if is_idle || is_sent || self.holds > 0 {
             return;
         }
         let reads_again = |it: &Seat| matches!(it, Seat::Unread(Some(at)) if *at <= now);

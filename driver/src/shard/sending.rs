@@ -127,7 +127,7 @@ impl Shard {
         }
         if writes {
             at.logged = revision;
-            self.has_freed |= self.round.as_ref().is_some_and(Round::frees);
+            self.base_wish.has_freed |= self.round.as_ref().is_some_and(Round::frees);
             self.logged = self.logged.max(revision);
             // Copies that come late compare what was there before.
             self.unknown_at = None;
@@ -137,7 +137,6 @@ impl Shard {
         self.end_failed_base(server);
         if self.base == Some((server, Basing::Named(ticket.number))) {
             self.base_pause.end();
-            self.has_freed = false;
             self.base = None;
             self.sweeps += 1;
             deeds.push(Deed::Sweep(server));

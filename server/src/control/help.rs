@@ -35,7 +35,7 @@ pub const WORDS: [(&str, &str); 34] = [
     ("LOAD FILE", "has all shards hold and stand as in that file, in place of what they hold now"),
     ("ROUTES", "with --etcd: the latest record's revision, and for each shard its owner, and where clients reach that"),
     ("CALL c n COMMAND ..", "where data outlives the process: a write without reading, once for number n of client c"),
-    ("COMPACT", "with --data or --etcd: makes a base of each shard that this process executes, so that room comes back"),
+    ("COMPACT", "with --data or --etcd: makes a base of each shard of this process, so that room comes back"),
     ("AT a COMMAND ..", "sends a command with keys of one shard to server a, as a client with an old map does"),
     ("HELP", "these lines; SM HELP x tells what the word or the name of a refusal x means"),
 ];

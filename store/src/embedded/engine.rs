@@ -369,9 +369,7 @@ impl<T: Tables> Engine<T> {
                 let made = self.tables.compact();
                 let _ = tell.send(made.map_err(|it| CompactError::from(unavailable(it))));
             }
-            Job::Left(tell) => {
-                let _ = tell.send(self.tables.left());
-            }
+            Job::Left(tell) => drop(tell.send(self.tables.left())),
             Job::Grant(length, tell) => {
                 let _ = tell.send(self.leases.grant(length, now));
             }

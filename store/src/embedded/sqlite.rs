@@ -99,12 +99,7 @@ fn opened(folder: &Path, file: &Path, sync: Sync) -> Result<Sqlite, Refused> {
     connection.pragma_update(None, "secure_delete", "FAST")?;
     let form = form(&connection)?;
     connection.pragma_update(None, "journal_mode", "WAL")?;
-    let level = match sync {
-        Sync::Always => "FULL",
-        Sync::Second => "NORMAL",
-        Sync::No => "OFF",
-    };
-    connection.pragma_update(None, "synchronous", level)?;
+    connection.pragma_update(None, "synchronous", level(sync))?;
     if form == Form::New {
         let marks = format!("PRAGMA application_id = {APPLICATION};");
         connection.execute_batch(&bettered(&format!("{SCHEMA} {marks}")))?;
@@ -131,7 +126,17 @@ fn opened(folder: &Path, file: &Path, sync: Sync) -> Result<Sqlite, Refused> {
     })
 }
 
-/// Refuses a file that is damaged: a quicker check doesn't see that an index has lost a key, which then couldn't be read.
+/// What SQLite calls it.
+fn level(sync: Sync) -> &'static str {
+    match sync {
+        Sync::Always => "FULL",
+        Sync::Second => "NORMAL",
+        Sync::No => "OFF",
+    }
+}
+
+/// Refuses a file that is damaged. A quicker check doesn't see that an index has lost a key, which then couldn't be
+/// read.
 fn look_through(connection: &Connection) -> Result<(), Refused> {
     let check = "integrity_check";
     let found: String = connection.pragma_query_value(None, check, |row| row.get(0))?;
@@ -260,7 +265,8 @@ fn changed(key: &[u8]) -> String {
 }
 
 impl Sqlite {
-    /// Moves SQLite's log to its tables, which may take what is kept back for that while, and gives back the log's room.
+    /// Moves SQLite's log to its tables, which may take what is kept back for that while, and gives back the log's
+    /// room.
     fn tidy(&mut self) -> rusqlite::Result<()> {
         self.reserve.lend(Kept::Nothing);
         let truncate = "PRAGMA wal_checkpoint(TRUNCATE)";
