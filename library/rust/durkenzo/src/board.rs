@@ -77,8 +77,9 @@ impl Builder {
     }
 
     /// The number after which the board's [fencing tokens](crate::Permit::token) begin, which is 0 where nothing is
-    /// said: each of them is greater, and at most `after + MAX_GENERATION`. So a process that begins after the tokens of
-    /// the boards before it fences off their late writes, and its own are none.
+    /// said: each of them is greater, and at most `after + MAX_GENERATION`. Raise a number of your store by
+    /// [`MAX_GENERATION`] at each start, in one transaction, and give it as it was before: then each token is above all
+    /// tokens of earlier boards, also of one that still writes (`examples/fenced.rs`).
     pub fn after(mut self, token: u64) -> Builder {
         self.after = token;
         self
