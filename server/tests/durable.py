@@ -25,7 +25,7 @@ import time
 sys.dont_write_bytecode = True
 import scans
 import served
-from served import Refused, main
+from served import Refused, eventually, main
 
 SETTINGS = pathlib.Path(__file__).resolve().parents[2] / "tools/settings"
 SHARDS = 16
@@ -51,6 +51,18 @@ def stands(client):
     return [it[:6] for it in client.rows("SHARDS")]
 
 
+def told_at_last(client, commands):
+    """The answers to these, once none is refused: on a crowded machine a shard may not be read within a short wait."""
+    told = []
+
+    def are_told():
+        told[:] = client.piped(commands)
+        return not [it for it in told if isinstance(it, Refused)]
+
+    eventually(are_told)
+    return told
+
+
 def restarts_keep_all(program):
     lines = [("SET", f"key:{it}", f"value {it}") for it in range(200)]
     lines += [("SET", "count", 7), ("INCR", "count"), ("APPEND", "count", "x"), ("SET", "n", 12), ("APPEND", "n", 3)]
@@ -70,7 +82,7 @@ def restarts_keep_all(program):
                 after = stands(client)
                 assert after == stood, f"{stood} became {after}"
                 client.ask("SM", "RESUME", 5)
-                assert client.piped(reads) == held
+                assert told_at_last(client, reads) == held
                 client.ask("SM", "PAUSE", 5)
                 stood = stands(client)
 

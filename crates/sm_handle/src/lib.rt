@@ -1,7 +1,8 @@
 //! What a caller in C keeps between calls: a handle of a board's control, of a pass, or of an admission.
 //!
 //! ```rust
-//! assert!(rt; chief.open(alloc, &[70, 80], 2, 1, 100, Fence::first()).is_ok());
+//! let fence = Fence::first();
+//! assert!(rt; chief.open(alloc, &[70, 80], 2, 1, 100, fence).is_ok());
 //! assert!(rt; chief.command(assign).is_ok());
 //! assert!(rt; pass.pass(alloc, &mut chief, Some(one)).is_ok());
 //! assert!(rt; matches!(pass.admit(k, Mode::Direct), Ok(80)));

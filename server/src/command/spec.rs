@@ -165,6 +165,7 @@ const fn since_2(spec: Spec) -> Spec {
 }
 
 /// All commands, by their names.
+#[rustfmt::skip] // One row a line.
 pub static COMMANDS: [Spec; 41] = [
     talk("acl", -2, TalkWord::Acl),
     data("append", 3, Keys::First, Effect::Grows, DataWord::Append),

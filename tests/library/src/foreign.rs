@@ -10,11 +10,12 @@ fn makes_a_pass(rt: HostRuntime) -> Result<(), Fail> {
     let Ok(held) = Chief::make(alloc, bodies, 2, 1, 100) else {
         return Err("no board".into());
     };
-    let fence = Fence::first();
-    let chief = ForeignChief { held, fence };
-    let pass = chief.pass(Some(one))?;
-    assert_eq!(rt; pass.held.count(), 2);
-    assert!(rt; pass.token().is_none());
+    let chief = ForeignChief {
+        held,
+        fence: Fence::first(),
+    };
+    assert_eq!(rt; chief.pass(Some(one))?.held.count(), 2);
+    assert!(rt; chief.pass(Some(one))?.token().is_none());
     let stranger = chief.pass(Some(ServerId::of(3)));
     assert!(rt; matches!(stranger, Err(PassFault::UnknownServer)));
     Ok(())

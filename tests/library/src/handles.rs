@@ -28,17 +28,31 @@ fn admits_and_finishes(rt: HostRuntime) {
     let assign = Command::Change(k, Change::Assign(one));
     let (mut chief, mut pass) = (Handle::new(alloc), Handle::new(alloc));
     assert!(rt; matches!(pass.admit(k, Mode::Direct), Err(ActFault::WrongHandle)));
-    let Some(fence) = Fence::new(500) else {
+    let fence = Fence::first();
+    assert!(rt; chief.open(alloc, &[70, 80], 2, 1, 100, fence).is_ok());
+    assert!(rt; chief.command(assign).is_ok());
+    assert!(rt; pass.pass(alloc, &mut chief, Some(one)).is_ok());
+    assert!(rt; matches!(pass.admit(k, Mode::Direct), Ok(80)));
+    assert!(rt; matches!(pass.finish(), Ok(3)));
+    assert!(rt; matches!(pass.finish(), Err(ActFault::WrongHandle)));
+    pass.close(alloc);
+    chief.close(alloc);
+}
+
+#[test]
+fn tokens_are_above_the_fence(rt: HostRuntime) {
+    let (alloc, one) = (rt.alloc(), ServerId::of(1));
+    let (Some(k), Some(fence)) = (ShardId::new(1), Fence::new(500)) else {
         unreachable!()
     };
+    let assign = Command::Change(k, Change::Assign(one));
+    let (mut chief, mut pass) = (Handle::new(alloc), Handle::new(alloc));
     assert!(rt; chief.open(alloc, &[70, 80], 2, 1, 100, fence).is_ok());
     assert!(rt; chief.command(assign).is_ok());
     assert!(rt; pass.pass(alloc, &mut chief, Some(one)).is_ok());
     assert!(rt; matches!(pass.token(), Err(ActFault::WrongHandle)));
     assert!(rt; matches!(pass.admit(k, Mode::Direct), Ok(80)));
     assert!(rt; matches!(pass.token(), Ok(502)));
-    assert!(rt; matches!(pass.finish(), Ok(3)));
-    assert!(rt; matches!(pass.finish(), Err(ActFault::WrongHandle)));
     pass.close(alloc);
     chief.close(alloc);
 }
