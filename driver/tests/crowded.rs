@@ -163,7 +163,7 @@ fn keeps_a_number_while_a_round_has_it() {
     thread::sleep(Duration::from_secs(2));
     assert_eq!(cluster.lowest(), None);
     let member = cluster.first.durable.member().expect("a member");
-    assert_eq!(member.processes_kept(), 10);
+    until(|| member.processes_kept() == 10);
     release.send(()).expect("a transaction");
     let told = told.recv_timeout(Duration::from_secs(60));
     assert_eq!(told, Ok(Ok(vec![Reply::Count(1)])));

@@ -551,7 +551,7 @@ def damaged_logs_are_refused_by_name(program):
         with over(program, data) as server, server.client() as client:
             client.piped([("SET", f"key:{it}", it) for it in range(100)])
         changed(f"{data}/durkenzo.sqlite", "UPDATE pairs SET value = x'00' WHERE CAST(key AS TEXT) LIKE 'batch/%'")
-        with over(program, data, "--wait", 50) as server, server.client() as client:
+        with over(program, data, "--wait", 5_000) as server, server.client() as client:
             with served_refusal("SHARDDAMAGED"):
                 client.ask("GET", "key:1")
 
@@ -581,7 +581,7 @@ def changed_bits_are_refused_by_name(program):
 
 def refused_keys(program, data, values):
     """How many keys are refused of those that were written; all others have their values, and can be written."""
-    with over(program, data, "--wait", 50) as server, server.client() as client:
+    with over(program, data, "--wait", 5_000) as server, server.client() as client:
         told = dict(zip(values, client.piped([("GET", it) for it in values])))
         wrong = {it for it, answer in told.items() if answer != values[it] and not isinstance(answer, Refused)}
         assert not wrong, [(it, told[it]) for it in wrong]

@@ -117,6 +117,7 @@ impl Campaigner {
     /// Has the process that leads answer. Returns whether somebody can still ask.
     fn follow(&mut self, asked: &Receiver<Asked>) -> bool {
         match asked.recv_timeout(TICK) {
+            Ok(asked) if self.waiting.is_full() => asked.refuse(Refusal::crowded()),
             Ok(asked) => self.waiting.hold(asked),
             Err(RecvTimeoutError::Timeout) => {}
             Err(RecvTimeoutError::Disconnected) => return false,
@@ -160,6 +161,9 @@ impl Campaigner {
     fn pass_on(&self, held: Held, leader: Option<u16>) {
         let own = self.peers.member().server();
         let Held { until, asked } = held;
+        if !asked.reply_to.is_awaited() {
+            return;
+        }
         let Some(asked) = super::routes::told(&self.cluster, Some(&self.peers), asked) else {
             return;
         };

@@ -1,4 +1,4 @@
-use super::Asked;
+use super::{Asked, MOST_ASKED};
 use std::sync::{Arc, Mutex, PoisonError};
 use std::time::{Duration, Instant};
 
@@ -30,6 +30,12 @@ impl Waiting {
     pub fn hold(&self, asked: Asked) {
         let until = Instant::now() + PATIENCE;
         self.hold_again(Held { until, asked });
+    }
+
+    /// Whether as many wait as may.
+    pub fn is_full(&self) -> bool {
+        let held = self.0.lock().unwrap_or_else(PoisonError::into_inner);
+        held.len() >= MOST_ASKED
     }
 
     /// Has it wait as before.

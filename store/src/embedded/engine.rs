@@ -201,7 +201,8 @@ impl<T: Tables> Engine<T> {
     ) -> Result<Vec<Result<Outcome, WriteError>>, Trouble> {
         let writes = transactions.iter().any(Transaction::writes);
         if writes {
-            self.tables.begin(room_of(transactions))?;
+            let begun = self.tables.begin(room_of(transactions));
+            begun.map_err(|it| self.taken_back(it.into()))?;
         }
         let mut changes = Vec::new();
         let outcomes = match self.make_each(transactions, &mut changes) {

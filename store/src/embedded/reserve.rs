@@ -2,6 +2,7 @@ use rustix::fs::{fallocate, fstatvfs, FallocateFlags};
 use rustix::io::Errno;
 use std::fs::File;
 use std::io::{self, Seek, SeekFrom, Write};
+use std::os::unix::fs::MetadataExt;
 use std::path::Path;
 
 /// The name of the file in the folder.
@@ -9,6 +10,8 @@ const FILE: &str = "durkenzo.room";
 /// How much is kept back at most, and which part of a smaller disk.
 const MOST: u64 = 8 << 20;
 const PART: u64 = 4;
+/// How many bytes a block has by which the system counts what a file takes.
+const BLOCK: u64 = 512;
 
 /// How much of it is kept back now, of two halves.
 #[derive(Clone, Copy, Debug, PartialEq, Eq, PartialOrd, Ord)]
@@ -36,7 +39,9 @@ impl Reserve {
         let file = options.open(folder.join(FILE))?;
         let disk = fstatvfs(&file)?;
         let whole = MOST.min(disk.f_blocks * disk.f_frsize / PART);
-        let has = file.metadata()?.len();
+        let of_file = file.metadata()?;
+        // A copy of the file may have no room of its own.
+        let has = of_file.len().min(of_file.blocks() * BLOCK);
         let kept = match () {
             () if has >= whole => Kept::Whole,
             () if has >= whole / 2 => Kept::Half,
@@ -127,7 +132,12 @@ mod tests {
         reserve.take_back();
         assert_eq!((length(), reserve.kept()), (whole, Kept::Whole));
         drop(reserve);
+        // As a copy has it.
+        let copy = File::create(folder.join(FILE)).unwrap();
+        copy.set_len(whole).unwrap();
+        assert_eq!(copy.metadata().unwrap().blocks(), 0);
         assert_eq!(Reserve::open(&folder).unwrap().kept(), Kept::Whole);
+        assert!(copy.metadata().unwrap().blocks() * BLOCK >= whole);
         fs::remove_dir_all(&folder).unwrap();
     }
 }

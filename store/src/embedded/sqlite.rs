@@ -105,11 +105,14 @@ fn opened(folder: &Path, file: &Path, sync: Sync) -> Result<Sqlite, Refused> {
         connection.execute_batch(&bettered(&format!("{SCHEMA} {marks}")))?;
     }
     look_through(&connection)?;
+    let mut reserve = Reserve::open(folder).map_err(Refused::Reserve)?;
     if form == Form::Unsummed {
+        // A full disk may have room for it by what is kept back.
+        reserve.lend(Kept::Nothing);
         connection.execute_batch(&bettered(SUMMED))?;
+        reserve.take_back();
     }
     let moment = moment_without_leases(&connection)?;
-    let reserve = Reserve::open(folder).map_err(Refused::Reserve)?;
     let page_size = count(&connection, "page_size")?;
     // What is in the log may have to go to the tables by what is kept back.
     let most_pages = (reserve.half() / page_size).clamp(1, LOG_PAGES);
