@@ -10,7 +10,7 @@ use crate::descriptors::{Descriptors, Needs};
 use crate::io::{Acceptor, Handshaker, Inlet, Worker};
 use crate::join::Joined;
 use crate::keyspace::Keyspace;
-use crate::memory::{self, CEILING};
+use crate::memory::CEILING;
 use crate::options::Options;
 use crate::safety::Safety;
 use crate::stored;
@@ -33,7 +33,6 @@ const MOST_USUAL_THREADS: usize = 4;
 
 /// Serves until a signal ends it.
 pub fn run(options: &Options) -> Result<(), Fault> {
-    memory::prepare();
     CEILING.set(options.max_memory.0);
     let mut attendant = Attendant::new()?;
     let configuration = fitted(options)?;

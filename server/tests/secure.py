@@ -596,10 +596,10 @@ TESTS = [
     roles_are_kept_apart,
     one_password_alone_keeps_the_control,
     what_gives_no_safety_is_told,
+    the_page_is_on_this_machine_where_clients_need_a_password,
 ]
 BY_TLS = [
     clients_of_redis_speak_tls,
-    the_page_is_on_this_machine_where_clients_need_a_password,
     the_page_speaks_tls_too,
     who_shows_no_certificate_gets_nothing,
     what_is_no_tls_gets_nothing,

@@ -86,7 +86,8 @@ impl ProvedBody {
         if let Err(refusal) = lent(&mut self.map, &asked_for(key, value)) {
             // It holds again what it held, unless memory is refused for that too.
             if let Some(held) = self.value().map(owned) {
-                let _ = self.map.ask(&asked_for(key, borrowed(&held)));
+                let map = &mut self.map;
+                let _ = memory::with_spare(|| map.ask(&asked_for(key, borrowed(&held))).is_ok());
             }
             return Err(refusal);
         }

@@ -285,7 +285,8 @@ fn get_range(
             replies.bulk(part_of(Digits::new(count).as_bytes(), start, end));
         }
     }
-    Ok(())
+    body.forget();
+    Ok(replies.are_whole()?)
 }
 
 /// The bytes of the text from `start` to `end`, which is among them, as Redis counts.
@@ -330,7 +331,8 @@ fn set_all(
 
 fn put_all(body: &mut dyn ShardBody, command: Command<'_>) -> Result<(), Fault> {
     for index in (1..command.len()).step_by(2) {
-        put(body, command.get(index), command.get(index + 1))?;
+        let made = put(body, command.get(index), command.get(index + 1));
+        made.map_err(|fault| if index > 1 { Fault::InPart } else { fault })?;
     }
     Ok(())
 }
@@ -347,10 +349,24 @@ fn set_all_new(
         are_new &= !is_held(body, key)?;
     }
     if are_new {
-        put_all(body, command)?;
+        put_all_or_none(body, command)?;
     }
     replies.count(usize::from(are_new));
     Ok(())
+}
+
+/// Has each key, none of which holds anything, hold its text; or none, where memory is refused.
+fn put_all_or_none(body: &mut dyn ShardBody, command: Command<'_>) -> Result<(), Fault> {
+    let made = put_all(body, command);
+    if made.is_err() {
+        for key in command.iter().skip(1).step_by(2) {
+            delete(body, key)?;
+        }
+    }
+    made.map_err(|fault| match fault {
+        Fault::InPart => Fault::NoMemory,
+        other => other,
+    })
 }
 
 fn subtract(
@@ -429,7 +445,7 @@ mod tests {
     use crate::body::ProvedBody;
     use crate::resp::{parse, Arguments};
 
-    fn told(body: &mut ProvedBody, line: &str) -> String {
+    fn told(body: &mut dyn ShardBody, line: &str) -> String {
         let input = format!("{line}\r\n");
         let (mut arguments, mut replies) = (Arguments::default(), Replies::default());
         parse(input.as_bytes(), &mut arguments).unwrap();
@@ -440,6 +456,55 @@ mod tests {
         execute(word, command, body, &mut replies);
         let text = String::from_utf8_lossy(replies.unsent()).replace("\r\n", " ");
         text.trim_end().to_owned()
+    }
+
+    /// A body that is refused memory once so many keys were written.
+    struct Refused(ProvedBody, usize);
+
+    impl ShardBody for Refused {
+        fn get(&mut self, key: &[u8]) -> Result<Option<Value<'_>>, Refusal> {
+            self.0.get(key)
+        }
+
+        fn put(&mut self, key: &[u8], value: Value<'_>) -> Result<(), Refusal> {
+            self.1 = self.1.checked_sub(1).ok_or(Refusal::NoMemory)?;
+            self.0.put(key, value)
+        }
+
+        fn add(&mut self, key: &[u8], number: i64) -> Result<i64, Refusal> {
+            self.0.add(key, number)
+        }
+
+        fn apply<'a>(&'a mut self, request: Request<'_>) -> Reply<'a> {
+            self.0.apply(request)
+        }
+
+        fn forget(&mut self) {
+            self.0.forget();
+        }
+
+        fn measure(&mut self, key: &[u8]) -> Result<Option<usize>, Refusal> {
+            self.0.measure(key)
+        }
+
+        fn keys(&mut self) -> usize {
+            self.0.keys()
+        }
+    }
+
+    #[test]
+    fn keys_that_are_written_in_part_are_told() {
+        let mut body = Refused(ProvedBody::new().unwrap(), 2);
+        let told_so = |body: &mut Refused, line, wanted: &str| {
+            let told = told(body, line);
+            assert!(told.starts_with(wanted), "{line}: {told}");
+        };
+        told_so(&mut body, "MSETNX a 1 b 2 c 3", "-OOM memory was refused");
+        assert_eq!(body.keys(), 0);
+        body.1 = 2;
+        told_so(&mut body, "MSET a 1 b 2 c 3", "-UNKNOWN some of these keys");
+        assert_eq!(body.keys(), 2);
+        told_so(&mut body, "MSET d 1 e 2", "-OOM memory was refused");
     }
 
     /// Lines, and what Redis 7 answers each of them.

@@ -110,6 +110,19 @@ pub enum Effect {
     Grows,
 }
 
+impl Effect {
+    /// What two commands do, one after the other: they free only if both do.
+    pub fn and(self, other: Effect) -> Effect {
+        match (self, other) {
+            (Effect::Grows, _) | (_, Effect::Grows) => Effect::Grows,
+            (Effect::Frees, Effect::Frees) => Effect::Frees,
+            (Effect::Reads | Effect::Frees, Effect::Reads) | (Effect::Reads, Effect::Frees) => {
+                Effect::Reads
+            }
+        }
+    }
+}
+
 /// How a command is written, and what it does.
 #[derive(Debug)]
 pub struct Spec {

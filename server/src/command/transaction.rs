@@ -19,8 +19,8 @@ pub struct Transaction {
     shard: Option<u16>,
     size: usize,
     is_aborted: bool,
-    /// Whether a command may have data take more memory.
-    grows: bool,
+    /// What its commands do to what keys hold; of none, as if they read.
+    effect: Option<Effect>,
 }
 
 impl Transaction {
@@ -38,7 +38,7 @@ impl Transaction {
         self.commands.push(OwnedCommand::copied(command)?);
         self.shard = self.shard.or(shard);
         self.size = size;
-        self.grows |= effect == Effect::Grows;
+        self.effect = Some(self.effect.map_or(effect, |it| it.and(effect)));
         Ok(())
     }
 
@@ -55,7 +55,7 @@ impl Transaction {
 
     /// Refuses EXEC, if it may have data take more memory and too much is in use.
     pub fn check_memory(&self) -> Result<(), Fault> {
-        match self.grows && !self.is_aborted && CEILING.is_passed() {
+        match self.effect() == Effect::Grows && !self.is_aborted && CEILING.is_passed() {
             true => Err(Fault::ExecMaxMemory),
             false => Ok(()),
         }
@@ -68,10 +68,7 @@ impl Transaction {
 
     /// What they do to what keys hold.
     pub fn effect(&self) -> Effect {
-        match self.grows {
-            true => Effect::Grows,
-            false => Effect::Reads,
-        }
+        self.effect.unwrap_or(Effect::Reads)
     }
 
     /// How many bytes their arguments have.

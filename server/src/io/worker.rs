@@ -218,6 +218,7 @@ impl Worker {
             let connection = self.connections.get_mut(answer.place);
             if let Some(connection) = connection.filter(|it| it.session.id == answer.id) {
                 let took = connection.take_answer(answer.bytes);
+                self.leaving.end(answer.id);
                 if answer.commands > 0 {
                     let stats = self.inlet.stats();
                     stats.commands.add(answer.commands);

@@ -65,6 +65,13 @@ fn give_back(at: usize, size: usize) {
     IS_LOW.store(granules.are_few(0), Ordering::Relaxed);
 }
 
+#[cold]
+fn shrink(at: usize, size: usize, smaller: usize) {
+    let mut granules = granules();
+    granules.shrink(at, size, smaller);
+    IS_LOW.store(granules.are_few(0), Ordering::Relaxed);
+}
+
 /// Whether less than half of the room that is kept back is left.
 pub(super) fn is_low() -> bool {
     IS_LOW.load(Ordering::Relaxed)
@@ -103,11 +110,18 @@ unsafe impl GlobalAlloc for Allocator {
 
     #[inline]
     unsafe fn realloc(&self, place: *mut u8, layout: Layout, size: usize) -> *mut u8 {
-        if within(place).is_none() {
-            let grown = System.realloc(place, layout, size);
-            if !grown.is_null() {
-                return grown;
+        match within(place) {
+            None => {
+                let grown = System.realloc(place, layout, size);
+                if !grown.is_null() {
+                    return grown;
+                }
             }
+            Some(at) if size <= layout.size() => {
+                shrink(at, layout.size(), size);
+                return place;
+            }
+            Some(_) => {}
         }
         // A layout of this size was asked for, so it is one.
         let moved = self.alloc(Layout::from_size_align_unchecked(size, layout.align()));

@@ -13,8 +13,11 @@ const LEAST_STEP: u64 = 64 << 10;
 const OF_ALL: u64 = 1_024;
 /// How soon it is looked again after commands were refused, at the earliest.
 const PAUSE: Duration = Duration::from_millis(10);
-/// A look that took long is followed by so many times as long without one.
+/// A look that took long is followed by so many times as long without one, but by no more than this; and it is looked
+/// sooner once so many times as much came as was to come before the next look.
 const REST: u32 = 20;
+const LONGEST_REST: Duration = Duration::from_millis(100);
+const MUCH: u64 = 4;
 
 /// How much memory may be in use, and whether more is: it is looked once so much has come from clients that more could
 /// be, and not at each command.
@@ -85,7 +88,9 @@ impl Ceiling {
         };
         let began = Instant::now();
         let is_passed = self.is_passed.load(Ordering::Relaxed);
-        if most == 0 || earliest.is_some_and(|it| began < it) {
+        let much = MUCH * self.step.load(Ordering::Relaxed);
+        let is_much = !is_passed && self.came.load(Ordering::Relaxed) >= much;
+        if most == 0 || !is_much && earliest.is_some_and(|it| began < it) {
             return is_passed;
         }
         let used = used();
@@ -94,7 +99,7 @@ impl Ceiling {
         self.step.store(step, Ordering::Relaxed);
         self.came.store(0, Ordering::Relaxed);
         self.is_passed.store(used > most, Ordering::Relaxed);
-        let rest = began.elapsed() * REST;
+        let rest = (began.elapsed() * REST).min(LONGEST_REST);
         let rest = if used > most { rest.max(PAUSE) } else { rest };
         *earliest = Some(began + rest);
         used > most

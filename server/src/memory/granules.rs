@@ -40,6 +40,14 @@ impl Granules {
         self.taken -= count;
     }
 
+    /// Frees those that were taken there for so many bytes and that a smaller number doesn't need.
+    pub(super) fn shrink(&mut self, at: usize, bytes: usize, smaller: usize) {
+        let kept = count_of(smaller) * GRANULE;
+        if kept < bytes {
+            self.give_back(at + kept, bytes - kept);
+        }
+    }
+
     /// Whether more than half are taken, or would be with so many bytes more.
     pub(super) fn are_few(&self, bytes: usize) -> bool {
         self.taken + count_of(bytes) > COUNT / 2
@@ -70,7 +78,9 @@ mod tests {
                 pieces.push((at, bytes));
             } else if !pieces.is_empty() {
                 let (at, bytes) = pieces.swap_remove(chance.below(pieces.len()));
-                granules.give_back(at, bytes);
+                let smaller = chance.below(bytes + 1);
+                granules.shrink(at, bytes, smaller);
+                granules.give_back(at, smaller);
             }
         }
         for (at, bytes) in pieces {
