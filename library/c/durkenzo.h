@@ -241,8 +241,8 @@ uint32_t durkenzo_admit_word(durkenzo_handle *pass, uint16_t shard, uint16_t fro
 /* Writes the fencing token of the pass's admission: each later admission to the shard has a greater one, so a store
  * that keeps the greatest that it saw, and refuses lesser ones, refuses late writes. Each token of a board is above the
  * number after which they begin, and at most DURKENZO_MAX_GENERATION above it. So raise a number in your store by
- * that at each start, and open the board after the number as it was: then its tokens are above all of earlier boards,
- * also of those that still write. Error: WRONG_HANDLE, where the pass has no admission. */
+ * that at each start, in one transaction, and open the board after the number as it was: then its tokens are above all
+ * of earlier boards, also of those that still write. Error: WRONG_HANDLE, where the pass has no admission. */
 uint32_t durkenzo_token(durkenzo_handle *pass, uint64_t *token);
 
 /* Ends the admission of the pass, and writes the shard's generation since then. Error: WRONG_HANDLE, where it has

@@ -26,16 +26,20 @@ static void need(int is_so, const char *what) {
     exit(1);
 }
 
+static void need_ok(int code) {
+    need(code == SQLITE_OK, sqlite3_errmsg(store));
+}
+
 /* Runs the statement with these numbers, and returns the first number of its row, if it has one. */
 static int64_t run(const char *statement, int64_t first, int64_t second) {
     sqlite3_stmt *made;
-    need(sqlite3_prepare_v2(store, statement, -1, &made, NULL) == SQLITE_OK, sqlite3_errmsg(store));
+    need_ok(sqlite3_prepare_v2(store, statement, -1, &made, NULL));
     for (int at = 1; at <= sqlite3_bind_parameter_count(made); at++)
         sqlite3_bind_int64(made, at, at == 1 ? first : second);
     int code = sqlite3_step(made);
     need(code == SQLITE_ROW || code == SQLITE_DONE, sqlite3_errmsg(store));
     int64_t number = code == SQLITE_ROW ? sqlite3_column_int64(made, 0) : 0;
-    need(sqlite3_finalize(made) == SQLITE_OK, sqlite3_errmsg(store));
+    need_ok(sqlite3_finalize(made));
     return number;
 }
 
@@ -61,7 +65,8 @@ int main(int count, char **words) {
     durkenzo_record read;
     need(count == 3 || count == 4, "fenced FILE WRITES [AFTER]");
     need(sqlite3_open(words[1], &store) == SQLITE_OK, "the file isn't opened");
-    need(sqlite3_exec(store, TABLES, NULL, NULL, NULL) == SQLITE_OK, sqlite3_errmsg(store));
+    sqlite3_busy_timeout(store, 5000);
+    need_ok(sqlite3_exec(store, TABLES, NULL, NULL, NULL));
     uint64_t after = count == 4 ? strtoull(words[3], NULL, 10) : claimed();
     uint32_t code = durkenzo_open_after(&control, numbers, ACCOUNTS, 1, 1, DURKENZO_MAX_GENERATION, after);
     need(code == DURKENZO_OK && durkenzo_pass(&control, &pass, 1) == DURKENZO_OK, "no board");

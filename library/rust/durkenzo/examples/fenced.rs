@@ -7,6 +7,7 @@
 use durkenzo::{Board, Mode, MAX_GENERATION};
 use std::error::Error;
 use std::fs;
+use std::io::ErrorKind;
 use std::path::PathBuf;
 
 type Fault = Box<dyn Error + Send + Sync>;
@@ -30,7 +31,10 @@ struct Store {
 impl Store {
     /// The store of the file: its first line is `after`, and each other one an account.
     fn open(file: PathBuf) -> Result<Store, Fault> {
-        let kept = fs::read_to_string(&file).unwrap_or_default();
+        let kept = match fs::read_to_string(&file) {
+            Err(error) if error.kind() == ErrorKind::NotFound => String::new(),
+            read => read?,
+        };
         let mut numbers = kept.split_whitespace().map(str::parse);
         let after = numbers.next().transpose()?.unwrap_or_default();
         let mut accounts = [Account::default(); ACCOUNTS as usize];
@@ -64,6 +68,8 @@ impl Store {
     /// Adds 1, as `UPDATE .. SET balance = balance + 1, token = ?1 WHERE shard = ?2 AND token <= ?1` does. A write that
     /// changes no row is an error.
     fn add(&mut self, shard: u16, token: u64) -> Result<(), Fault> {
+        // Another process may have written meanwhile.
+        *self = Store::open(self.file.clone())?;
         let account = &mut self.accounts[usize::from(shard)];
         if token < account.token {
             return Err(format!("account {shard} has a later token than {token}").into());

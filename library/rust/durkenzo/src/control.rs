@@ -228,17 +228,26 @@ impl<T> Control<T> {
 
     // The shard's stand, which a pass of any server sees.
     fn stand(&self, shard: u16) -> Result<Stand, RestoreFault> {
-        let mut pass = Handle::empty();
-        // SAFETY: the control's handle is locked, and the others are this call's alone.
-        let (made, word) = unsafe {
-            let made = raw::durkenzo_pass(&mut *self.shared.chief(), &mut pass, 1);
-            (made, raw::durkenzo_look_word(&mut pass, shard))
-        };
-        match (made, word) {
-            (0, raw::NO_WORD) => Err(ChangeFault::UnknownShard.into()),
-            (0, word) => Ok(Record::of_word(word).stand),
-            _ => Err(RestoreFault::NoMemory),
+        let mut pass = self.any_pass()?;
+        // SAFETY: the handle is this call's alone.
+        match unsafe { raw::durkenzo_look_word(&mut pass, shard) } {
+            raw::NO_WORD => Err(ChangeFault::UnknownShard.into()),
+            word => Ok(Record::of_word(word).stand),
         }
+    }
+
+    // A pass of the board's first server, whose number settings tell.
+    fn any_pass(&self) -> Result<Handle, RestoreFault> {
+        let (mut chief, mut pass) = (self.shared.chief(), Handle::empty());
+        for server in 1..=raw::MAX_SERVER {
+            // SAFETY: the control's handle is locked, and the other is this call's alone.
+            match unsafe { raw::durkenzo_pass(&mut *chief, &mut pass, server) } {
+                0 => return Ok(pass),
+                raw::UNKNOWN_SERVER => {}
+                _ => break,
+            }
+        }
+        Err(RestoreFault::NoMemory)
     }
 
     fn change(&self, shard: u16, kind: u8, server: u16) -> Result<(), ChangeFault> {

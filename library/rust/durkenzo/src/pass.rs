@@ -194,7 +194,7 @@ impl<T> Permit<'_, T> {
         let mut token = 0;
         // SAFETY: the handle is the pass's, which holds this permit.
         let code = unsafe { raw::durkenzo_token(&mut self.pass.handle, &mut token) };
-        debug_assert_eq!(code, 0, "the pass of a permit holds it");
+        assert_eq!(code, 0, "the pass of a permit holds it");
         token
     }
 

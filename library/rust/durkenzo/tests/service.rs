@@ -323,6 +323,13 @@ fn stands_are_reached_anew() {
         control.restore(shard, stand).unwrap();
         assert_eq!(watch.look(shard).unwrap().stand, stand);
     }
+    // A board's servers needn't begin at 1.
+    let others = Service::by_settings(SETTINGS.replace("\"id\":1", "\"id\":5")).unwrap();
+    others.control().restore(0, Stand::Serving(7)).unwrap();
+    assert_eq!(
+        others.pass(7).unwrap().look(0).unwrap().stand,
+        Stand::Serving(7)
+    );
     assert_eq!(
         control.restore(1, Stand::Serving(2)),
         Err(RestoreFault::Change(ChangeFault::WrongPhase))
