@@ -352,6 +352,12 @@ impl Durable {
         shards.map(|it| locked(it).read_by_lease()).sum()
     }
 
+    /// Of how many clients the last request is kept, by the shard that keeps most, as far as this process has read them.
+    pub fn clients_kept(&self) -> usize {
+        let shards = self.inner.shards.iter();
+        shards.map(|it| locked(it).clients()).max().unwrap_or(0)
+    }
+
     /// Why the store ended, if it did: nothing more is done.
     pub fn ended(&self) -> Option<&str> {
         self.inner.ended.get().map(String::as_str)

@@ -114,6 +114,7 @@ fn takes_writes_again_once_all_processes_began_again() {
         ask(&node.durable, 0, begin, None),
         Err(NotDone::TooManyClients)
     );
+    assert!(node.durable.clients_kept() >= FULL * REQUESTS);
     end(&node);
     end(&cluster.first);
     let Cluster {
@@ -130,6 +131,7 @@ fn takes_writes_again_once_all_processes_began_again() {
         Ok(vec![Reply::Count(count)])
     );
     assert_eq!(held(&node.durable, 0, b"k0"), Ok(vec![Reply::Count(count)]));
+    assert_eq!(node.durable.clients_kept(), 1);
 }
 
 #[test]

@@ -191,6 +191,9 @@ uint32_t durkenzo_server_parts_made(durkenzo_server_handle *server);
 uint32_t durkenzo_server_is_behind(durkenzo_server_handle *server, bool is_part, uint64_t number, uint64_t place,
                                    bool *behind);
 
+/* Writes of how many clients the server keeps the last request: of none before it has read. */
+uint32_t durkenzo_server_clients(durkenzo_server_handle *server, size_t *clients);
+
 /* Lets go the server that the handle keeps. */
 void durkenzo_server_close(durkenzo_server_handle *server);
 

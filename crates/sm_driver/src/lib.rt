@@ -10,6 +10,7 @@ ghost use Rattle.sm_shard.specs.declared.steps.ShardInput.TheVariants.{Base as B
 ghost use Rattle.sm_shard.specs.declared.steps.ShardInput.TheVariants.{Flush as FlushInput, Lost as LostInput};
 ghost use Rattle.sm_shard.specs.declared.steps.ShardInput.TheVariants.{PartsMade as PartsInput};
 ghost use Rattle.sm_codec.specs.Spelling.{head_bytes};
+ghost use Rattle.sm_shard.specs.Decisions.{clients_kept};
 ghost use Rattle.sm_driver.specs.Calls.{Between, ComesFrom, IsDecidedAs, IsMadeAnswer, IsReadAnswer, IsRequestInput};
 ghost use Rattle.sm_driver.specs.Calls.{KeepsServer};
 ghost use Rattle.sm_driver.specs.Calls.{MakesOn, TellsRead, WritesPart, WritesSending, WritesSent, is_decided};
@@ -448,6 +449,21 @@ pub extern "C" fn durkenzo_server_is_behind(
         }
         Err(fault) => code_of_fault(fault),
     }
+}
+
+/// Writes of how many clients the server keeps the last request: of none before it has read.
+#[unsafe(no_mangle)]
+pub extern "C" fn durkenzo_server_clients(server: &mut ServerHandle, clients: &mut usize) -> u32
+    ensures told { result ≡ 0 → KeepsServer (λ server. clients.new ≡ clients_kept server.core.ready)
+        server.old.owned.state }
+    ensures refused { result ≢ 0 → (result ≡ WRONG_HANDLE) × (server.old.owned.state ≡ None) }
+    ensures unchanged { server.new.owned.state ≡ server.old.owned.state }
+{
+    if !server.full {
+        return WRONG_HANDLE;
+    }
+    *clients = server.owned.state_mut().core.clients();
+    0
 }
 
 /// Lets go the server that the handle keeps.

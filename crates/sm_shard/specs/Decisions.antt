@@ -65,6 +65,11 @@ is_crowded limits replica item =
     is_none (get nat_cmp replica.lasts item.client)
     && nat_le limits.clients (length (kept_from item.forgets replica.lasts.entries))
 
+-- of how many clients a server keeps the last request: of none before it has read
+abbrev pub clients_kept : {M Q R : Type 0} → Option (ShardState M Q R) → ℕ
+clients_kept None = 0
+clients_kept (Some ready) = length ready.replica.lasts.entries
+
 -- what is decided of one that is new here, where so many wait, and where there may be no more clients
 abbrev pub decided_by_room : {R : Type 0} → ShardLimits → ℕ → ℕ → Bool → Decision R
 decided_by_room limits bytes waiting crowded =

@@ -81,7 +81,7 @@ impl<Q: Drop, R: Copy + Drop, M: StoreMachine<Q, R>> ShardServer<M, Q, R> {
     ghost use Rattle.sm_store.specs.Deeds.{AreRight, Charter, Clearing, MaySend, WasFound, transaction_of};
     ghost use Rattle.sm_store.specs.System.{Ask, MayClaim};
     ghost use Rattle.sm_shard.specs.Decisions.{server_begins, server_behind, server_decision, server_read_decision};
-    ghost use Rattle.sm_shard.specs.Decisions.{server_sends};
+    ghost use Rattle.sm_shard.specs.Decisions.{clients_kept, server_sends};
     ghost use Rattle.sm_shard.specs.declared.shard_state.Decision.TheVariants.{TooManyClients};
     ghost use Rattle.sm_shard.specs.Replicas.{read_of, replies_of};
     ghost use Rattle.sm_shard.specs.ShardServers.{AreAsked, DidHold, IsAsked, IsTrueOf, StoreLog};
@@ -402,6 +402,16 @@ impl<Q: Drop, R: Copy + Drop, M: StoreMachine<Q, R>> ShardServer<M, Q, R> {
         match &self.ready {
             Some(ready) => is_behind(self.shard, &ready.head, key),
             None => false,
+        }
+    }
+
+    /// Of how many clients the last request is kept: of none before the shard was read.
+    pub fn clients(&self) -> usize
+        ensures { result ≡ clients_kept self.now.ready }
+    {
+        match &self.ready {
+            Some(ready) => ready.replica.lasts.len(),
+            None => 0,
         }
     }
 

@@ -68,6 +68,11 @@ impl Core {
         Ok(self.server.is_behind(passing)?)
     }
 
+    /// Of how many clients the last request is kept.
+    pub(crate) fn clients(&mut self) -> Result<usize, CoreFault> {
+        Ok(self.server.clients()?)
+    }
+
     /// Adds the next batch that was read.
     pub(crate) fn add_batch(&mut self, bytes: &[u8]) -> Result<(), CoreFault> {
         self.keys.add_batch(bytes)?;

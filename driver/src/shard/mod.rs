@@ -178,6 +178,16 @@ impl Shard {
         &self.standing
     }
 
+    /// Of how many clients the last request is kept by the server here that keeps most.
+    pub(crate) fn clients(&mut self) -> usize {
+        let cores = self.seats.values_mut().filter_map(|seat| match seat {
+            Seat::Unread(_) | Seat::Reading(_) => None,
+            Seat::Ready(core, _) | Seat::Sent(core, _, _, _) => Some(core),
+        });
+        // One that can't tell is closed at its next step.
+        cores.filter_map(|it| it.clients().ok()).max().unwrap_or(0)
+    }
+
     /// Takes steps of one client, in their order.
     pub(crate) fn take(&mut self, steps: Vec<Step>, now: Instant, deeds: &mut Vec<Deed>) {
         self.take_run(steps, None, (Revision::NEVER, now), now, deeds);

@@ -46,6 +46,8 @@ const AGAIN: &str = "Works that came back and went on here";
 const UNASKED: &str = "Works for which a process couldn't be asked";
 const KEPT: &str =
     "Processes whose last requests shards may keep: there is room for 16 whose rounds were full";
+const CLIENTS: &str =
+    "Clients whose last request is kept, at the shard that keeps most: 131072 are a full one";
 /// What there is where servers have a process each: its name, what it is, and where it stands.
 const OF_PROCESSES: [OfProcesses; 11] = [
     ("works_sent_total", SENT, |it| it.counts().sent()),
@@ -89,6 +91,10 @@ pub(super) fn text(cluster: &Cluster, snapshot: &Snapshot) -> prometheus::Result
     servers(&registry, cluster, snapshot)?;
     by_name(&registry, cluster)?;
     shards(&registry, snapshot)?;
+    if let Some(durable) = cluster.storage.durable() {
+        let kept = Family::new(&registry, "clients_kept", CLIENTS, &[])?;
+        kept.set(&[], durable.clients_kept() as u64);
+    }
     if let Some(peers) = cluster.storage.peers() {
         processes(&registry, peers)?;
     }

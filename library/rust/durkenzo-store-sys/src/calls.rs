@@ -153,6 +153,7 @@ extern "C" {
         place: u64,
         behind: *mut bool,
     ) -> u32;
+    pub fn durkenzo_server_clients(server: *mut Handle, clients: *mut usize) -> u32;
     pub fn durkenzo_server_close(server: *mut Handle);
 }
 

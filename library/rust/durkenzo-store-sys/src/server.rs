@@ -351,6 +351,13 @@ impl Server {
         Ok(behind)
     }
 
+    /// Of how many clients the last request is kept: of none before the shard was read.
+    pub fn clients(&mut self) -> Result<usize, Code> {
+        let mut clients = 0;
+        Code::judged(unsafe { calls::durkenzo_server_clients(&mut self.handle, &mut clients) })?;
+        Ok(clients)
+    }
+
     fn have_room(&mut self, bytes: usize) {
         if self.room.len() < bytes {
             self.room.resize(bytes, 0);
