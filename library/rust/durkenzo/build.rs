@@ -1,8 +1,8 @@
 //! Links the library of boards, and says so if it wasn't proved.
-mod linking;
+mod static_libraries;
 
 fn main() {
-    if !linking::link(&["sm_c"]) {
+    if !static_libraries::link(&["sm_c"]) {
         println!("cargo:rustc-env=DURKENZO_UNPROVED=1");
     }
 }

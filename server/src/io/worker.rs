@@ -1,8 +1,8 @@
 use super::arrived::Arrived;
 use super::busy_poll::BusyPoll;
 use super::connection::{Connection, Turn};
+use super::half_closed::HalfClosed;
 use super::inlet::{Brought, Inlet, WAKE};
-use super::leaving::Leaving;
 use super::reply_to::ReplyTo;
 use super::strangers::Whereabouts;
 use super::stream::Stream;
@@ -51,7 +51,7 @@ pub struct Worker {
     is_racing: bool,
     changes: u64,
     /// Connections that wait, and whose clients may have left.
-    leaving: Leaving,
+    half_closed: HalfClosed,
     busy_poll: BusyPoll,
     /// When connections were looked through for those who took too long.
     swept: Instant,
@@ -68,7 +68,7 @@ impl Worker {
         control: SyncSender<Asked>,
     ) -> Worker {
         let busy_poll = BusyPoll::new(cluster.configuration.busy_poll);
-        let leaving = Leaving::new(cluster.inlets().len());
+        let half_closed = HalfClosed::new(cluster.inlets().len());
         Worker {
             cluster,
             inlet,
@@ -81,7 +81,7 @@ impl Worker {
             put_off: BinaryHeap::new(),
             is_racing: false,
             changes: 0,
-            leaving,
+            half_closed,
             busy_poll,
             swept: Instant::now(),
             buffer: vec![0; ROOM].into(),
@@ -101,7 +101,7 @@ impl Worker {
             }
             self.refresh()?;
             self.close_strangers();
-            self.close_leaving();
+            self.close_half_closed();
             self.look_at_put_off();
             self.look_at_waiting();
             self.run_queue();
@@ -140,7 +140,7 @@ impl Worker {
     fn timeout(&self) -> Option<Duration> {
         let sweep = (self.inlet.strangers() > 0).then_some(SWEEP);
         let put_off = self.put_off.peek().map(|it| it.0 .0);
-        let next = put_off.into_iter().chain(self.leaving.next_end()).min();
+        let next = put_off.into_iter().chain(self.half_closed.next_end()).min();
         let next = next.map(|it| it.saturating_duration_since(Instant::now()));
         sweep.into_iter().chain(next).min()
     }
@@ -184,12 +184,12 @@ impl Worker {
         let connection = &self.connections[place];
         let (id, may_have_left) = (connection.session.id, connection.may_have_left());
         let is_there = !connection.has_left();
-        is_there && (!may_have_left || self.leaving.begin(id, place, Instant::now()))
+        is_there && (!may_have_left || self.half_closed.begin(id, place, Instant::now()))
     }
 
     /// Closes the connections that have waited for too long behind clients that may have left.
-    fn close_leaving(&mut self) {
-        for place in self.leaving.due(Instant::now()) {
+    fn close_half_closed(&mut self) {
+        for place in self.half_closed.due(Instant::now()) {
             self.close(place);
         }
     }
@@ -218,7 +218,7 @@ impl Worker {
             let connection = self.connections.get_mut(answer.place);
             if let Some(connection) = connection.filter(|it| it.session.id == answer.id) {
                 let took = connection.take_answer(answer.bytes);
-                self.leaving.end(answer.id);
+                self.half_closed.end(answer.id);
                 if answer.commands > 0 {
                     let stats = self.inlet.stats();
                     stats.commands.add(answer.commands);
@@ -415,7 +415,7 @@ impl Worker {
         connection.is_queued = false;
         let id = connection.session.id;
         if connection.may_have_left() {
-            self.leaving.end(id);
+            self.half_closed.end(id);
         }
         let stats = self.inlet.stats();
         let (done, since) = (stats.commands.get(), connection.waits_since());
@@ -480,7 +480,7 @@ impl Worker {
 
     fn close(&mut self, place: usize) {
         let mut connection = self.connections.remove(place);
-        self.leaving.end(connection.session.id);
+        self.half_closed.end(connection.session.id);
         if connection.stranger_since().is_some() {
             self.inlet.note_stranger_less(connection.session.id);
         }

@@ -9,16 +9,16 @@ const WAIT: Duration = Duration::from_secs(1);
 /// A thread's connections that wait for an answer and whose clients send no more. A client may still read then, or have
 /// left: until something is sent to it the system doesn't tell which. So they wait for a short time, and are few.
 #[derive(Debug)]
-pub(super) struct Leaving {
+pub(super) struct HalfClosed {
     most: usize,
     /// Until when each waits, and its place, by its number.
     waiting: HashMap<u64, (Instant, usize)>,
 }
 
-impl Leaving {
+impl HalfClosed {
     /// Those of one of so many threads.
-    pub(super) fn new(threads: usize) -> Leaving {
-        Leaving {
+    pub(super) fn new(threads: usize) -> HalfClosed {
+        HalfClosed {
             most: (MOST / threads.max(1)).max(1),
             waiting: HashMap::new(),
         }
@@ -56,12 +56,12 @@ mod tests {
 
     #[test]
     fn few_wait_and_not_for_long() {
-        let (mut leaving, now) = (Leaving::new(MOST / 2), Instant::now());
-        assert!(leaving.begin(7, 1, now) && leaving.begin(8, 2, now));
-        assert!(!leaving.begin(9, 3, now) && leaving.begin(8, 2, now + WAIT));
-        assert!(leaving.due(now).is_empty() && leaving.next_end() == Some(now + WAIT));
-        leaving.end(7);
-        assert!(leaving.begin(9, 3, now + WAIT));
-        assert_eq!(leaving.due(now + WAIT), [2]);
+        let (mut half_closed, now) = (HalfClosed::new(MOST / 2), Instant::now());
+        assert!(half_closed.begin(7, 1, now) && half_closed.begin(8, 2, now));
+        assert!(!half_closed.begin(9, 3, now) && half_closed.begin(8, 2, now + WAIT));
+        assert!(half_closed.due(now).is_empty() && half_closed.next_end() == Some(now + WAIT));
+        half_closed.end(7);
+        assert!(half_closed.begin(9, 3, now + WAIT));
+        assert_eq!(half_closed.due(now + WAIT), [2]);
     }
 }
