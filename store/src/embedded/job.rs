@@ -34,7 +34,18 @@ impl Job {
     pub(super) fn bytes(&self) -> usize {
         match self {
             Job::Make(transaction, _) => transaction.bytes(),
-            _ => 0,
+            Job::Read(..)
+            | Job::ReadAll(..)
+            | Job::ReadRange(..)
+            | Job::ReadKeys(..)
+            | Job::Watch(..)
+            | Job::Unwatch(_)
+            | Job::Grant(..)
+            | Job::Keep(..)
+            | Job::Revoke(..)
+            | Job::Compact(_)
+            | Job::Left(_)
+            | Job::End => 0,
         }
     }
 }
