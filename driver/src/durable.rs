@@ -517,7 +517,17 @@ impl Inner {
         let is_full = match outcome {
             Ok(Outcome::Made(_)) => false,
             Err(WriteError::Full(_)) => self.keeps_room,
-            _ => return,
+            Ok(Outcome::Lost(_)) => return,
+            Err(
+                WriteError::Unknown(_)
+                | WriteError::Unreachable(_)
+                | WriteError::Unavailable(_)
+                | WriteError::TooLarge(_)
+                | WriteError::LeaseEnded
+                | WriteError::Damaged(_)
+                | WriteError::Denied(_)
+                | WriteError::Stopped,
+            ) => return,
         };
         let was_full = self.is_full.swap(is_full, Ordering::AcqRel);
         if is_full && !was_full {
