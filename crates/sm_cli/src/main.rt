@@ -3,8 +3,8 @@
 
 ghost use Rattle.std.specs.Prelude.{◌≡◌, OnOk, Ok};
 ghost use Rattle.std.specs.Io.KnownBytes.{IsAtEnd};
+ghost use Rattle.sm_lines.specs.Runs.{RanScript};
 ghost use Rattle.sm_model.specs.Runs.{WroteScript};
-ghost use Rattle.sm_run.specs.Runs.{RanScript};
 ghost use Rattle.sm_threads.specs.Runs.{WritesAnswers};
 
 mod counts_table;
@@ -16,9 +16,8 @@ use clap::error::ErrorKind;
 use clap::{Arg, ArgAction, ArgMatches, Command};
 use sm_cluster::Open;
 use sm_explain::{Beginning, Console, Explained};
-use sm_lines::Dialogue;
+use sm_lines::{Dialogue, RunFault, Status, run};
 use sm_model::{ModelEngine, run_model};
-use sm_run::{RunFault, Status, run};
 use sm_threads::{run_threads, run_threads_explained};
 use std::alloc::Global;
 use std::io::{Read, Write};

@@ -1,6 +1,6 @@
 use crate::explained_session::ExplainedSession;
 use crate::listener::Listener;
-use sm_run::{BeginFault, Engine};
+use sm_lines::{BeginFault, Engine};
 use std::alloc::Global;
 use std::marker::Model;
 

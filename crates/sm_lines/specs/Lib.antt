@@ -3,4 +3,8 @@ pub mod Reading
 pub mod Writing
 pub mod Transcripts
 pub mod Answers
+pub mod Faults
+pub mod Openings
+pub mod Runs
+pub mod Watching
 pub mod lemmas

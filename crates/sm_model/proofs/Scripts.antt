@@ -2,11 +2,11 @@
 use Rattle.std.proofs.Common.{◌≡◌, true, false, ◌++◌, ◌∷◌, [], ℕ, List, drop, ap, sym, ◌∙◌, subst, inl, inr, Option}
 use Rattle.std.proofs.Common.{Some, None, Result, Ok, Err, IsErr, IsOk, OnOk, refl, append-nil}
 use Rattle.std.proofs.lemmas.Bool.{false≢true}
-use Rattle.sm_run.specs.declared.run_fault.RunFault.{RunFault}
-use Rattle.sm_run.specs.declared.begin_fault.BeginFault.TheVariants as begin
+use Rattle.sm_lines.specs.declared.run_fault.RunFault.{RunFault}
+use Rattle.sm_lines.specs.declared.begin_fault.BeginFault.TheVariants as begin
 use Rattle.sm_settings.specs.declared.settings_fault.SettingsFault.{SettingsFault}
-use Rattle.sm_run.specs.declared.status.Status.{Status}
-use Rattle.sm_run.specs.declared.status.Status.TheVariants.{Ran, BadSettings}
+use Rattle.sm_lines.specs.declared.status.Status.{Status}
+use Rattle.sm_lines.specs.declared.status.Status.TheVariants.{Ran, BadSettings}
 use Rattle.std.specs.Option.{option_map}
 use Rattle.std.specs.Prelude.{unwrap_or}
 use Rattle.sm_lines.specs.Answers.{AnswersLine, AnswersAll}
@@ -31,9 +31,9 @@ use Rattle.sm_session.specs.lemmas.Lengths.{responds_any}
 use Rattle.sm_session.specs.Responses.{Responds, RespondsTo, answer_line}
 use Rattle.sm_model.specs.Sessions.{GivesAnswer, IsAt, IsNew}
 use Rattle.sm_model.specs.Runs.{AcceptsSettings, WritesScript, WroteScript, RefusesSettings}
-use Rattle.sm_run.specs.Openings.{BeginsLine, HasNone, IfKnown, IsRefused, RefusedScript, RefusesLine, RefusesRead}
-use Rattle.sm_run.specs.Openings.{settings_in}
-use Rattle.sm_run.specs.Runs.{RanScript, Unbegun, WritesFor}
+use Rattle.sm_lines.specs.Openings.{BeginsLine, HasNone, IfKnown, IsRefused, RefusedScript, RefusesLine, RefusesRead}
+use Rattle.sm_lines.specs.Openings.{settings_in}
+use Rattle.sm_lines.specs.Runs.{RanScript, Unbegun, WritesFor}
 use Rattle.sm_model.specs.Script.{line_response, responded, responses, script, script_with}
 
 -- what a session of the model gives to a line, within the limit or beyond it

@@ -5,7 +5,7 @@ use Rattle.sm_lines.specs.Reading.{to_come}
 use Rattle.sm_lines.specs.Transcripts.{Transcript}
 use Rattle.sm_lines.specs.Writing.{Wrote}
 use Rattle.sm_model.specs.Script.{script, script_before}
-use Rattle.sm_run.specs.Openings.{IfKnown, settings_in}
+use Rattle.sm_lines.specs.Openings.{IfKnown, settings_in}
 
 -- what was written is the script of the input
 abbrev pub WroteScript : Transcript → Transcript → Type 0

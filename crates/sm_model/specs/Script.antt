@@ -7,7 +7,7 @@ use Rattle.sm_script.specs.declared.line_answer.LineAnswer.TheVariants.{Error}
 use Rattle.sm_script.specs.declared.call.Call.{Call}
 use Rattle.sm_script.specs.declared.fault.LineFault.{LineFault}
 use Rattle.sm_service.specs.declared.request.Request.{Request}
-use Rattle.sm_run.specs.Openings.{settings_in, settings_line}
+use Rattle.sm_lines.specs.Openings.{settings_in, settings_line}
 use Rattle.sm_session.specs.Responses.{answer_line}
 use Rattle.sm_settings.specs.SettingsLine.{SettingsValues, settings_of}
 use Rattle.sm_settings.specs.declared.settings_fault.SettingsFault.{SettingsFault}

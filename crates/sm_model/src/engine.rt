@@ -1,12 +1,11 @@
 ghost use Rattle.std.specs.Prelude.{◌≡◌, ◌≢◌, OnOk, Ok, Err};
-ghost use Rattle.sm_run.specs.Runs.{StoppedEarly};
-ghost use Rattle.sm_run.specs.Watching.{KeepsWatch};
-ghost use Rattle.sm_run.specs.Openings.{HasNone, RefusesLine};
+ghost use Rattle.sm_lines.specs.Runs.{StoppedEarly};
+ghost use Rattle.sm_lines.specs.Watching.{KeepsWatch};
+ghost use Rattle.sm_lines.specs.Openings.{HasNone, RefusesLine};
 ghost use Rattle.sm_model.specs.Runs.{AcceptsSettings, RefusesSettings, WritesScript, WroteScript};
 
 use crate::world_backend::WorldBackend;
-use sm_lines::Dialogue;
-use sm_run::{BeginFault, Engine, RunFault, Status, read_settings, run};
+use sm_lines::{BeginFault, Dialogue, Engine, RunFault, Status, read_settings, run};
 use sm_session::Session;
 use std::alloc::Global;
 use std::io::{Read, Write};
@@ -26,7 +25,7 @@ impl ModelEngine {
 
 impl Engine for ModelEngine {
     ghost use Rattle.sm_script.specs.declared.line.TheConstants.{MAX_LINE as LINE_LIMIT};
-    ghost use Rattle.sm_run.specs.Openings.{BeginsLine, HasNone, RefusesLine};
+    ghost use Rattle.sm_lines.specs.Openings.{BeginsLine, HasNone, RefusesLine};
     ghost use Rattle.sm_model.specs.Sessions.{IsNew};
 
     type Session = Session<WorldBackend>;

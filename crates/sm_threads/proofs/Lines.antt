@@ -1,8 +1,8 @@
 -- Each line of a script has the response of its call, whatever its length.
 use Rattle.sm_lines.specs.Answers.{AnswersLine}
-use Rattle.sm_run.specs.Openings.{BeginsLine}
-use Rattle.sm_run.specs.Runs.{WritesFor}
-use Rattle.sm_run.specs.lemmas.Rewording.{Rewords, answers_as}
+use Rattle.sm_lines.specs.Openings.{BeginsLine}
+use Rattle.sm_lines.specs.Runs.{WritesFor}
+use Rattle.sm_lines.specs.lemmas.Rewording.{Rewords, answers_as}
 use Rattle.sm_script.specs.declared.line.TheConstants.{MAX_LINE}
 use Rattle.sm_session.specs.LongLines.{RespondsLong}
 use Rattle.sm_session.specs.Responses.{Responds}

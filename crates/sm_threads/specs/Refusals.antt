@@ -11,8 +11,8 @@ use Rattle.sm_cluster.specs.declared.start_fault.StartFault.{StartFault}
 use Rattle.sm_cluster.specs.declared.start_fault.StartFault.TheVariants as start
 use Rattle.sm_ownership.specs.declared.route_fault.RouteFault.{RouteFault}
 use Rattle.sm_ownership.specs.declared.route_fault.RouteFault.TheVariants as route
-use Rattle.sm_run.specs.declared.begin_fault.BeginFault.{BeginFault}
-use Rattle.sm_run.specs.declared.begin_fault.BeginFault.TheVariants as begin
+use Rattle.sm_lines.specs.declared.begin_fault.BeginFault.{BeginFault}
+use Rattle.sm_lines.specs.declared.begin_fault.BeginFault.TheVariants as begin
 use Rattle.sm_script.specs.declared.refused.Refused.{Refused}
 use Rattle.sm_script.specs.declared.refused.Refused.TheVariants as refused
 use Rattle.sm_settings.specs.declared.settings_fault.SettingsFault.TheVariants.{TooManyWorkers}

@@ -1,7 +1,7 @@
 -- What a run on a cluster has written.
 use Rattle.std.specs.Prelude.{ℕ, List}
-use Rattle.sm_run.specs.Openings.{BeginsLine}
-use Rattle.sm_run.specs.Runs.{WritesFor}
+use Rattle.sm_lines.specs.Openings.{BeginsLine}
+use Rattle.sm_lines.specs.Runs.{WritesFor}
 use Rattle.sm_session.specs.Responses.{Responds}
 use Rattle.sm_threads.specs.Calls.{Answers}
 use Rattle.sm_threads.specs.Sessions.{IsBegun}

@@ -4,8 +4,8 @@ use Rattle.sm_cluster.specs.Calls.{ClientValue}
 use Rattle.sm_cluster.specs.Clusters.{ClusterValue, IsClientOf, KnowsAll}
 use Rattle.sm_cluster.specs.declared.TheConstants.{MAX_WORKERS}
 use Rattle.sm_session.specs.Beginning.{settings_desk}
-use Rattle.sm_run.specs.declared.begin_fault.BeginFault.{BeginFault}
-use Rattle.sm_run.specs.declared.begin_fault.BeginFault.TheVariants as begin
+use Rattle.sm_lines.specs.declared.begin_fault.BeginFault.{BeginFault}
+use Rattle.sm_lines.specs.declared.begin_fault.BeginFault.TheVariants as begin
 use Rattle.sm_service.specs.declared.request.Request.{Request}
 use Rattle.sm_settings.specs.SettingsLine.{SettingsValues}
 use Rattle.sm_settings.specs.declared.settings_fault.SettingsFault.TheVariants.{TooManyWorkers}

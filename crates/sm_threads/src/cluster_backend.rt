@@ -9,7 +9,7 @@ ghost use Rattle.sm_threads.specs.Sessions.{IsBegun, IsNewClientOf, MayRefuse};
 use crate::counts_listener::CountsListener;
 use crate::refusals::begin_fault;
 use sm_cluster::{Client, Cluster, Gate, Setup};
-use sm_run::BeginFault;
+use sm_lines::BeginFault;
 use sm_service::CounterText;
 use sm_session::beginning::{desk_of, empty_bodies};
 use sm_settings::settings::Settings;

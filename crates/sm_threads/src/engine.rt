@@ -1,7 +1,7 @@
 use crate::cluster_backend::ClusterBackend;
 use crate::counts_listener::CountsListener;
 use sm_cluster::Counts;
-use sm_run::{BeginFault, Engine, read_settings};
+use sm_lines::{BeginFault, Engine, read_settings};
 use sm_session::Session;
 use sm_settings::settings::Settings;
 use std::alloc::Global;
@@ -47,7 +47,7 @@ impl<
     ghost use Rattle.sm_script.specs.declared.line.TheConstants.{MAX_LINE as LINE_LIMIT};
     ghost use Rattle.sm_settings.specs.SettingsLine.{values_of};
     ghost use Rattle.sm_settings.specs.SettingsRules.{KeepsRules};
-    ghost use Rattle.sm_run.specs.Openings.{BeginsLine, RefusesLine};
+    ghost use Rattle.sm_lines.specs.Openings.{BeginsLine, RefusesLine};
     ghost use Rattle.sm_threads.specs.Beginning.{BeginsSessions};
     ghost use Rattle.sm_threads.specs.Sessions.{IsBegun, MayRefuse};
 

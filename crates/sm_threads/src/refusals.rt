@@ -8,9 +8,9 @@ ghost use Rattle.sm_threads.specs.Refusals.{hold_refused, publish_refused};
 
 use sm_cluster::{AdmitRefusal, CallFault, HoldFault, Refusal, StartFault};
 use sm_desk::CommandFault;
+use sm_lines::BeginFault;
 use sm_ownership::route::Route;
 use sm_ownership::route_fault::RouteFault;
-use sm_run::BeginFault;
 use sm_script::{LineAnswer, Refused};
 use sm_settings::SettingsFault;
 use std::alloc::AllocError;

@@ -1,9 +1,8 @@
 //! Faults of lines, settings, runs and scripts. A script's `fault NAME` and `error NAME` are such texts.
 use crate::texts::assert_texts;
 use sm_desk::CommandFault;
-use sm_lines::{AnswerFault, ReadFault, WriteFault};
+use sm_lines::{AnswerFault, BeginFault, ReadFault, RunFault, WriteFault};
 use sm_ownership::AdmitFault;
-use sm_run::{BeginFault, RunFault};
 use sm_script::{LineFault, ParseFault, Refused};
 use sm_settings::SettingsFault;
 

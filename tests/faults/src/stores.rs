@@ -13,7 +13,6 @@ fn faults_of_bytes_have_texts(rt: HostRuntime) {
         (Fault::Server, "a server's number isn't 1 to 4,095"),
         (Fault::Word, "no record has the word"),
         (Fault::State, "no state of a server has the number"),
-        (Fault::Address, "a server's address is too long"),
         (Fault::Trailing, "bytes stand after the last field"),
     ];
     assert_texts(&rt, rt.alloc(), &bytes);

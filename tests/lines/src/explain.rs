@@ -3,8 +3,7 @@
 // It answers each line by itself, so that a line may say what it is answered.
 use crate::run::{EchoEngine as Repeating, script_of};
 use sm_explain::{Beginning, Console, Explained, Listener, Sentence};
-use sm_lines::Dialogue;
-use sm_run::{Status, run};
+use sm_lines::{Dialogue, Status, run};
 use std::alloc::Global;
 use std::cell::Cell;
 use std::io::Write;

@@ -6,8 +6,7 @@ use crate::settings::PLAIN;
 use crate::stops::{
     Runs, is_written, is_written_in_two, wrong_stop_of_reader, wrong_stop_of_writer,
 };
-use sm_lines::{Dialogue, Watched};
-use sm_run::{BeginFault, Engine, RunFault, Status, read_settings, run};
+use sm_lines::{BeginFault, Dialogue, Engine, RunFault, Status, Watched, read_settings, run};
 use sm_settings::MAX_SETTINGS;
 use std::alloc::{AllocError, Global};
 use std::io::{Read, Write};

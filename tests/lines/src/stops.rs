@@ -1,7 +1,7 @@
 //! Runs of scripts that end, and runs that stop early.
 
 use crate::fakes::{FailingReader, FailingWriter};
-use sm_run::{RunFault, Status};
+use sm_lines::{RunFault, Status};
 use std::alloc::Global;
 use std::io::{Read, Write};
 

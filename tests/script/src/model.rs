@@ -1,8 +1,7 @@
 //! Whole scripts on the model, in memory.
 
-use sm_lines::Dialogue;
+use sm_lines::{Dialogue, RunFault, Status};
 use sm_model::run_model;
-use sm_run::{RunFault, Status};
 use std::alloc::{AllocError, Global};
 use std::io::{Read, Write};
 use std::process::Abort;

@@ -2,10 +2,9 @@
 
 use sm_cluster::{Counts, Open};
 use sm_explain::{Listener, Sentence};
-use sm_lines::Dialogue;
+use sm_lines::{Dialogue, RunFault, Status};
 use sm_load::Counting;
 use sm_ranges::Key;
-use sm_run::{RunFault, Status};
 use sm_threads::{CountsListener, KeyCount, run_threads_explained};
 use std::alloc::Global;
 use std::io::{Read, Write};

@@ -2,8 +2,7 @@
 
 use crate::gate::Counting;
 use sm_cluster::Open;
-use sm_lines::Dialogue;
-use sm_run::Status;
+use sm_lines::{Dialogue, Status};
 use sm_threads::run_threads;
 use std::alloc::Global;
 use std::test::Fail;

@@ -1,5 +1,5 @@
 use Rattle.sm_model.proofs.Scripts.{accepted_settings, begins_alone, refused_settings, writes_script, wrote_script}
-use Rattle.sm_run.specs.lemmas.Rewording.{early_as}
+use Rattle.sm_lines.specs.lemmas.Rewording.{early_as}
 use Rattle.sm_model.proofs.engine.run_model.Goals as goal
 
 pub returns-clause-wrote : goal.returns-clause-wrote

@@ -1,4 +1,4 @@
-use Rattle.sm_run.specs.lemmas.Rewording.{early_as, ran_as}
+use Rattle.sm_lines.specs.lemmas.Rewording.{early_as, ran_as}
 use Rattle.sm_threads.proofs.Lines.{writes_answers}
 use Rattle.sm_threads.proofs.running.run_threads.Goals as goal
 

@@ -1,4 +1,0 @@
-pub mod Openings
-pub mod Stops
-pub mod Watches
-pub mod Refusals

@@ -1,2 +1,0 @@
--- Lemmas that the proofs of crates above cite.
-pub mod Rewording
