@@ -1,6 +1,13 @@
+mod Asked
+mod Batches
+mod Failures
 mod Histories
 mod HistoryRequests
+mod Linear
 mod Once
+mod Orders
 mod Right
 mod Runs
 mod Settings
+mod Told
+mod Woven

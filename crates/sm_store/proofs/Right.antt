@@ -3,15 +3,18 @@ use Rattle.std.proofs.Common.{◌≡◌, ℕ, ◌≤◌, true, List, [], ◌∷�
 use Rattle.std.proofs.Common.{append-nil, inl, inr}
 use Rattle.std.specs.Prelude.{IsTrue, None, slice_get}
 use Rattle.sm_ownership.specs.declared.record.Record.{Record}
+use Rattle.sm_place.specs.declared.server_state.ServerState.{ServerState}
+use Rattle.sm_place.specs.declared.server_state.ServerState.TheVariants.{Failed}
 use Rattle.sm_store.specs.declared.head.Head.{Head}
 use Rattle.sm_store.specs.declared.item.Item.{Item}
 use Rattle.sm_store.specs.declared.store_key.PassingKey.{PassingKey}
 use Rattle.sm_store.specs.declared.store_key.PassingKey.TheVariants.{Leader, Server, Batch, Part, Other}
 use Rattle.sm_store.specs.Store.{Transaction, all_hold, head_key, head_of, leader_key, leader_of, made, part_at}
 use Rattle.sm_store.specs.Store.{Placement, placement_key, placement_of, record_key, revision_of, settings_key}
-use Rattle.sm_store.specs.Store.{stored_settings, stored_record}
+use Rattle.sm_store.specs.Store.{server_key, stored_settings, stored_record}
 use Rattle.sm_store.specs.Deeds.{Charter, Deed, Electing, Expiring, Changing, Executing, Basing, Naming, Clearing}
 use Rattle.sm_store.specs.Deeds.{Following, Restarting, Settling, Checking, Foreign, transaction_of, at, AreAccepted}
+use Rattle.sm_store.specs.Deeds.{absence_compares}
 use Rattle.sm_store.specs.Deeds.{IsChanged, ShardLog}
 use Rattle.sm_store.specs.Deeds.{shard_log, WasFound, MayDo, MayName, MayClear, IsHonest, IsBehind, IsRight}
 use Rattle.sm_store.specs.Deeds.{HasLed, IsRightBase, AreRight}
@@ -84,6 +87,10 @@ module _ {Q P : Type 0} (charter : Charter Q P) where
       ∙ unwritten stored_settings settings_key settings_view log [] (inl refl)
       (ap (revision_of settings_key) (append-nil log) ∙ now)
 
+  absent_then : (log : List (Transaction Q P)) (server : ℕ)
+      → all_hold log (absence_compares server Failed) ≡ true → revision_of (server_key server) log ≡ 0
+  absent_then log server held = (first_held log (server_key server) 0 [] held).0
+
   right_one : (log : List (Transaction Q P)) (deed : Deed Q P) → AreRight charter log
       → all_hold log (transaction_of deed).compares ≡ true → MayDo charter log deed → IsRight charter log deed
   right_one log (Electing process) right held may = tt
@@ -129,12 +136,15 @@ module _ {Q P : Type 0} (charter : Charter Q P) where
       (stands (head_of shard) (head_key shard) (head_view shard) log head logged (inl refl) may.head_was first.0) may
   right_one log (Clearing key) right held may = clear_right log key right may
   right_one log (Restarting process server state elected placed) right held may =
-      let first = first_held log leader_key elected (at placement_key placed ∷ []) held in
-      let second = first_held log placement_key placed [] first.1 in
+      let absences = absence_compares server state in
+      let first = first_held log leader_key elected (at placement_key placed ∷ absences) held in
+      let second = first_held log placement_key placed absences first.1 in
       let now = placement_stands log may.read placed right may.placement_was second.0 in
       record {
         leads = leads_still log process elected may.led first.0;
         allowed = subst (λ (p : Placement). IsTrue (charter.allows_state p server state)) (sym now) may.allowed;
+        absent = λ is. absent_then log server (subst (λ (s : ServerState).
+            all_hold log (absence_compares server s) ≡ true) is second.1);
       }
   right_one log (Settling settings) right held may =
       never_settled log (first_held log settings_key 0 [] held).0

@@ -144,6 +144,7 @@ module _ {Q P R S : Type 0} (service : Automaton S Q R) (charter : Charter Q P) 
       record {
         ask = may.ask;
         was_asked = may.was_asked;
+        only_reads = may.only_reads;
         later = did.later;
         past = may.held.moment;
         is = did.is;

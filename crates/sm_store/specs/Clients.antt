@@ -1,16 +1,22 @@
--- A shard's requests by client: which number comes next, and what each is answered.
-use Rattle.std.specs.Prelude.{ℕ, Bool, Option, Some, None, ◌==◌, ◌&&◌, ◌<◌, ◌≤◌, ◌⊎◌, ◌+◌, List, [], ◌∷◌, ◌++◌}
-use Rattle.std.specs.Prelude.{if◌then◌else◌}
+-- A service, and a shard's requests by client: which number comes next, and what each is answered.
+use Rattle.std.specs.Prelude.{ℕ, Bool, IsTrue, Option, Some, None, ◌≡◌, ◌==◌, ◌&&◌, ◌<◌, ◌≤◌, ◌⊎◌, ◌+◌, List, []}
+use Rattle.std.specs.Prelude.{◌∷◌, ◌++◌, if◌then◌else◌}
 use Rattle.std.specs.Prelude.{max}
 use Rattle.sm_store.specs.declared.item.Item.{Item}
 
--- a service: the state that it starts from, the state after a request, the reply to it, and the bytes that stand for a
--- state
+-- a service: the state that it starts from, the state after a request, the reply to it, which requests only read, and
+-- the bytes that stand for a state
 pub record Automaton (S Q R : Type 0) : Type 0 where
   pub start : S
   pub after : S → Q → S
   pub reply : S → Q → R
+  pub reads : Q → Bool
   pub spelled : S → List ℕ
+
+-- a request that only reads leaves each state as it is
+abbrev pub ReadsLeave : {S Q R : Type 0} → Automaton S Q R → Type 0
+ReadsLeave {S = S} {Q = Q} service =
+    (state : S) (request : Q) → IsTrue (service.reads request) → service.after state request ≡ state
 
 -- the greatest number of a client's requests among these, 0 where it has none
 abbrev pub last_of : {Q : Type 0} → ℕ → List (Item Q) → ℕ

@@ -9,6 +9,7 @@ use Rattle.sm_ownership.specs.declared.record.Record.{Record}
 use Rattle.sm_ownership.specs.History.{after_change, change_fits}
 use Rattle.sm_ownership.specs.Rules.{accepts}
 use Rattle.sm_place.specs.declared.server_state.ServerState.{ServerState}
+use Rattle.sm_place.specs.declared.server_state.ServerState.TheVariants.{Failed}
 use Rattle.sm_store.specs.declared.compare.Compare.{Compare}
 use Rattle.sm_store.specs.declared.head.Head.{Head}
 use Rattle.sm_store.specs.declared.item.Item.{Item}
@@ -19,7 +20,7 @@ use Rattle.sm_store.specs.Clients.{AreNext}
 use Rattle.sm_store.specs.Store.{Transaction, Leads, Stands, Heads, Executes, Bases, Follows, Deletes, Elsewhere}
 use Rattle.sm_store.specs.Store.{Enters, Commands, Settles, Placement, leader_key, record_key, head_key, part_key}
 use Rattle.sm_store.specs.Store.{placement_key, settings_key, revision_of, all_hold, leader_of, stored_record}
-use Rattle.sm_store.specs.Store.{placement_of, stored_settings, head_of, part_at, made, made_until}
+use Rattle.sm_store.specs.Store.{placement_of, server_key, stored_settings, head_of, part_at, made, made_until}
 
 -- what all processes go by: how many shards there are, the greatest generation of a record, which changes and states
 -- the control allows by the records and states as they are, and the parts of a base that stands for requests
@@ -66,6 +67,12 @@ at key revision = record { key = key; revision = revision }
 abbrev pub command_compares : ℕ → ℕ → List Compare
 command_compares elected placed = at leader_key elected ∷ at placement_key placed ∷ []
 
+-- what a step to this state compares beside: that the server's key isn't there, if the server is said to have failed,
+-- because one that is back under a new lease by then must not be given up
+abbrev pub absence_compares : ℕ → ServerState → List Compare
+absence_compares server Failed = at (server_key server) 0 ∷ []
+absence_compares server _ = []
+
 -- the transaction of a deed
 abbrev pub transaction_of : {Q P : Type 0} → Deed Q P → Transaction Q P
 transaction_of (Electing process) = record { compares = []; writes = Leads process ∷ [] }
@@ -77,7 +84,7 @@ transaction_of (Changing process shard change next elected placed) =
     }
 transaction_of (Restarting process server state elected placed) =
     record {
-      compares = command_compares elected placed;
+      compares = command_compares elected placed ++ absence_compares server state;
       writes = Enters process server state ∷ Commands process ∷ [];
     }
 transaction_of (Settling settings) = record { compares = at settings_key 0 ∷ []; writes = Settles settings ∷ [] }
@@ -242,11 +249,13 @@ pub record IsRightChange {Q P : Type 0} (charter : Charter Q P) (log : List (Tra
   pub allowed : IsTrue (charter.allows_change (placement_of log) shard change)
   pub changed : IsChanged charter.ceiling (stored_record shard log) change next
 
--- the step of a restart is made by who leads, and all records and states allow it
+-- the step of a restart is made by who leads, and all records and states allow it; a server is said to have failed
+-- while its key isn't there
 pub record IsRightRestart {Q P : Type 0} (charter : Charter Q P) (log : List (Transaction Q P)) (process server : ℕ)
     (state : ServerState) : Type 0 where
   pub leads : leader_of log ≡ process
   pub allowed : IsTrue (charter.allows_state (placement_of log) server state)
+  pub absent : state ≡ Failed → revision_of (server_key server) log ≡ 0
 
 -- the requests are executed by the server that the record accepts, and come next in the log
 pub record IsRightBatch {Q P : Type 0} (charter : Charter Q P) (log : List (Transaction Q P)) (shard server : ℕ)

@@ -74,6 +74,10 @@ placement_key = Lasting PlacementKey
 abbrev pub settings_key : StoreKey
 settings_key = Lasting SettingsKey
 
+-- the key of a server, which lies there under its lease
+abbrev pub server_key : ℕ → StoreKey
+server_key server = Passing (Server server)
+
 -- the key of a shard's batch of this number
 abbrev pub batch_key : ℕ → ℕ → StoreKey
 batch_key shard number = Passing (Batch shard number)
@@ -92,7 +96,7 @@ written_key (Settles settings) = settings_key
 written_key (Heads shard head) = head_key shard
 written_key (Executes shard number server items) = batch_key shard number
 written_key (Bases shard number place part) = part_key shard number place
-written_key (Follows server revision) = Passing (Server server)
+written_key (Follows server revision) = server_key server
 written_key (Deletes key) = Passing key
 written_key Elsewhere = Passing Other
 

@@ -1,7 +1,7 @@
 -- All processes and the store, over every order of events. Messages come late, twice, or never, and in any order: what
 -- was once sent to the store may reach it at any later moment, any number of times. Processes stop, forget and start at
 -- any moment: nothing here rests on what they remember, but only on what they send and claim.
-use Rattle.std.specs.Prelude.{ℕ, Option, Some, None, ◌≡◌, ◌≤◌, ◌⊎◌, List, [], ◌∷◌, ◌++◌, length, slice_get}
+use Rattle.std.specs.Prelude.{ℕ, Option, Some, None, IsTrue, ◌≡◌, ◌≤◌, ◌⊎◌, List, [], ◌∷◌, ◌++◌, length, slice_get}
 use Rattle.std.specs.Prelude.{if◌then◌else◌}
 use Rattle.std.specs.List.{AllByRecursion}
 use Rattle.sm_store.specs.declared.item.Item.{Item}
@@ -10,7 +10,7 @@ use Rattle.sm_store.specs.Store.{Transaction, Write, all_hold, head_key, made}
 use Rattle.sm_store.specs.Deeds.{AreRight, Charter, MaySend, WasFound, at}
 use Rattle.sm_store.specs.Whole.{IsLogWhole}
 
--- a request that only reads: whose it is, its number among that client's, and the length of the log when it came
+-- a request that came: whose it is, its number among that client's, and the length of the log then
 pub record Ask (Q : Type 0) : Type 0 where
   pub shard : ℕ
   pub client : ℕ
@@ -48,7 +48,7 @@ pub record System (Q P R : Type 0) : Type 0 where
 
 -- what happens, one after another
 pub data Event (Q P R : Type 0) : Type 0 where
-  -- a request that only reads comes to a process
+  -- a request comes to a process
   Comes : (shard client number : ℕ) (request : Q) → Event Q P R
   -- a process sends a transaction
   Sends : (txn : Transaction Q P) → Event Q P R
@@ -86,11 +86,12 @@ pub record WasAsked {Q : Type 0} (asked : List (Ask Q)) (shard client number : �
   pub client_is : ask.client ≡ client
   pub number_is : ask.number ≡ number
 
--- the reply is that of a moment after the request came
+-- the request only reads, and the reply is that of a moment after it came
 pub record IsReadSince {Q P R S : Type 0} (service : Automaton S Q R) (asked : List (Ask Q))
     (log : List (Transaction Q P)) (shard client number : ℕ) (answer : R) : Type 0 where
   pub ask : Ask Q
   pub was_asked : WasAsked asked shard client number ask
+  pub only_reads : IsTrue (service.reads ask.request)
   pub later : List (Transaction Q P)
   pub past : List (Transaction Q P)
   pub is : log ≡ later ++ past
@@ -106,11 +107,13 @@ IsSo service asked log (Overtaken shard client number) = IsOver client number (m
 IsSo service asked log (Reads shard client number answer) =
     IsReadSince service asked log shard client number answer
 
--- one who has read the requests, and sent after the request came a transaction that compares their revision, which held
+-- the request only reads, and after it came a process sent a transaction that compares the revision of the requests
+-- that the process has read, which held
 pub record MayRead {Q P R S : Type 0} (service : Automaton S Q R) (system : System Q P R)
     (shard client number : ℕ) (answer : R) : Type 0 where
   pub ask : Ask Q
   pub was_asked : WasAsked system.asked shard client number ask
+  pub only_reads : IsTrue (service.reads ask.request)
   pub held : Carried Q P
   pub was_held : IsAmong held system.held
   pub sent_after : ask.since ≤ held.since

@@ -1,15 +1,20 @@
 //! Laws of the store.
 
 ghost use Rattle.std.specs.Prelude.{◌≡◌, ◌<◌, ◌≤◌, ◌++◌, ℕ, Some, List, length, map, reverse};
+ghost use Rattle.std.specs.Prelude.{◌≢◌, ◌∷◌};
 ghost use Rattle.std.specs.List.{AllByRecursion};
 ghost use Rattle.sm_ownership.specs.declared.record.Record.{Record};
 ghost use Rattle.sm_ownership.specs.History.{IsLegal, all_of, record_at, table_of};
-ghost use Rattle.sm_store.specs.Clients.{Automaton};
+ghost use Rattle.sm_place.specs.declared.server_state.ServerState.TheVariants.{Failed};
+ghost use Rattle.sm_store.specs.Clients.{Automaton, ReadsLeave};
 ghost use Rattle.sm_store.specs.Histories.{history_of};
+ghost use Rattle.sm_store.specs.Linear.{AreAskedFor, AreFresh, Cut, HasCome, IsLinear, IsOwn, IsTold, Operation};
+ghost use Rattle.sm_store.specs.Linear.{StandsBefore};
 ghost use Rattle.sm_store.specs.Store.{Transaction, made, head_key, leader_key, leader_of, record_key, revision_of};
 ghost use Rattle.sm_store.specs.Store.{stored_record, stored_settings};
+ghost use Rattle.sm_store.specs.Store.{server_key, stored_state};
 ghost use Rattle.sm_store.specs.Deeds.{AreRight, Charter, IsHonest, ShardLog, WasFound, shard_log};
-ghost use Rattle.sm_store.specs.System.{Event, IsLawful, MightHappen, StaysOvertaken, system_after};
+ghost use Rattle.sm_store.specs.System.{Event, IsAmong, IsLawful, MightHappen, StaysOvertaken, system_after};
 ghost use Rattle.sm_store.specs.Whole.{IsLogWhole};
 
 /// What was read stands, where its key's revision is still the one that was read.
@@ -27,8 +32,9 @@ pub fn read_stands<Q, P>()
 
 /// Each transaction of an honest store, to which all sent only what they might, was right for the store before
 /// it: a change of a record or a state was made by who led then, and the rule allowed it by all records and states as
-/// they were; a batch by the server that the record accepts, with requests that come next; a head names a base that
-/// lies there whole; settings were the first; and what was deleted lay behind the base, or was a lease.
+/// they were, of a server that failed while its key wasn't there; a batch by the server that the record accepts, with
+/// requests that come next; a head names a base that lies there whole; settings were the first; and what was deleted
+/// lay behind the base, or was a lease.
 pub fn honest_is_right<Q, P>()
     ensures { (charter : Charter Q P) (log : List (Transaction Q P)) → IsHonest charter log → AreRight charter log }
 {}
@@ -38,6 +44,17 @@ pub fn settings_stay<Q, P>()
     ensures { (charter : Charter Q P) (later past : List (Transaction Q P)) (settings : List ℕ)
         → IsHonest charter (later ++ past) → stored_settings past ≡ Some settings
         → stored_settings (later ++ past) ≡ Some settings }
+{}
+
+/// A server comes to have failed only by a transaction that was made while the server's key wasn't there, in every run:
+/// one that is back under a new lease by then doesn't fail by it.
+pub fn servers_fail_absent<Q, P, R, S>()
+    ensures { (service : Automaton S Q R) (charter : Charter Q P) (events : List (Event Q P R))
+        → MightHappen service charter events
+        → (later past : List (Transaction Q P)) (txn : Transaction Q P) (server : ℕ)
+        → (system_after events).log ≡ later ++ txn ∷ past
+        → stored_state server past ≢ Failed → stored_state server (txn ∷ past) ≡ Failed
+        → revision_of (server_key server) past ≡ 0 }
 {}
 
 /// What lies at a shard's keys leads to all requests that are made: the base that the head names, and the batches after
@@ -58,6 +75,24 @@ pub fn runs_are_lawful<Q, P, R, S>()
         → let before = system_after earlier in
         let now = system_after (later ++ earlier) in
         AllByRecursion (StaysOvertaken before now) before.claims }
+{}
+
+/// Replies over a shared store are linearizable. Take any run of any number of processes over one store: messages come
+/// late, twice or never, and processes stop and start. Then all requests to the shards have one order, in which one
+/// thread for each shard gives each reply that a client was told, and the updates are the requests that the store made,
+/// in its order. Each reply that was told has its place in the order, and nothing is in it that nobody asked. What was
+/// told before a request first came under its number stands before that request.
+pub fn runs_are_linear<Q, P, R, S>()
+    ensures linear { (service : Automaton S Q R) (charter : Charter Q P) (events : List (Event Q P R))
+        → ReadsLeave service → MightHappen service charter events → AreAskedFor events
+        → IsLinear service events }
+    ensures in_time { (moment : List (Event Q P R)) (order : List (Operation Q R)) → Cut order moment
+        → (one other : Operation Q R) → IsAmong one order → IsAmong other order
+        → IsTold moment one → (HasCome moment other → ⊥) → StandsBefore one other order }
+    // A reply is never that of another request, if each client's number stands for one request.
+    ensures own_request { (events : List (Event Q P R)) (order : List (Operation Q R))
+        → AllByRecursion (HasCome events) order → AreFresh (system_after events).asked
+        → AllByRecursion (IsOwn (system_after events).asked) order }
 {}
 
 /// An honest store stands for a legal history of the ownership table, whose laws so hold of it too: each change is

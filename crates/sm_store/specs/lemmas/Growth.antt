@@ -181,6 +181,7 @@ module _ {Q P R S : Type 0} (service : Automaton S Q R) where
   so_grows asked more log (Reads shard client number answer) so = record {
     ask = so.ask;
     was_asked = so.was_asked;
+    only_reads = so.only_reads;
     later = more ++ so.later;
     past = so.past;
     is = ap (λ (rest : List (Transaction Q P)). more ++ rest) so.is ∙ sym (append_assoc more so.later so.past);
@@ -196,6 +197,7 @@ module _ {Q P R S : Type 0} (service : Automaton S Q R) where
   so_asked new asked log (Reads shard client number answer) so = record {
     ask = so.ask;
     was_asked = asked_grows new asked shard client number so.ask so.was_asked;
+    only_reads = so.only_reads;
     later = so.later;
     past = so.past;
     is = so.is;
