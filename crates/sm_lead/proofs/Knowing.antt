@@ -22,11 +22,12 @@ use Rattle.sm_desk.specs.declared.command.CommandFault.{CommandFault}
 use Rattle.sm_desk.specs.declared.command.CommandFault.TheVariants.{Change as ChangeRefused, UnknownServer}
 use Rattle.sm_desk.specs.Desk.{DeskView, desk_fault, is_known}
 use Rattle.sm_desk.specs.lemmas.Changes.{let_through}
+use Rattle.sm_store.specs.declared.compare.Compare.{Compare}
 use Rattle.sm_store.specs.declared.item.Item.{Item}
 use Rattle.sm_store.specs.Store.{Placement, Transaction, all_hold, leader_key, placement_key, placement_of, record_key}
 use Rattle.sm_store.specs.Store.{revision_of, stored_record, stored_state}
 use Rattle.sm_store.specs.Deeds.{Changing, Charter, Deed, HasLed, IsChanged, IsHonest, MaySend, Restarting}
-use Rattle.sm_store.specs.Deeds.{WasFound, at, transaction_of}
+use Rattle.sm_store.specs.Deeds.{WasFound, absence_compares, at, transaction_of}
 use Rattle.sm_store.specs.lemmas.Heart.{first_held, stood_among}
 use Rattle.sm_store.specs.lemmas.Views.{IsOfDeed, placement_view}
 use Rattle.sm_lead.specs.declared.command_write.CommandWrite.TheVariants.{State as WritesState}
@@ -190,12 +191,12 @@ module _ {Q P : Type 0} where
       regroup [] x ys = refl
       regroup (z ∷ xs) x ys = ap (λ (rest : List (Transaction Q P)). z ∷ rest) (regroup xs x ys)
 
-  placed_held : (log : List (Transaction Q P)) (elected placed : ℕ)
-      → all_hold log (at leader_key elected ∷ at placement_key placed ∷ []) ≡ true
+  placed_held : (log : List (Transaction Q P)) (elected placed : ℕ) (rest : List Compare)
+      → all_hold log (at leader_key elected ∷ at placement_key placed ∷ rest) ≡ true
       → revision_of placement_key log ≡ placed
-  placed_held log elected placed held =
-      (first_held log placement_key placed []
-      (first_held log leader_key elected (at placement_key placed ∷ []) held).1).0
+  placed_held log elected placed rest held =
+      (first_held log placement_key placed rest
+      (first_held log leader_key elected (at placement_key placed ∷ rest) held).1).0
 
   entered_known : (log : List (Transaction Q P)) (control new : StoreControl) (command : Command) (a : ℕ)
       (state : ServerState) (revision : ℕ)
@@ -209,7 +210,8 @@ module _ {Q P : Type 0} where
   entered_known log control new command a state revision deeds sound knows known made books reads lead placed =
       let past = made.past in
       let deed : Deed Q P = Restarting control.lead.process a state control.lead.elected control.placed in
-      let now = placed_held past control.lead.elected control.placed made.held in
+      let rest = absence_compares a state in
+      let now = placed_held past control.lead.elected control.placed rest made.held in
       let was = stood_then log control deeds knows made.later past (transaction_of deed) made.is now in
       let before : Agrees control.desk.books (placement_of past) = subst (Agrees control.desk.books) (sym was)
       knows.agrees in
@@ -248,7 +250,7 @@ module _ {Q P : Type 0} where
       let next = after_change state change in
       let one : RecordRead = record { state = next; stood = revision } in
       let deed : Deed Q P = Changing control.lead.process k change next control.lead.elected control.placed in
-      let now = placed_held past control.lead.elected control.placed made.held in
+      let now = placed_held past control.lead.elected control.placed [] made.held in
       let was = stood_then log control deeds knows made.later past (transaction_of deed) made.is now in
       let before : Agrees control.desk.books (placement_of past) = subst (Agrees control.desk.books) (sym was)
       knows.agrees in

@@ -1,4 +1,5 @@
 mod Agreement
 mod Caps
+mod Compared
 mod Knowing
 mod Replays

@@ -1,5 +1,5 @@
 -- Which commands the control refuses, what the others write, and what is read after one that was made.
-use Rattle.std.specs.Prelude.{ℕ, ◌≡◌, List, Option, None, slice_index_or, slice_set}
+use Rattle.std.specs.Prelude.{ℕ, ◌≡◌, List, Option, None, Some, slice_index_or, slice_set}
 use Rattle.std.specs.Option.{option_map, option_or}
 use Rattle.sm_ownership.specs.History.{after_change, vacant}
 use Rattle.sm_ownership.specs.Tables.{change_fault}
@@ -41,6 +41,12 @@ write_of control (Approve server) = WritesState server states.Approved
 write_of control (Stopped server) = WritesState server states.Stopped
 write_of control (Back server) = WritesState server states.Up
 write_of control (Fail server) = WritesState server states.Failed
+
+-- the server whose key isn't there when this is written: one that is said to have failed
+abbrev pub absent_of : CommandWrite → Option ℕ
+absent_of (WritesRecord shard change next) = None
+absent_of (WritesState server states.Failed) = Some server
+absent_of (WritesState server _) = None
 
 -- what is read of the records once this was written at this revision
 abbrev pub reads_after : List RecordRead → CommandWrite → ℕ → List RecordRead

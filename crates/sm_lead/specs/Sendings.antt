@@ -1,15 +1,16 @@
 -- What a control does with a command, and the transaction of one that is sent.
-use Rattle.std.specs.Prelude.{◌≡◌, Some, None}
+use Rattle.std.specs.Prelude.{◌≡◌, ℕ, Option, Some, None, List, [], ◌∷◌, ◌++◌}
 use Rattle.sm_desk.specs.declared.command.Command.{Command}
-use Rattle.sm_store.specs.Store.{Transaction}
-use Rattle.sm_store.specs.Deeds.{Changing, Deed, Restarting, transaction_of}
+use Rattle.sm_store.specs.declared.compare.Compare.{Compare}
+use Rattle.sm_store.specs.Store.{Transaction, server_key}
+use Rattle.sm_store.specs.Deeds.{Changing, Deed, Restarting, at, command_compares, transaction_of}
 use Rattle.sm_lead.specs.declared.command_sending.CommandSending.{CommandSending}
 use Rattle.sm_lead.specs.declared.command_write.CommandWrite.{CommandWrite}
 use Rattle.sm_lead.specs.declared.command_write.CommandWrite.TheVariants.{Record as WritesRecord, State as WritesState}
 use Rattle.sm_lead.specs.declared.sent_command.Judged.{Judged}
 use Rattle.sm_lead.specs.declared.sent_command.Judged.TheVariants.{Sent, Refused}
 use Rattle.sm_lead.specs.declared.store_control.StoreControl.{StoreControl}
-use Rattle.sm_lead.specs.Commands.{command_fault, write_of}
+use Rattle.sm_lead.specs.Commands.{absent_of, command_fault, write_of}
 
 -- a command that is refused leaves the control as it was; else the control has sent it
 abbrev pub IsJudged : StoreControl → Command → Judged → Type 0
@@ -25,6 +26,7 @@ sending_of control write =
       process = control.lead.process;
       elected = control.lead.elected;
       placed = control.placed;
+      absent = absent_of write;
       write = write;
     }
 
@@ -37,3 +39,13 @@ deed_of sending (WritesState server state) = Restarting sending.process server s
 -- the transaction of what is sent
 abbrev pub command_transaction : {Q P : Type 0} → CommandSending → Transaction Q P
 command_transaction sending = transaction_of (deed_of sending sending.write)
+
+-- what is compared where a server's key must not be there
+abbrev pub absences : Option ℕ → List Compare
+absences None = []
+absences (Some server) = at (server_key server) 0 ∷ []
+
+-- what is compared by the numbers of what is sent: who leads, all records and states, and that a server's key isn't
+-- there if it names one
+abbrev pub compares_of : CommandSending → List Compare
+compares_of sending = command_compares sending.elected sending.placed ++ absences sending.absent

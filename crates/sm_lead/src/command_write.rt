@@ -1,3 +1,6 @@
+ghost use Rattle.std.specs.Prelude.{◌≡◌};
+ghost use Rattle.sm_lead.specs.Commands.{absent_of};
+
 use sm_ownership::change::Change;
 use sm_ownership::record::Record;
 use sm_place::ServerState;
@@ -18,4 +21,22 @@ pub enum CommandWrite {
         server: ServerId,
         state: ServerState,
     },
+}
+
+impl CommandWrite {
+    /// Returns the server whose key must not be there: one that is said to have failed, because it may be back by then.
+    pub fn absent(&self) -> Option<ServerId>
+        ensures { result ≡ absent_of self.now }
+    {
+        match *self {
+            CommandWrite::Record { .. } => None,
+            CommandWrite::State { server, state } => match state {
+                ServerState::Failed => Some(server),
+                ServerState::Up
+                | ServerState::Asked
+                | ServerState::Approved
+                | ServerState::Stopped => None,
+            },
+        }
+    }
 }

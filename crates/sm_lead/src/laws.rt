@@ -14,13 +14,15 @@ ghost use Rattle.sm_desk.specs.Desk.{DeskView};
 ghost use Rattle.sm_store.specs.declared.item.Item.{Item};
 ghost use Rattle.sm_store.specs.Store.{Transaction, placement_of};
 ghost use Rattle.sm_store.specs.Deeds.{AreRight, Charter, IsHonest, MaySend};
+ghost use Rattle.sm_store.specs.Linear.{AsksFor};
+ghost use Rattle.sm_store.specs.System.{Ask};
 ghost use Rattle.sm_lead.specs.declared.leadership.Leadership.{Leadership};
 ghost use Rattle.sm_lead.specs.declared.record_read.RecordRead.{RecordRead};
 ghost use Rattle.sm_lead.specs.declared.store_control.StoreControl.{StoreControl};
 ghost use Rattle.sm_lead.specs.Commands.{IsAfter, command_fault, write_of};
 ghost use Rattle.sm_lead.specs.Controls.{CommandWasMade, IsLoaded, IsReadOf, KnowsStore};
 ghost use Rattle.sm_lead.specs.Placements.{books_in, charter_of, rows_of};
-ghost use Rattle.sm_lead.specs.Sendings.{command_transaction, sending_of};
+ghost use Rattle.sm_lead.specs.Sendings.{command_transaction, compares_of, sending_of};
 
 use sm_desk::laws::{commands_keep_caps, commands_keep_soundness};
 use sm_ownership::laws::change_refused_exactly;
@@ -45,6 +47,19 @@ pub fn commands_may_be_sent<Q, P>()
 {
     change_refused_exactly();
 }
+
+/// The numbers of what is sent say all that its transaction compares.
+pub fn sendings_say_compares<Q, P>()
+    ensures { (control : StoreControl) (command : Command) (txn : Transaction Q P)
+        → let sending = sending_of control (write_of control command) in
+        txn ≡ command_transaction sending → txn.compares ≡ compares_of sending }
+{}
+
+/// A command makes no request, so a control never asks for one on its own.
+pub fn commands_ask_for_nothing<Q, P>()
+    ensures { (asked : List (Ask Q)) (control : StoreControl) (command : Command) (txn : Transaction Q P)
+        → txn ≡ command_transaction (sending_of control (write_of control command)) → AsksFor asked txn }
+{}
 
 /// What the control is after its command was made is so in the store, of which it then knows all records and states.
 pub fn outcomes_are_known<Q, P>()

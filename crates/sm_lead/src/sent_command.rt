@@ -1,5 +1,5 @@
 ghost use Rattle.std.specs.Prelude.{◌≡◌, ℕ, None, IfSome};
-ghost use Rattle.sm_lead.specs.Commands.{IsAfter, command_fault, reads_after};
+ghost use Rattle.sm_lead.specs.Commands.{IsAfter, absent_of, command_fault, reads_after};
 
 use crate::command_sending::CommandSending;
 use crate::command_write::CommandWrite;
@@ -42,12 +42,14 @@ impl SentCommand {
         ensures process { result.process ≡ self.now.control.lead.process }
         ensures elected { result.elected ≡ self.now.control.lead.elected }
         ensures placed { result.placed ≡ self.now.control.placed }
+        ensures absent { result.absent ≡ absent_of self.now.write }
         ensures write { result.write ≡ self.now.write }
     {
         CommandSending {
             process: self.control.lead.process,
             elected: self.control.lead.elected,
             placed: self.control.placed,
+            absent: self.write.absent(),
             write: self.write,
         }
     }
