@@ -1,6 +1,6 @@
 -- What a server knows goes on.
 use Rattle.std.proofs.Common.{◌≡◌, ◌≢◌, ℕ, ◌<◌, true, false, List, [], ◌∷◌, ◌++◌, refl, sym, ap, subst, ◌∙◌, arith}
-use Rattle.std.proofs.Common.{◌≤◌, length, map, append_assoc, append-nil, inl, inr, ◌+◌, ◌-◌, drop}
+use Rattle.std.proofs.Common.{◌≤◌, length, map, append_assoc, append-nil, inl, inr, ◌+◌, ◌-◌, drop, take}
 use Rattle.std.specs.Prelude.{Bool, Option, Some, None, IfNone, IfSome, Result, Ok, Err, IfOk, OnErr, ◌==◌, IsTrue}
 use Rattle.std.specs.Prelude.{OnOk, is_none, nat_le, nat_lt, not, ◌&&◌}
 use Rattle.std.specs.Prelude.{if◌then◌else◌}
@@ -39,7 +39,7 @@ use Rattle.sm_shard.specs.declared.shard_state.Decision.TheVariants.{Forgotten, 
 use Rattle.sm_shard.specs.declared.shard_state.Decision.TheVariants.{TooManyClients, Busy}
 use Rattle.sm_shard.specs.declared.shard_state.ShardState.{ShardState}
 use Rattle.sm_shard.specs.Decisions.{batch_from, batch_length, begins_base, decided_by_number, goes_with, client_number}
-use Rattle.sm_shard.specs.Decisions.{asking_after, is_behind, named_by}
+use Rattle.sm_shard.specs.Decisions.{asking_after, is_behind, is_taken, named_by, waiting_after}
 use Rattle.sm_shard.specs.Replicas.{IsReplica, read_of, replies_of}
 use Rattle.sm_shard.specs.Steps.{ArePast, bases_of, transactions_of}
 use Rattle.sm_shard.specs.ShardServers.{AreAskedOf, DidHold, HasRead, IsAsked, IsAskedBy, IsDecided, IsFlushed}
@@ -115,8 +115,8 @@ head_by_fields head batches base parts a b c =
     (subst (λ (n : ℕ). head ≡ record { batches = n; base = head.base; parts = head.parts }) a refl))
 
 -- a value, where a test holds
-if_some : {A : Type 0} (b : Bool) (x : A) → IfSome (if b then Some x else None) (λ y. y ≡ x)
-if_some true x = refl
+if_some : {A : Type 0} (b : Bool) (x : A) → IfSome (if b then Some x else None) (λ y. IsTrue b × (y ≡ x))
+if_some true x = (refl, refl)
 if_some false x = tt
 
 -- something is written
@@ -473,7 +473,7 @@ module _ {M Q R : Type 0} (service : Automaton M Q R) where
       → AreAskedOf asked since shard ready → AreAskedOf asked since shard (named_at revision base ready)
   asked_at asked since shard revision ready None are = are
   asked_at asked since shard revision ready (Some base) are =
-      record { asking = are.asking; carried = are.carried }
+      record { sent = are.sent; waiting = are.waiting; asking = are.asking; carried = are.carried }
 
   pub asked_named : (asked : List (Ask Q)) (since shard revision : ℕ) (ready : ShardState M Q R)
       (carried : Vec (Item Q)) → carried.items ≡ [] → AreAskedOf asked since shard ready
@@ -481,6 +481,8 @@ module _ {M Q R : Type 0} (service : Automaton M Q R) where
   asked_named asked since shard revision ready carried none are =
       asked_at asked since shard revision (carrying ready carried) (named_by ready.work)
       (record {
+        sent = are.sent;
+        waiting = are.waiting;
         asking = are.asking;
         carried = subst (AllByRecursion (IsAskedBy asked shard since)) (sym none) tt;
       })
@@ -573,7 +575,7 @@ module _ {M Q R : Type 0} (service : Automaton M Q R) where
       → HasRead service system.log me shard ready
       → DidHold system.held since (sent_transaction me shard ready)
       → (item : Item Q) → IsAskedBy system.asked shard since item → (answer : R)
-      → answer ≡ service.reply ready.replica.machine item.request
+      → IsTrue (service.reads item.request) × (answer ≡ service.reply ready.replica.machine item.request)
       → MayClaim service system (Reads shard item.client item.number answer)
   read_may system since me shard ready knows did item asked answer is =
       let in_time = asked.3 in
@@ -583,6 +585,7 @@ module _ {M Q R : Type 0} (service : Automaton M Q R) where
       record {
         ask = asked.0;
         was_asked = asked.1;
+        only_reads = subst (λ (request : Q). IsTrue (service.reads request)) (sym asked.2) is.0;
         held = did.one;
         was_held = did.among;
         sent_after = omega arith;
@@ -597,7 +600,7 @@ module _ {M Q R : Type 0} (service : Automaton M Q R) where
         };
         compared = subst (IsAmong (at (head_key shard) ready.logged)) those
             (head_compared R shard me (named_by ready.work) ready.sent.items ready.head ready.stood ready.logged);
-        answer_is = is ∙ ap (λ (m : M). service.reply m item.request) knows.is.replica.machine
+        answer_is = is.1 ∙ ap (λ (m : M). service.reply m item.request) knows.is.replica.machine
             ∙ ap (service.reply (state_after service service.start knows.before)) (sym asked.2);
       }
 
@@ -605,7 +608,8 @@ module _ {M Q R : Type 0} (service : Automaton M Q R) where
       → HasRead service system.log me shard ready
       → DidHold system.held since (sent_transaction me shard ready)
       → (item : Item Q) → IsAskedBy system.asked shard since item → (found : Option R)
-      → IfSome found (λ answer. answer ≡ service.reply ready.replica.machine item.request)
+      → IfSome found (λ answer. IsTrue (service.reads item.request)
+      × (answer ≡ service.reply ready.replica.machine item.request))
       → (others : List (Claim Q R)) → AllByRecursion (MayClaim service system) others
       → AllByRecursion (MayClaim service system)
       (claimed_read shard (record { client = item.client; number = item.number; reply = found }) found others)
@@ -614,31 +618,31 @@ module _ {M Q R : Type 0} (service : Automaton M Q R) where
       (read_may system since me shard ready knows did item asked answer is, all)
 
   -- what the reads of a transaction claim may be claimed once it held
-  pub reads_may : (system : StoreSystem Q R) (reads : Q → Bool) (since me shard : ℕ) (ready : ShardState M Q R)
+  pub reads_may : (system : StoreSystem Q R) (since me shard : ℕ) (ready : ShardState M Q R)
       → HasRead service system.log me shard ready
       → DidHold system.held since (sent_transaction me shard ready)
       → (items : List (Item Q)) → AllByRecursion (IsAskedBy system.asked shard since) items
       → AllByRecursion (MayClaim service system)
-      (claimed_reads shard (map (read_of service reads ready.replica.machine) items))
-  reads_may system reads since me shard ready knows did [] asked = tt
-  reads_may system reads since me shard ready knows did (item ∷ items) asked =
+      (claimed_reads shard (map (read_of service ready.replica.machine) items))
+  reads_may system since me shard ready knows did [] asked = tt
+  reads_may system since me shard ready knows did (item ∷ items) asked =
       read_one system since me shard ready knows did item asked.0
-      (if reads item.request then Some (service.reply ready.replica.machine item.request) else None)
-      (if_some (reads item.request) (service.reply ready.replica.machine item.request))
-      (claimed_reads shard (map (read_of service reads ready.replica.machine) items))
-      (reads_may system reads since me shard ready knows did items asked.1)
+      (if service.reads item.request then Some (service.reply ready.replica.machine item.request) else None)
+      (if_some (service.reads item.request) (service.reply ready.replica.machine item.request))
+      (claimed_reads shard (map (read_of service ready.replica.machine) items))
+      (reads_may system since me shard ready knows did items asked.1)
 
   -- the reads of a server that has read
   pub reads_told :
-      (system : StoreSystem Q R) (reads : Q → Bool) (since me shard : ℕ) (found : Option (ShardState M Q R))
+      (system : StoreSystem Q R) (since me shard : ℕ) (found : Option (ShardState M Q R))
       (ready : ShardState M Q R) → found ≡ Some ready
       → IfSome found (λ r. HasRead service system.log me shard r)
       → IfSome found (λ r. AreAskedOf system.asked since shard r)
       → IfSome found (λ r. DidHold system.held since (sent_transaction me shard r))
       → (items : List (Item Q)) → items ≡ ready.carried.items → (answers : List (ReadReply R))
-      → answers ≡ map (read_of service reads ready.replica.machine) items
+      → answers ≡ map (read_of service ready.replica.machine) items
       → AllByRecursion (MayClaim service system) (claimed_reads shard answers)
-  reads_told system reads since me shard found ready is known asked held items items_are answers are =
+  reads_told system since me shard found ready is known asked held items items_are answers are =
       let knows = subst (λ (o : Option (ShardState M Q R)). IfSome o (λ r. HasRead service system.log me shard
       r)) is known in
       let were = subst (λ (o : Option (ShardState M Q R)). IfSome o (λ r. AreAskedOf system.asked since shard r)) is
@@ -646,8 +650,8 @@ module _ {M Q R : Type 0} (service : Automaton M Q R) where
       let did = subst (λ (o : Option (ShardState M Q R)). IfSome o (λ r. DidHold system.held since
       (sent_transaction me shard r))) is held in
       subst (λ (list : List (ReadReply R)). AllByRecursion (MayClaim service system) (claimed_reads shard list))
-      (sym (are ∙ ap (map (read_of service reads ready.replica.machine)) items_are))
-      (reads_may system reads since me shard ready knows did ready.carried.items were.carried)
+      (sym (are ∙ ap (map (read_of service ready.replica.machine)) items_are))
+      (reads_may system since me shard ready knows did ready.carried.items were.carried)
 
   -- what waits goes in part, from where nothing was sent
   pub flushed : (limits : ShardLimits) (size : Q → ℕ) (me : ℕ) (before : List (Item Q)) (old new : ShardState M Q R)
@@ -679,6 +683,14 @@ module _ {M Q R : Type 0} (service : Automaton M Q R) where
             (sym state_is) (subst (AreAccepted old.state me before) items_are ready.accepted);
       }
 
+  all_front : {A : Type 0} (F : A → Type 0) (xs ys : List A) → AllByRecursion F (xs ++ ys) → AllByRecursion F xs
+  all_front F [] ys all = tt
+  all_front F (x ∷ xs) ys all = (all.0, all_front F xs ys all.1)
+
+  all_rest : {A : Type 0} (F : A → Type 0) (xs ys : List A) → AllByRecursion F (xs ++ ys) → AllByRecursion F ys
+  all_rest F [] ys all = all
+  all_rest F (x ∷ xs) ys all = all_rest F xs ys all.1
+
   -- the reads that waited were asked before now
   asked_now : (system : StoreSystem Q R) (shard : ℕ) → ArePast system → (item : Item Q)
       → IsAsked system.asked shard item → IsAskedBy system.asked shard (length system.log) item
@@ -694,6 +706,16 @@ module _ {M Q R : Type 0} (service : Automaton M Q R) where
       (old new : ShardState M Q R) → ArePast system → IsFlushed limits size old new
       → AreAskedOf system.asked since shard old → AreAskedOf system.asked (length system.log) shard new
   asked_flushed limits size system since shard old new past flush asked = record {
+    sent = subst (AllByRecursion (IsAsked system.asked shard)) (sym flush.sent)
+        (all_front (IsAsked system.asked shard) (take (batch_length limits size old) old.waiting.items)
+        (drop (batch_length limits size old) old.waiting.items)
+        (subst (AllByRecursion (IsAsked system.asked shard))
+        (sym (take-append-drop (batch_length limits size old) old.waiting.items)) asked.waiting));
+    waiting = subst (AllByRecursion (IsAsked system.asked shard)) (sym flush.waiting)
+        (all_rest (IsAsked system.asked shard) (take (batch_length limits size old) old.waiting.items)
+        (drop (batch_length limits size old) old.waiting.items)
+        (subst (AllByRecursion (IsAsked system.asked shard))
+        (sym (take-append-drop (batch_length limits size old) old.waiting.items)) asked.waiting));
     asking = subst (AllByRecursion (IsAsked system.asked shard)) (sym flush.asking) tt;
     carried = subst (AllByRecursion (IsAskedBy system.asked shard (length system.log))) (sym flush.carried)
         (all_map (IsAsked system.asked shard) (IsAskedBy system.asked shard (length system.log))
@@ -720,12 +742,43 @@ module _ {M Q R : Type 0} (service : Automaton M Q R) where
 
   -- one more read, which was asked, waits
   pub asked_one : {E : Type 0} (asked : List (Ask Q)) (since shard me : ℕ) (limits : ShardLimits)
-      (old new : ShardState M Q R) (item : Item Q) (result : Result (Decision R) E) → new.carried ≡ old.carried
+      (old new : ShardState M Q R) (item : Item Q) (result : Result (Decision R) E) → new.sent ≡ old.sent
+      → new.waiting ≡ old.waiting
+      → new.carried ≡ old.carried
       → OnOk result (new.asking.items ≡ asking_after limits old me item)
       → OnErr result (new.asking.items ≡ old.asking.items) → AreAskedOf asked since shard old
       → IsAsked asked shard item → AreAskedOf asked since shard new
-  asked_one asked since shard me limits old new item result carried ok err all one = record {
+  asked_one asked since shard me limits old new item result sent waiting carried ok err all one = record {
+    sent = subst (λ (list : Vec (Item Q)). AllByRecursion (IsAsked asked shard) list.items) (sym sent) all.sent;
+    waiting = subst (λ (list : Vec (Item Q)). AllByRecursion (IsAsked asked shard) list.items) (sym waiting)
+        all.waiting;
     asking = asking_of asked shard me limits old new item result ok err all.asking one;
+    carried = subst (λ (list : Vec (Item Q)). AllByRecursion (IsAskedBy asked shard since) list.items) (sym carried)
+        all.carried;
+  }
+
+  waiting_of : {E : Type 0} (asked : List (Ask Q)) (shard me : ℕ) (limits : ShardLimits) (size : Q → ℕ)
+      (old new : ShardState M Q R) (item : Item Q) (result : Result (Decision R) E)
+      → OnOk result (new.waiting.items ≡ waiting_after limits size old me item)
+      → OnErr result (new.waiting.items ≡ old.waiting.items) → AllByRecursion (IsAsked asked shard) old.waiting.items
+      → IsAsked asked shard item → AllByRecursion (IsAsked asked shard) new.waiting.items
+  waiting_of asked shard me limits size old new item (Ok decision) ok err all one =
+      subst (AllByRecursion (IsAsked asked shard)) (sym ok)
+      (asked_if asked shard (is_taken limits size old me item) old.waiting.items item all one)
+  waiting_of asked shard me limits size old new item (Err error) ok err all one =
+      subst (AllByRecursion (IsAsked asked shard)) (sym err) all
+
+  -- one more request, which was asked, waits
+  pub asked_request : {E : Type 0} (asked : List (Ask Q)) (since shard me : ℕ) (limits : ShardLimits) (size : Q → ℕ)
+      (old new : ShardState M Q R) (item : Item Q) (result : Result (Decision R) E) → new.sent ≡ old.sent
+      → new.carried ≡ old.carried → new.asking ≡ old.asking
+      → OnOk result (new.waiting.items ≡ waiting_after limits size old me item)
+      → OnErr result (new.waiting.items ≡ old.waiting.items) → AreAskedOf asked since shard old
+      → IsAsked asked shard item → AreAskedOf asked since shard new
+  asked_request asked since shard me limits size old new item result sent carried asking ok err all one = record {
+    sent = subst (λ (list : Vec (Item Q)). AllByRecursion (IsAsked asked shard) list.items) (sym sent) all.sent;
+    waiting = waiting_of asked shard me limits size old new item result ok err all.waiting one;
+    asking = subst (λ (list : Vec (Item Q)). AllByRecursion (IsAsked asked shard) list.items) (sym asking) all.asking;
     carried = subst (λ (list : Vec (Item Q)). AllByRecursion (IsAskedBy asked shard since) list.items) (sym carried)
         all.carried;
   }

@@ -1,7 +1,7 @@
 -- All shards of one server: one more, and one that makes a step.
 use Rattle.std.proofs.Common.{◌≡◌, ◌<◌, ℕ, zero, suc, ◌+◌, List, [], ◌∷◌, ◌++◌, length, refl, sym, ap, subst, ◌∙◌}
 use Rattle.std.proofs.Common.{arith, length-append}
-use Rattle.std.specs.Prelude.{Bool, Some, Result, IfOk, slice_get, slice_index_or, slice_set}
+use Rattle.std.specs.Prelude.{Some, Result, IfOk, slice_get, slice_index_or, slice_set}
 use Rattle.sm_store.specs.Clients.{Automaton}
 use Rattle.sm_shard.specs.declared.replica.ReplayFault.{ReplayFault}
 use Rattle.sm_shard.specs.declared.shard_server.ShardServer.{ShardServer}
@@ -74,14 +74,14 @@ module _ {M Q R : Type 0} (me count : ℕ) where
   }
 
 -- one shard makes a step
-pub stepped : {M Q R : Type 0} (service : Automaton M Q R) (reads : Q → Bool) (size : Q → ℕ)
+pub stepped : {M Q R : Type 0} (service : Automaton M Q R) (size : Q → ℕ)
     (olds : List (ShardServer M Q R)) (shard place : ℕ) (old new : ShardServer M Q R) (input : ShardInput Q R)
     (result : Result (ShardOutput Q R) ReplayFault)
     → place ≡ shard → shard < length olds → old ≡ slice_index_or olds place old
-    → IfOk result (IsOutputOf service reads size old input) → IsStepOf service old input result new
+    → IfOk result (IsOutputOf service size old input) → IsStepOf service old input result new
     → new.me ≡ old.me → new.shard ≡ old.shard → new.count ≡ old.count → new.limits ≡ old.limits
-    → IsStoreStep service reads size olds shard input result (slice_set olds place new)
-stepped {M} {Q} {R} service reads size olds shard place old new input result same within is exact call me_is shard_is
+    → IsStoreStep service size olds shard input result (slice_set olds place new)
+stepped {M} {Q} {R} service size olds shard place old new input result same within is exact call me_is shard_is
     count_is limits_is = record {
       old = old;
       new = new;

@@ -4,7 +4,8 @@ use Rattle.sm_shard.specs.Bases.{Part}
 use Rattle.sm_store.specs.Clients.{Automaton}
 use Rattle.sm_store.specs.Store.{Transaction}
 use Rattle.sm_store.specs.Deeds.{Charter}
-use Rattle.sm_store.specs.System.{Event, May, SentTransaction, System, happens}
+use Rattle.sm_store.specs.Linear.{AsksFor}
+use Rattle.sm_store.specs.System.{Event, Sends as IsSent, Claims, May, SentTransaction, System, happens}
 use Rattle.sm_shard.specs.declared.replica.ReplayFault.{ReplayFault}
 use Rattle.sm_shard.specs.declared.shard_server.ShardServer.{ShardServer}
 use Rattle.sm_shard.specs.declared.steps.ShardInput.{ShardInput}
@@ -84,3 +85,23 @@ abbrev pub MightAct : {M Q R : Type 0} → Automaton M Q R → Charter Q (Part R
 MightAct service charter [] = Unit {0}
 MightAct service charter (act ∷ earlier) =
     MayAct service charter (fleet_after earlier) act × MightAct service charter earlier
+
+-- the events of these acts: a server's step sends first, and then claims
+abbrev pub events_of : {M Q R : Type 0} → List (Act M Q R) → List (Event Q (Part R) R)
+events_of [] = []
+events_of (Starts server ∷ earlier) = events_of earlier
+events_of (Steps which old input result new ∷ earlier) =
+    map Claims (step_claims new.shard input result) ++ (map IsSent (step_sends result new) ++ events_of earlier)
+events_of (Otherwise event ∷ earlier) = event ∷ events_of earlier
+
+-- whoever isn't a server sends only transactions whose requests were asked
+abbrev pub AsksForEvent : {M Q R : Type 0} → Fleet M Q R → Event Q (Part R) R → Type 0
+AsksForEvent fleet (IsSent txn) = AsksFor fleet.system.asked txn
+AsksForEvent fleet _ = Unit {0}
+
+-- so does everybody but the servers, in all these acts
+abbrev pub OthersAskFor : {M Q R : Type 0} → List (Act M Q R) → Type 0
+OthersAskFor [] = Unit {0}
+OthersAskFor (Otherwise event ∷ earlier) = AsksForEvent (fleet_after earlier) event × OthersAskFor earlier
+OthersAskFor (Starts server ∷ earlier) = OthersAskFor earlier
+OthersAskFor (Steps which old input result new ∷ earlier) = OthersAskFor earlier

@@ -1,5 +1,5 @@
 -- What a server makes of a shard's requests: the machine after them, and the last request and reply of each client.
-use Rattle.std.specs.Prelude.{ℕ, Bool, Option, Some, None, ◌≡◌, List, [], ◌∷◌, if◌then◌else◌}
+use Rattle.std.specs.Prelude.{ℕ, Option, Some, None, ◌≡◌, List, [], ◌∷◌, if◌then◌else◌}
 use Rattle.sm_store.specs.declared.item.Item.{Item}
 use Rattle.sm_store.specs.Clients.{Automaton, AreNext, floor_of, state_after}
 use Rattle.sm_shard.specs.Bases.{lasts_of}
@@ -29,9 +29,9 @@ pub record IsReplica {M Q R : Type 0} (service : Automaton M Q R) (items : List 
   pub next : AreNext [] items
 
 -- what is answered to a question: the machine's reply where the request only reads, and none where it is another
-abbrev pub read_of : {M Q R : Type 0} → Automaton M Q R → (Q → Bool) → M → Item Q → ReadReply R
-read_of service reads machine item = record {
+abbrev pub read_of : {M Q R : Type 0} → Automaton M Q R → M → Item Q → ReadReply R
+read_of service machine item = record {
   client = item.client;
   number = item.number;
-  reply = if reads item.request then Some (service.reply machine item.request) else None;
+  reply = if service.reads item.request then Some (service.reply machine item.request) else None;
 }

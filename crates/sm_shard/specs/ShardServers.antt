@@ -90,10 +90,12 @@ IsAskedBy {Q = Q} asked shard since item =
     (ask : Ask Q) × WasAsked asked shard item.client item.number ask × (ask.request ≡ item.request)
     × (ask.since ≤ since)
 
--- the reads that wait were asked, and those of the transaction that was sent at this length of the log were asked
--- before
+-- what was sent or waits was asked, and so were the reads that wait; the reads of the transaction that was sent at this
+-- length of the log were asked before
 pub record AreAskedOf {M Q R : Type 0} (asked : List (Ask Q)) (since shard : ℕ)
     (ready : ShardState M Q R) : Type 0 where
+  pub sent : AllByRecursion (IsAsked asked shard) ready.sent.items
+  pub waiting : AllByRecursion (IsAsked asked shard) ready.waiting.items
   pub asking : AllByRecursion (IsAsked asked shard) ready.asking.items
   pub carried : AllByRecursion (IsAskedBy asked shard since) ready.carried.items
 

@@ -1,7 +1,7 @@
 -- What a step of a server ensures, whatever the store is: if what the server holds is so there, and what comes to it
 -- is, then what it holds afterwards is so, what it sends may be sent, and what it claims is so.
 use Rattle.std.specs.Prelude.{ℕ, Option, Some, None, IfSome, Result, Ok, Err, ◌≡◌, ◌≤◌, List, [], ◌∷◌, ◌++◌, length}
-use Rattle.std.specs.Prelude.{Bool, if◌then◌else◌, map}
+use Rattle.std.specs.Prelude.{if◌then◌else◌, map}
 use Rattle.std.specs.List.{AllByRecursion}
 use Rattle.sm_shard.specs.Bases.{Part, base_of}
 use Rattle.sm_store.specs.declared.head.Head.{Head}
@@ -85,7 +85,7 @@ IsInput service system since server (Read state stood head logged parts batches)
     × IsLogRead system.log server.shard head logged parts.now (map (λ batch. batch.items) batches.now)
 IsInput service system since server (RecordRead state stood) =
     WasFound (stored_record server.shard) (record_key server.shard) system.log state stood
-IsInput service system since server (Request item) = Unit {0}
+IsInput service system since server (Request item) = IsAsked system.asked server.shard item
 IsInput service system since server (Question item) = IsAsked system.asked server.shard item
 IsInput service system since server Flush = Unit {0}
 IsInput service system since server (Made revision) =
@@ -126,29 +126,29 @@ AreUndecided ready again =
     × (again.carried.items ++ again.asking.items ≡ ready.carried.items ++ ready.asking.items)
 
 -- the answers are those to what was sent, and to the reads that it carried
-abbrev pub AreAnswers : {M Q R : Type 0} → Automaton M Q R → (Q → Bool) → ShardState M Q R → StoreAnswers R → Type 0
-AreAnswers service reads ready answers =
+abbrev pub AreAnswers : {M Q R : Type 0} → Automaton M Q R → ShardState M Q R → StoreAnswers R → Type 0
+AreAnswers service ready answers =
     (answers.made.items ≡ replies_of service ready.replica.machine ready.sent.items)
-    × (answers.read.items ≡ map (read_of service reads ready.replica.machine) ready.carried.items)
+    × (answers.read.items ≡ map (read_of service ready.replica.machine) ready.carried.items)
 
--- exactly this comes of the input: by which requests only read, and how many bytes each takes in a batch
-abbrev pub IsOutputOf : {M Q R : Type 0} → Automaton M Q R → (Q → Bool) → (Q → ℕ) → ShardServer M Q R
+-- exactly this comes of the input, by how many bytes each request takes in a batch
+abbrev pub IsOutputOf : {M Q R : Type 0} → Automaton M Q R → (Q → ℕ) → ShardServer M Q R
     → ShardInput Q R → ShardOutput Q R → Type 0
-IsOutputOf service reads size server (Read state stood head logged parts batches) output = output ≡ Nothing
-IsOutputOf {Q = Q} service reads size server (RecordRead state stood) output =
+IsOutputOf service size server (Read state stood head logged parts batches) output = output ≡ Nothing
+IsOutputOf {Q = Q} service size server (RecordRead state stood) output =
     (again : Undecided Q) × (output ≡ Decides again) × IfSome server.ready (λ ready. AreUndecided ready again)
-IsOutputOf service reads size server (Request item) output =
+IsOutputOf service size server (Request item) output =
     output ≡ Decided (server_decision server.limits size server.ready server.me item)
-IsOutputOf service reads size server (Question item) output =
+IsOutputOf service size server (Question item) output =
     output ≡ Decided (server_read_decision server.limits server.ready server.me item)
-IsOutputOf service reads size server Flush output =
+IsOutputOf service size server Flush output =
     output ≡ (if server_sends server.limits size server.ready then Sends else Nothing)
-IsOutputOf {R = R} service reads size server (Made revision) output =
+IsOutputOf {R = R} service size server (Made revision) output =
     (answers : StoreAnswers R) × (output ≡ Answers answers)
-    × IfSome server.ready (λ ready. AreAnswers service reads ready answers)
-IsOutputOf {Q = Q} service reads size server Lost output =
+    × IfSome server.ready (λ ready. AreAnswers service ready answers)
+IsOutputOf {Q = Q} service size server Lost output =
     (again : Undecided Q) × (output ≡ Decides again) × IfSome server.ready (λ ready. AreUndecided ready again)
-IsOutputOf service reads size server Base output = output ≡ (if server_begins server.ready then Bases else Nothing)
-IsOutputOf service reads size server PartsMade output = output ≡ Nothing
-IsOutputOf service reads size server (Clear key) output =
+IsOutputOf service size server Base output = output ≡ (if server_begins server.ready then Bases else Nothing)
+IsOutputOf service size server PartsMade output = output ≡ Nothing
+IsOutputOf service size server (Clear key) output =
     output ≡ (if server_behind server.shard server.ready key then Clears key else Nothing)

@@ -1,5 +1,5 @@
 -- All shards of one server: each is a server of its own, by the law of all servers.
-use Rattle.std.specs.Prelude.{ℕ, Bool, ◌+◌, Some, Result, IfOk, ◌≡◌, List, [], ◌∷◌, length, slice_get, slice_set}
+use Rattle.std.specs.Prelude.{ℕ, ◌+◌, Some, Result, IfOk, ◌≡◌, List, [], ◌∷◌, length, slice_get, slice_set}
 use Rattle.sm_store.specs.Clients.{Automaton}
 use Rattle.sm_shard.specs.declared.replica.ReplayFault.{ReplayFault}
 use Rattle.sm_shard.specs.declared.shard_server.ShardServer.{ShardServer}
@@ -25,7 +25,7 @@ pub record AreAllShards {M Q R : Type 0} (me count number : ℕ) (servers : List
   pub each : AreShardsFrom me count 0 servers
 
 -- the shard's server makes a step, and the others stay
-pub record IsStoreStep {M Q R : Type 0} (service : Automaton M Q R) (reads : Q → Bool) (size : Q → ℕ)
+pub record IsStoreStep {M Q R : Type 0} (service : Automaton M Q R) (size : Q → ℕ)
     (olds : List (ShardServer M Q R)) (shard : ℕ) (input : ShardInput Q R)
     (result : Result (ShardOutput Q R) ReplayFault)
     (news : List (ShardServer M Q R)) : Type 0 where
@@ -33,7 +33,7 @@ pub record IsStoreStep {M Q R : Type 0} (service : Automaton M Q R) (reads : Q �
   pub new : ShardServer M Q R
   pub was : slice_get olds shard ≡ Some old
   pub is : news ≡ slice_set olds shard new
-  pub exact : IfOk result (IsOutputOf service reads size old input)
+  pub exact : IfOk result (IsOutputOf service size old input)
   pub call : IsStepOf service old input result new
   pub me : new.me ≡ old.me
   pub shard_is : new.shard ≡ old.shard

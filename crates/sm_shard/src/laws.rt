@@ -3,12 +3,14 @@
 ghost use Rattle.std.specs.Prelude.{◌≡◌, List};
 ghost use Rattle.sm_store.specs.Clients.{Automaton};
 ghost use Rattle.sm_store.specs.Deeds.{Charter};
+ghost use Rattle.sm_store.specs.Linear.{IsLinear};
 ghost use Rattle.sm_store.specs.System.{IsLawful};
 ghost use Rattle.sm_shard.specs.Bases.{Part, base_of};
-ghost use Rattle.sm_shard.specs.Fleet.{Act, MightAct, fleet_after};
+ghost use Rattle.sm_shard.specs.Fleet.{Act, MightAct, OthersAskFor, events_of, fleet_after};
 
 use crate::base_part::BasePart;
-use sm_store::laws::runs_are_lawful;
+use crate::store_machine::StoreMachine;
+use sm_store::laws::{runs_are_lawful, runs_are_linear};
 
 /// The law of the store holds in every run of any number of servers, each step of which is a step of the code, with
 /// any messages lost, late or twice, any process stopped, forgotten and started at any moment, and any control that
@@ -19,4 +21,15 @@ pub fn fleets_are_lawful<Q, R, M>()
         → IsLawful service charter (fleet_after acts).system }
 {
     runs_are_lawful::<Q, BasePart<R>, R, M>();
+}
+
+/// Replies of any number of servers over a shared store are linearizable, if each server is given only requests that
+/// came, and nobody else makes a request that wasn't asked. Each step of a server is a step of the code; messages come
+/// late, twice or never, and processes stop, forget and start.
+pub fn fleets_are_linear<Q: Drop, R: Copy + Drop, M: StoreMachine<Q, R>>()
+    ensures { (charter : Charter Q (Part R)) (acts : List (Act M Q R)) → charter.parts ≡ base_of M.service
+        → MightAct M.service charter acts → OthersAskFor acts → IsLinear M.service (events_of acts) }
+{
+    runs_are_lawful::<Q, BasePart<R>, R, M>();
+    runs_are_linear::<Q, BasePart<R>, R, M>();
 }

@@ -231,7 +231,7 @@ pub fn read_all<Q: Drop, R: Copy + Drop, M: StoreMachine<Q, R>>(
     machine: &M,
     items: &[Item<Q>],
 ) -> Result<Vec<ReadReply<R>>, AllocError>
-    ensures { IfOk result (λ reads. reads.items ≡ map (read_of M.service M.reads machine.now) items.now) }
+    ensures { IfOk result (λ reads. reads.items ≡ map (read_of M.service machine.now) items.now) }
 {
     let mut reads = Vec::new(alloc);
     for item in items {

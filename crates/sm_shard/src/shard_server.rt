@@ -167,7 +167,7 @@ impl<Q: Drop, R: Copy + Drop, M: StoreMachine<Q, R>> ShardServer<M, Q, R> {
         ensures known { (log : StoreLog Q R) → IsTrueOf M.service log self.old
             → IsTrueOf M.service log self.new }
         ensures asked { (asked : List (Ask Q)) (since : ℕ) → AreAsked asked since self.old
-            → AreAsked asked since self.new }
+            → IsAsked asked self.old.shard item → AreAsked asked since self.new }
         ensures decision { IfOk result (λ decision. decision
             ≡ server_decision self.old.limits M.size self.old.ready self.old.me item) }
         // What forgets enough isn't refused so.
@@ -266,7 +266,7 @@ impl<Q: Drop, R: Copy + Drop, M: StoreMachine<Q, R>> ShardServer<M, Q, R> {
         ensures made { IfOk result (λ answers. IfSome self.old.ready (λ ready. answers.made.items
             ≡ replies_of M.service ready.replica.machine ready.sent.items)) }
         ensures answered { IfOk result (λ answers. IfSome self.old.ready (λ ready. answers.read.items
-            ≡ map (read_of M.service M.reads ready.replica.machine) ready.carried.items)) }
+            ≡ map (read_of M.service ready.replica.machine) ready.carried.items)) }
         ensures told { IfOk result (λ answers. (system : StoreSystem Q R)
             → IsTrueOf M.service system.log self.old
             → IfSome self.old.ready (λ ready. WereMade system.log self.old.me self.old.shard revision ready)

@@ -77,7 +77,7 @@ pub fn step<Q: Drop, R: Copy + Drop, M: StoreMachine<Q, R>>(
     ensures shard { server.new.shard ≡ server.old.shard }
     ensures count { server.new.count ≡ server.old.count }
     ensures limits { server.new.limits ≡ server.old.limits }
-    ensures exact { IfOk result (IsOutputOf M.service M.reads M.size server.old input.entry) }
+    ensures exact { IfOk result (IsOutputOf M.service M.size server.old input.entry) }
     ensures call { IsStepOf M.service server.old input.entry result server.new }
 {
     match input {

@@ -1,16 +1,14 @@
-ghost use Rattle.std.specs.Prelude.{◌≡◌, ℕ, Bool, List, IfOk, OnOk, Some, None, if◌then◌else◌};
+ghost use Rattle.std.specs.Prelude.{◌≡◌, ℕ, List, IfOk, OnOk, Some, None, if◌then◌else◌};
 ghost use Rattle.sm_store.specs.declared.item.Item.{Item as ItemValue};
-ghost use Rattle.sm_store.specs.Clients.{Automaton, state_after};
+ghost use Rattle.sm_store.specs.Clients.{Automaton, ReadsLeave, state_after};
 
 use std::alloc::{AllocError, Global};
 
 /// A state that answers requests one at a time.
 pub trait StoreMachine<Q: Drop, R: Copy + Drop>: Drop {
-    /// The machine before any request, after a request, its reply to a request, and the bytes that stand for it.
+    /// The machine before any request, after a request, its reply to a request, the requests that only read, which are
+    /// answered without being made, and the bytes that stand for the machine.
     ghost service: { Automaton Self Q R };
-
-    /// The requests that only read, and so are answered without being made.
-    ghost reads: { Q → Bool };
 
     /// The bytes that a request takes in a batch.
     ghost size: { Q → ℕ };
@@ -26,7 +24,7 @@ pub trait StoreMachine<Q: Drop, R: Copy + Drop>: Drop {
     /// The reply to a request that only reads, and none to any other.
     fn peek(&self, alloc: Global, request: &Q) -> Result<Option<R>, AllocError>
         ensures { IfOk result (λ found. found
-            ≡ (if reads request.now then Some (service.reply self.now request.now) else None)) };
+            ≡ (if service.reads request.now then Some (service.reply self.now request.now) else None)) };
 
     /// The bytes that the request takes in a batch.
     fn size_of(request: &Q) -> u64
@@ -41,4 +39,7 @@ pub trait StoreMachine<Q: Drop, R: Copy + Drop>: Drop {
     fn load(alloc: Global, bytes: &[u8]) -> Result<Option<Self>, AllocError>
         ensures { (items : List (ItemValue Q)) → bytes.now ≡ service.spelled (state_after service service.start items)
             → IfOk result (λ found. found ≡ Some (state_after service service.start items)) };
+
+    /// A request that only reads leaves each machine as it is.
+    ghost reads_leave: { ReadsLeave service };
 }

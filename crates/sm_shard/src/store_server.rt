@@ -64,7 +64,7 @@ impl<Q: Drop, R: Copy + Drop, M: StoreMachine<Q, R>> StoreServer<M, Q, R> {
         input: ShardInput<'_, Q, R>,
     ) -> Result<ShardOutput<Q, R>, ReplayFault>
         ensures step { shard < length self.old.servers.items
-            → IsStoreStep M.service M.reads M.size self.old.servers.items shard input.entry result
+            → IsStoreStep M.service M.size self.old.servers.items shard input.entry result
             self.new.servers.items }
         ensures unknown { length self.old.servers.items ≤ shard
             → (result ≡ Err UnknownShard) × (self.new.servers.items ≡ self.old.servers.items) }

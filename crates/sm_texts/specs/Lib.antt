@@ -1,3 +1,5 @@
 pub mod Parts
 pub mod Texts
 pub mod Saves
+pub mod Keys
+pub mod lemmas

@@ -10,12 +10,14 @@
 //! ```
 #![tactic(auto)]
 
+pub mod key_bytes;
 pub mod parts;
 pub mod requests;
 mod saves;
 pub mod store_texts;
 pub mod text_reply;
 
+pub use key_bytes::spelled_keys;
 pub use parts::{read_base_part, write_base_part};
 pub use requests::parts_of;
 pub use sm_map::val::Val;

@@ -16,6 +16,8 @@ use std::marker::Model;
 #[derive(Drop)]
 pub struct StoreTexts {
     map: ArenaMap,
+    // If memory was refused to move the map, the next try waits until so many bytes are dead.
+    tries_at: u128,
 }
 
 impl Model for StoreTexts {
@@ -30,17 +32,16 @@ impl Model for StoreTexts {
 impl StoreMachine<Vec<u8>, TextReply> for StoreTexts {
     ghost use Rattle.std.specs.Prelude.{length};
     ghost use Rattle.sm_texts.specs.Saves.{texts_service};
-    ghost use Rattle.sm_texts.specs.Texts.{is_read};
+    ghost use Rattle.sm_texts.specs.lemmas.Reads.{reads_leave};
 
     ghost service = { texts_service };
-
-    ghost reads = { λ request. is_read request.items };
 
     ghost size = { λ request. length request.items };
 
     fn new(alloc: Global) -> StoreTexts {
         StoreTexts {
             map: ArenaMap::new(alloc),
+            tries_at: 0,
         }
     }
 
@@ -75,17 +76,19 @@ impl StoreMachine<Vec<u8>, TextReply> for StoreTexts {
 
     fn load(alloc: Global, bytes: &[u8]) -> Result<Option<StoreTexts>, AllocError> {
         match load(alloc, bytes)? {
-            Some(map) => Ok(Some(StoreTexts { map })),
+            Some(map) => Ok(Some(StoreTexts { map, tries_at: 0 })),
             None => Ok(None),
         }
     }
+
+    ghost reads_leave = { λ pairs request reads. reads_leave pairs request.items reads };
 }
 
 impl StoreTexts {
-    ghost use Rattle.std.specs.Prelude.{◌≡◌};
+    ghost use Rattle.std.specs.Prelude.{◌≡◌, IfOk, length, map, take};
     ghost use Rattle.std.specs.Option.{option_map};
-    ghost use Rattle.sm_map.specs.KeyMap.{held_at};
-    ghost use Rattle.sm_map.specs.Val.{held_of};
+    ghost use Rattle.sm_map.specs.KeyMap.{held_at, within};
+    ghost use Rattle.sm_map.specs.Val.{held_of, row_of};
 
     /// What the key holds, or none where it holds nothing.
     pub fn look(&self, key: &[u8]) -> Option<Val<'_>>
@@ -94,13 +97,43 @@ impl StoreTexts {
         self.map.get(key)
     }
 
-    // Moves the map into fresh memory where much of the old is dead; where that is refused, it stays.
+    /// Returns how many keys hold something.
+    pub fn count(&self) -> u128
+        ensures { result ≡ length self.now }
+    {
+        self.map.len()
+    }
+
+    /// Returns the pairs with keys from low on and below high, in the order of their keys, and of these the first
+    /// `most`.
+    ///
+    /// # Errors
+    ///
+    /// `AllocError` if memory is refused.
+    pub fn scan(
+        &self,
+        low: &[u8],
+        high: &[u8],
+        most: usize,
+    ) -> Result<Vec<(&[u8], Val<'_>)>, AllocError>
+        ensures { IfOk result (λ rows. map row_of rows.items ≡ take most (within self.now low.now high.now)) }
+    {
+        self.map.scan(low, high, most)
+    }
+
+    // Moves the map into fresh memory if much of the old is dead. If memory is refused, the map stays, and the next try
+    // waits until twice as much is dead.
     fn drop_the_dead(&mut self)
         ensures { self.new ≡ self.old }
     {
-        if self.map.dead() > MAX_DEAD && self.map.dead() > self.map.bytes() {
-            if let Ok(moved) = self.map.copy() {
-                self.map = moved;
+        let dead = self.map.dead();
+        if dead > MAX_DEAD && dead > self.map.bytes() && dead >= self.tries_at {
+            match self.map.copy() {
+                Ok(moved) => {
+                    self.map = moved;
+                    self.tries_at = 0;
+                }
+                Err(_) => self.tries_at = dead.saturating_mul(2),
             }
         }
     }

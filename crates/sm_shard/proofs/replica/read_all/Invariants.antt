@@ -5,4 +5,4 @@ use Rattle.sm_shard.proofs.replica.read_all.Given as goal
 abbrev pub invariant-loop-item : goal.invariant-loop-item
 invariant-loop-item g l =
     let machine = g.M.StoreMachine in
-    l.reads.items ≡ map (read_of machine.service machine.reads l.machine) (take l.item-index l.items)
+    l.reads.items ≡ map (read_of machine.service l.machine) (take l.item-index l.items)

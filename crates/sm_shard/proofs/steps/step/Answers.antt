@@ -123,7 +123,7 @@ returns-in-PartsMade-clause-call g c = λ charter system since count parts right
 pub returns-in-Record-clause-exact : goal.returns-in-Record-clause-exact
 returns-in-Record-clause-exact g c =
     let again = c.on_record.result in
-    subst (λ (i : ShardInput g.row.Q.Denot g.row.R.Denot). IsOutputOf g.M.StoreMachine.service g.M.StoreMachine.reads
+    subst (λ (i : ShardInput g.row.Q.Denot g.row.R.Denot). IsOutputOf g.M.StoreMachine.service
     g.M.StoreMachine.size c.args.server.now i (Decides again)) (sym c.in-Record.is) (
       again,
       refl,
@@ -138,7 +138,7 @@ returns-in-Record-clause-exact g c =
 pub returns-in-Lost-clause-exact : goal.returns-in-Lost-clause-exact
 returns-in-Lost-clause-exact g c =
     let again = c.on_lost.result in
-    subst (λ (i : ShardInput g.row.Q.Denot g.row.R.Denot). IsOutputOf g.M.StoreMachine.service g.M.StoreMachine.reads
+    subst (λ (i : ShardInput g.row.Q.Denot g.row.R.Denot). IsOutputOf g.M.StoreMachine.service
     g.M.StoreMachine.size c.args.server.now i (Decides again)) (sym c.in-Lost.is) (
       again,
       refl,
@@ -154,7 +154,7 @@ pub returns-in_ok-on_made-in-Made-clause-exact : goal.returns-in_ok-on_made-in-M
 returns-in_ok-on_made-in-Made-clause-exact g c =
     let answers = c.in_ok-on_made-in-Made.field-0 in
     let done = c.in_ok-on_made-in-Made.ensures in
-    subst (λ (i : ShardInput g.row.Q.Denot g.row.R.Denot). IsOutputOf g.M.StoreMachine.service g.M.StoreMachine.reads
+    subst (λ (i : ShardInput g.row.Q.Denot g.row.R.Denot). IsOutputOf g.M.StoreMachine.service
     g.M.StoreMachine.size c.args.server.now i (Answers answers)) (sym c.in-Made.is) (
       answers,
       refl,
@@ -162,6 +162,6 @@ returns-in_ok-on_made-in-Made-clause-exact g c =
           (λ (ready : ShardState g.row.M.Denot g.row.Q.Denot g.row.R.Denot).
           answers.made.items ≡ replies_of g.M.StoreMachine.service ready.replica.machine ready.sent.items)
           (λ (ready : ShardState g.row.M.Denot g.row.Q.Denot g.row.R.Denot). answers.read.items
-          ≡ map (read_of g.M.StoreMachine.service g.M.StoreMachine.reads ready.replica.machine) ready.carried.items)
+          ≡ map (read_of g.M.StoreMachine.service ready.replica.machine) ready.carried.items)
           done.made done.answered,
     )

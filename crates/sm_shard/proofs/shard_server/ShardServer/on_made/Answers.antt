@@ -8,13 +8,13 @@ use Rattle.sm_shard.proofs.shard_server.ShardServer.on_made.Goals as goal
 
 pub returns-then-is_empty-clause-read : goal.returns-then-is_empty-clause-read
 returns-then-is_empty-clause-read g c = λ system since known asked held.
-    reads_told g.M.StoreMachine.service system g.M.StoreMachine.reads since c.args.self.now.me
+    reads_told g.M.StoreMachine.service system since c.args.self.now.me
     c.args.self.now.shard c.args.self.now.ready c.in-Some.ready (sym c.take.ensures.value ∙ c.in-Some.is) known asked
     held c.deref.result.now c.deref.ensures.value c.in_ok-read.read.items c.in_ok-read.ensures
 
 pub returns-clause-read : goal.returns-clause-read
 returns-clause-read g c = λ system since known asked held.
-    reads_told g.M.StoreMachine.service system g.M.StoreMachine.reads since c.args.self.now.me
+    reads_told g.M.StoreMachine.service system since c.args.self.now.me
     c.args.self.now.shard c.args.self.now.ready c.in-Some.ready (sym c.take.ensures.value ∙ c.in-Some.is) known asked
     held c.deref.result.now c.deref.ensures.value c.in_ok-read.read.items c.in_ok-read.ensures
 

@@ -4,7 +4,7 @@ use Rattle.sm_shard.proofs.store_server.StoreServer.step.Goals as goal
 pub returns-clause-step : goal.returns-clause-step
 returns-clause-step g c = λ within.
     let done = c.step.ensures in
-    stepped g.M.StoreMachine.service g.M.StoreMachine.reads g.M.StoreMachine.size c.args.self.now.servers.items
+    stepped g.M.StoreMachine.service g.M.StoreMachine.size c.args.self.now.servers.items
     c.args.shard c.index-2.result
     c.index_mut-server.result.now c.step.new.server c.args.input c.step.result c.index-2.ensures.value within
     c.index_mut-server.ensures.value done.exact done.call done.me done.shard done.count done.limits
