@@ -14,6 +14,7 @@ use Rattle.sm_codec.specs.declared.fault.Fault.{Fault}
 use Rattle.sm_codec.specs.declared.fault.Fault.TheVariants.{Short, Version, Trailing}
 use Rattle.sm_ownership.specs.declared.mode.Mode.{Mode}
 use Rattle.sm_ownership.specs.declared.mode.Mode.TheVariants.{Direct, Forwarded}
+use Rattle.sm_ranges.specs.declared.limits.TheConstants.{MAX_SERVER}
 use Rattle.sm_ranges.specs.ServerId.{IsServer}
 use Rattle.sm_codec.specs.Spelling.{FitsMode, mode_number, string_bytes}
 use Rattle.sm_codec.specs.Reading.{◌>>=◌, all_read, byte_in, mode_in, mode_named, named_in, number_in, server_in}
@@ -219,15 +220,15 @@ above_none n apart = let differs = eqb-false n 0 apart in omega arith
 server_apart : (n : ℕ) → IsServer n → eqb n 0 ≡ false
 server_apart n is = ne_eqb n 0 (λ (none : n ≡ 0). let above = is.0 in omega arith)
 
-server_within : (n : ℕ) → IsServer n → ltb 4095 n ≡ false
-server_within n is = let below = is.1 in le-ltb 4095 n (omega arith)
+server_within : (n : ℕ) → IsServer n → ltb MAX_SERVER n ≡ false
+server_within n is = let below = is.1 in le-ltb MAX_SERVER n (omega arith)
 
 some-inj : {A : Type 0} (x y : A) → Some x ≡ Some y → x ≡ y
 some-inj x y e = cc
 
 -- how a request came that has a number above 0
 abbrev later : ℕ → Option Mode
-later n = cond (ltb 4095 n) None (Some (Forwarded n))
+later n = cond (ltb MAX_SERVER n) None (Some (Forwarded n))
 
 -- what a number names in bytes that are read
 named_takes : {A : Type 0} (found : Option A) (rest : List ℕ) (x : A × List ℕ) → named_in found rest ≡ Ok x
@@ -241,12 +242,12 @@ named_takes {A = A} (Some value) rest x e =
 server_some : (n value : ℕ) → server_named n ≡ Some value → (n ≡ value) × IsServer n
 server_some n value e =
     ⊎_elim
-    (λ (yes : (eqb n 0 || ltb 4095 n) ≡ true). absurd (none-some value (sym (cond-true _ None (Some n) yes) ∙ e)))
-    (λ (apart : (eqb n 0 || ltb 4095 n) ≡ false).
-    let parts = or_parts (eqb n 0) (ltb 4095 n) apart in
+    (λ (yes : (eqb n 0 || ltb MAX_SERVER n) ≡ true). absurd (none-some value (sym (cond-true _ None (Some n) yes) ∙ e)))
+    (λ (apart : (eqb n 0 || ltb MAX_SERVER n) ≡ false).
+    let parts = or_parts (eqb n 0) (ltb MAX_SERVER n) apart in
     let same : n ≡ value = some-inj n value (sym (cond-false _ None (Some n) apart) ∙ e) in
-    (same, (above_none n parts.0, ltb-false 4095 n parts.1)))
-    (cases_Bool (eqb n 0 || ltb 4095 n))
+    (same, (above_none n parts.0, ltb-false MAX_SERVER n parts.1)))
+    (cases_Bool (eqb n 0 || ltb MAX_SERVER n))
 
 pub server_takes : (bytes : List ℕ) (x : ℕ × List ℕ) → IsBytes bytes → server_in bytes ≡ Ok x
     → Takes bytes (to_be_bytes w32 x.0) x.1 × IsServer x.0
@@ -280,13 +281,14 @@ mode_some n value e =
     (λ (apart : eqb n 0 ≡ false).
     let rest : later n ≡ Some value = sym (cond-false _ (Some Direct) (later n) apart) ∙ e in
     ⊎_elim
-    (λ (over : ltb 4095 n ≡ true). absurd (none-some value (sym (cond-true _ None (Some (Forwarded n)) over) ∙ rest)))
-    (λ (within : ltb 4095 n ≡ false).
+    (λ (over : ltb MAX_SERVER n ≡ true).
+    absurd (none-some value (sym (cond-true _ None (Some (Forwarded n)) over) ∙ rest)))
+    (λ (within : ltb MAX_SERVER n ≡ false).
     let same : Forwarded n ≡ value =
     some-inj (Forwarded n) value (sym (cond-false _ None (Some (Forwarded n)) within) ∙ rest) in
     subst (λ (m : Mode). (mode_number m ≡ n) × FitsMode m) same
-    (refl, (above_none n apart, ltb-false 4095 n within)))
-    (cases_Bool (ltb 4095 n)))
+    (refl, (above_none n apart, ltb-false MAX_SERVER n within)))
+    (cases_Bool (ltb MAX_SERVER n)))
     (cases_Bool (eqb n 0))
 
 pub mode_takes : (bytes : List ℕ) (x : Mode × List ℕ) → IsBytes bytes → mode_in bytes ≡ Ok x

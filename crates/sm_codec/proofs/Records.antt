@@ -1,4 +1,4 @@
--- Settings and records: what is read is spelled so, and what is spelled so is read.
+-- Records: what is read is spelled so, and what is spelled so is read.
 use Rattle.std.proofs.Common.{◌≡◌, ℕ, ◌^◌, ◌<◌, List, Option, Some, None, Ok, sym, ap, ◌∙◌}
 use Rattle.std.proofs.Common.{arith}
 use Rattle.std.proofs.lemmas.Option.{none-some}
@@ -7,10 +7,9 @@ use Rattle.sm_ranges.specs.declared.stand.Stand.{Stand}
 use Rattle.sm_ranges.specs.declared.stand.Stand.TheVariants.{Vacant, Serving, Prepared, Forwarding, Taken, Paused}
 use Rattle.sm_word.specs.Word.{IsWellFormed, phase_of, word_of}
 use Rattle.sm_word.specs.lemmas.Words.{bit_below, other_below, owner_below}
-use Rattle.sm_codec.specs.declared.store_settings.StoreSettings.{StoreSettings}
 use Rattle.sm_codec.specs.declared.stored_record.StoredRecord.{StoredRecord}
 use Rattle.sm_codec.specs.Reading.{pair_in}
-use Rattle.sm_codec.specs.Spelling.{pair_bytes, record_bytes, settings_bytes}
+use Rattle.sm_codec.specs.Spelling.{pair_bytes, record_bytes}
 use Rattle.sm_codec.proofs.FieldLemmas.{IsBytes, done, ok_is}
 use Rattle.sm_codec.proofs.Heads.{pair_again, pair_takes}
 
@@ -25,13 +24,6 @@ pair_is bytes first second count ceiling one two is read =
     let these : ℕ × ℕ = (count, ceiling) in
     let again : pair_in bytes ≡ done those = ap pair_in is ∙ pair_again first second one two in
     ok_is those these (sym again ∙ read)
-
-pub settings_only : (bytes : List ℕ) (count ceiling : ℕ) (settings : StoreSettings) → settings.count < 2 ^ 64
-    → settings.ceiling < 2 ^ 64 → bytes ≡ settings_bytes settings → pair_in bytes ≡ Ok (count, ceiling)
-    → done settings ≡ done (record { count = count; ceiling = ceiling })
-settings_only bytes count ceiling settings one two is read =
-    ap (λ (p : ℕ × ℕ). done (record { count = p.0; ceiling = p.1 }))
-    (pair_is bytes settings.count settings.ceiling count ceiling one two is read)
 
 pub record_found : (bytes : List ℕ) (word process : ℕ) (state : Record) → IsBytes bytes
     → pair_in bytes ≡ Ok (word, process) → word_of state ≡ word

@@ -6,16 +6,16 @@ use Rattle.std.specs.Prelude.{if◌then◌else◌}
 use Rattle.std.specs.Int.{Width, w32, w64, byte_len, from_be_bytes}
 use Rattle.sm_ownership.specs.declared.mode.Mode.{Mode}
 use Rattle.sm_ownership.specs.declared.mode.Mode.TheVariants.{Direct, Forwarded}
+use Rattle.sm_ranges.specs.declared.limits.TheConstants.{MAX_SERVER}
 use Rattle.sm_store.specs.declared.head.Head.{Head}
 use Rattle.sm_store.specs.declared.item.Item.{Item}
 use Rattle.sm_codec.specs.declared.fault.Fault.{Fault}
 use Rattle.sm_codec.specs.declared.fault.Fault.TheVariants.{Short, Version, Server, Trailing}
-use Rattle.sm_codec.specs.declared.fault.Fault.TheVariants.{State, Address}
+use Rattle.sm_codec.specs.declared.fault.Fault.TheVariants.{State}
 use Rattle.sm_codec.specs.declared.fault.ReadError.{ReadError}
 use Rattle.sm_codec.specs.declared.fault.ReadError.TheVariants as errors
-use Rattle.sm_codec.specs.declared.stored_server.TheConstants.{MAX_ADDRESS}
 use Rattle.sm_codec.specs.declared.stored_state.StoredState.{StoredState}
-use Rattle.sm_codec.specs.Spelling.{Batch, PartText, ServerKey}
+use Rattle.sm_codec.specs.Spelling.{Batch, PartText}
 use Rattle.sm_place.specs.declared.server_state.ServerState.{ServerState}
 use Rattle.sm_place.specs.declared.server_state.ServerState.TheVariants.{Up, Asked, Approved, Stopped, Failed}
 
@@ -63,11 +63,12 @@ string_in bytes = do
 
 -- the server of a number, which is 1 to 4,095
 abbrev pub server_named : ℕ → Option ℕ
-server_named number = if number == 0 || nat_lt 4095 number then None else Some number
+server_named number = if number == 0 || nat_lt MAX_SERVER number then None else Some number
 
 -- how a request came, by its number: from a client for 0, or by way of this server
 abbrev pub mode_named : ℕ → Option Mode
-mode_named number = if number == 0 then Some Direct else if nat_lt 4095 number then None else Some (Forwarded number)
+mode_named number =
+    if number == 0 then Some Direct else if nat_lt MAX_SERVER number then None else Some (Forwarded number)
 
 -- what a number names, where it names anything
 abbrev pub named_in : {A : Type 0} → Option A → List ℕ → Result (A × List ℕ) Fault
@@ -103,13 +104,6 @@ pair_in bytes = do
   second ← number_in w64 first.1
   all_read (first.0, second.0) second.1
 
--- a process
-unfoldable pub process_in : List ℕ → Result ℕ Fault
-process_in bytes = do
-  rest ← version_in bytes
-  process ← number_in w64 rest
-  all_read process.0 process.1
-
 -- the state of a server that has this number
 abbrev pub state_named : ℕ → Option ServerState
 state_named number =
@@ -130,20 +124,6 @@ unfoldable pub state_in : List ℕ → Result StoredState Fault
 state_in bytes = do
   pair ← pair_in bytes
   state_by (state_named pair.0) pair.1
-
--- an address, which is no longer than may be
-unfoldable pub address_in : List ℕ → Result (List ℕ × List ℕ) Fault
-address_in bytes = do
-  string ← string_in bytes
-  if nat_lt MAX_ADDRESS (length string.0) then Err Address else Ok (string.0, string.1)
-
--- a server's key
-unfoldable pub server_key_in : List ℕ → Result ServerKey Fault
-server_key_in bytes = do
-  rest ← version_in bytes
-  revision ← number_in w64 rest
-  address ← address_in revision.1
-  all_read (record { revision = revision.0; address = address.0 }) address.1
 
 -- a request of a batch
 unfoldable pub item_in : List ℕ → Result (Item (List ℕ) × List ℕ) Fault

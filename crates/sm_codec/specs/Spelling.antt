@@ -1,6 +1,6 @@
 -- What lies at the store's keys, as bytes: a byte for the version, which is 1, and then each field, of a number the
 -- highest byte first.
-use Rattle.std.specs.Prelude.{ℕ, ◌<◌, ◌≤◌, ◌^◌, List, ◌∷◌, ◌++◌, length, map}
+use Rattle.std.specs.Prelude.{ℕ, ◌<◌, ◌^◌, List, ◌∷◌, ◌++◌, length, map}
 use Rattle.std.specs.Global.{Vec}
 use Rattle.std.specs.List.{flat_map, AllByRecursion}
 use Rattle.std.specs.Int.{w32, w64, to_be_bytes}
@@ -12,12 +12,9 @@ use Rattle.sm_store.specs.declared.item.Item.{Item}
 use Rattle.sm_place.specs.declared.server_state.ServerState.{ServerState}
 use Rattle.sm_place.specs.declared.server_state.ServerState.TheVariants.{Up, Asked, Approved, Stopped, Failed}
 use Rattle.sm_word.specs.Word.{word_of}
-use Rattle.sm_codec.specs.declared.store_settings.StoreSettings.{StoreSettings}
 use Rattle.sm_codec.specs.declared.stored_batch.StoredBatch.{StoredBatch}
 use Rattle.sm_codec.specs.declared.stored_part.StoredPart.{StoredPart}
 use Rattle.sm_codec.specs.declared.stored_record.StoredRecord.{StoredRecord}
-use Rattle.sm_codec.specs.declared.stored_server.StoredServer.{StoredServer}
-use Rattle.sm_codec.specs.declared.stored_server.TheConstants.{MAX_ADDRESS}
 use Rattle.sm_codec.specs.declared.stored_state.StoredState.{StoredState}
 
 -- the head of a shard's log
@@ -38,10 +35,6 @@ pair_bytes first second = 1 ∷ (to_be_bytes w64 first ++ to_be_bytes w64 second
 abbrev pub record_bytes : StoredRecord → List ℕ
 record_bytes stored = pair_bytes (word_of stored.state) stored.process
 
--- what all processes of a store go by
-abbrev pub settings_bytes : StoreSettings → List ℕ
-settings_bytes settings = pair_bytes settings.count settings.ceiling
-
 -- a process: who leads, or made the latest command
 abbrev pub process_bytes : ℕ → List ℕ
 process_bytes process = 1 ∷ to_be_bytes w64 process
@@ -61,24 +54,6 @@ state_bytes stored = pair_bytes (state_number stored.state) stored.process
 -- a number of bytes, and so many bytes
 abbrev pub string_bytes : List ℕ → List ℕ
 string_bytes bytes = to_be_bytes w32 (length bytes) ++ bytes
-
--- what lies at a server's key, without where it lies in memory: up to which revision it has read, and its address
-pub record ServerKey : Type 0 where
-  pub revision : ℕ
-  pub address : List ℕ
-
--- such a key
-abbrev pub server_view : StoredServer → ServerKey
-server_view stored = record { revision = stored.revision; address = stored.address.items }
-
--- the key of a server
-abbrev pub server_key_bytes : ServerKey → List ℕ
-server_key_bytes server = 1 ∷ (to_be_bytes w64 server.revision ++ string_bytes server.address)
-
--- a server's key that has bytes
-pub record FitsServer (server : ServerKey) : Type 0 where
-  pub revision : server.revision < 2 ^ 64
-  pub address : length server.address ≤ MAX_ADDRESS
 
 -- how a request came: the server that forwarded it, or 0
 abbrev pub mode_number : Mode → ℕ

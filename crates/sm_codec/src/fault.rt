@@ -22,9 +22,6 @@ pub enum Fault {
     /// No state of a server has this number.
     #[error("no state of a server has the number")]
     State,
-    /// A server's address has more bytes than `MAX_ADDRESS`.
-    #[error("a server's address is too long")]
-    Address,
     /// Bytes stand after the last field.
     #[error("bytes stand after the last field")]
     Trailing,

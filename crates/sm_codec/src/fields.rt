@@ -4,6 +4,7 @@ ghost use Rattle.sm_codec.specs.Reading.{Decodes, byte_in, mode_named, number_in
 
 use crate::fault::{Fault, ReadError};
 use sm_ownership::mode::Mode;
+use sm_ranges::limits::MAX_SERVER;
 use sm_ranges::server_id::ServerId;
 use std::alloc::Global;
 
@@ -73,7 +74,7 @@ pub fn string_of(alloc: Global, bytes: &[u8]) -> Result<(Vec<u8>, &[u8]), ReadEr
 pub fn server_named(number: u32) -> Option<ServerId>
     ensures { result ≡ server_named number }
 {
-    if number == 0 || number > 4095 {
+    if number == 0 || number > u32::from(MAX_SERVER) {
         return None;
     }
     Some(ServerId::of(number as u16))
@@ -86,7 +87,7 @@ pub fn mode_named(number: u32) -> Option<Mode>
     if number == 0 {
         return Some(Mode::Direct);
     }
-    if number > 4095 {
+    if number > u32::from(MAX_SERVER) {
         return None;
     }
     Some(Mode::Forwarded(ServerId::of(number as u16)))

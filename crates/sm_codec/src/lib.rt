@@ -17,25 +17,17 @@ mod control_keys;
 mod fault;
 mod fields;
 mod reading;
-mod store_settings;
 mod stored_batch;
 mod stored_part;
 mod stored_record;
-mod stored_server;
 mod stored_state;
 mod writing;
 
-pub use control_keys::{
-    read_process, read_server, read_state, write_process, write_server, write_state,
-};
+pub use control_keys::{read_state, write_process, write_state};
 pub use fault::{Fault, ReadError};
-pub use reading::{read_batch, read_head, read_part, read_record, read_settings};
-pub use store_settings::StoreSettings;
+pub use reading::{read_batch, read_head, read_part, read_record};
 pub use stored_batch::StoredBatch;
 pub use stored_part::StoredPart;
 pub use stored_record::StoredRecord;
-pub use stored_server::{MAX_ADDRESS, StoredServer};
 pub use stored_state::StoredState;
-pub use writing::{
-    write_batch, write_head, write_part, write_record, write_requests, write_settings,
-};
+pub use writing::{write_head, write_part, write_record, write_requests};

@@ -1,19 +1,16 @@
 ghost use Rattle.std.specs.Prelude.{◌≡◌, ◌<◌, ◌^◌, ℕ, IfOk, Ok, Err};
 ghost use Rattle.sm_codec.specs.declared.fault.Fault.{Fault as FaultValue};
 ghost use Rattle.sm_codec.specs.declared.fault.Fault.TheVariants.{Word};
-ghost use Rattle.sm_codec.specs.declared.store_settings.StoreSettings.{StoreSettings as SettingsValue};
 ghost use Rattle.sm_codec.specs.declared.stored_record.StoredRecord.{StoredRecord as StoredValue};
 ghost use Rattle.sm_codec.specs.Reading.{Decodes, batch_in, head_in, item_in, items_in, pair_in, part_in};
 ghost use Rattle.sm_codec.specs.Spelling.{Batch, FitsBatch, FitsHead, batch_bytes, batch_view, head_bytes, item_view};
 ghost use Rattle.sm_codec.specs.Spelling.{FitsPart, PartText, item_views, part_bytes, part_view, record_bytes};
-ghost use Rattle.sm_codec.specs.Spelling.{settings_bytes};
 ghost use Rattle.sm_ownership.specs.declared.record.Record.{Record as RecordValue};
 ghost use Rattle.sm_store.specs.declared.head.Head.{Head as HeadValue};
 ghost use Rattle.sm_word.specs.Word.{IsWellFormed, word_of};
 
 use crate::fault::{Fault, ReadError};
 use crate::fields::{byte_at, mode_named, server_named, string_of, u32_at, u64_at, version_of};
-use crate::store_settings::StoreSettings;
 use crate::stored_batch::StoredBatch;
 use crate::stored_part::StoredPart;
 use crate::stored_record::StoredRecord;
@@ -65,19 +62,6 @@ pub(crate) fn pair_of(bytes: &[u8]) -> Result<(u64, u64), ReadError>
         return Err(ReadError::Fault(Fault::Trailing));
     }
     Ok((first, second))
-}
-
-/// The settings that the bytes spell, all of the bytes.
-pub fn read_settings(bytes: &[u8]) -> Result<StoreSettings, ReadError>
-    ensures found { IfOk result (λ settings. bytes.now ≡ settings_bytes settings) }
-    ensures only { (settings : SettingsValue) → settings.count < 2 ^ 64 → settings.ceiling < 2 ^ 64
-        → bytes.now ≡ settings_bytes settings → Decodes (λ found. found) result (Ok settings) }
-    ensures exact { Decodes (λ settings. (settings.count, settings.ceiling)) result (pair_in bytes.now) }
-{
-    match pair_of(bytes) {
-        Ok((count, ceiling)) => Ok(StoreSettings { count, ceiling }),
-        Err(error) => Err(error),
-    }
 }
 
 /// The record that the bytes spell, all of the bytes, and the process whose change led to it.

@@ -1,13 +1,11 @@
 ghost use Rattle.std.specs.Prelude.{◌≡◌, ◌<◌, ◌^◌, ◌++◌, length, IfOk, OnOk};
 ghost use Rattle.std.specs.Int.{w32, w64, to_be_bytes};
 ghost use Rattle.std.specs.List.{AllByRecursion, flat_map};
-ghost use Rattle.sm_codec.specs.Spelling.{FitsBatch, FitsItem, batch_bytes, batch_view, head_bytes, item_bytes};
+ghost use Rattle.sm_codec.specs.Spelling.{FitsBatch, FitsItem, batch_bytes, head_bytes, item_bytes};
 ghost use Rattle.sm_codec.specs.Spelling.{item_view, item_views, mode_number, pair_bytes, record_bytes};
-ghost use Rattle.sm_codec.specs.Spelling.{FitsPart, part_bytes, part_view, settings_bytes, string_bytes};
+ghost use Rattle.sm_codec.specs.Spelling.{FitsPart, part_bytes, part_view, string_bytes};
 ghost use Rattle.sm_word.specs.Word.{IsWellFormed};
 
-use crate::store_settings::StoreSettings;
-use crate::stored_batch::StoredBatch;
 use crate::stored_part::StoredPart;
 use crate::stored_record::StoredRecord;
 use sm_ownership::mode::Mode;
@@ -38,13 +36,6 @@ pub(crate) fn write_pair(alloc: Global, first: u64, second: u64) -> Result<Vec<u
     out.extend_from_slice(&first.to_be_bytes())?;
     out.extend_from_slice(&second.to_be_bytes())?;
     Ok(out)
-}
-
-/// The bytes of settings.
-pub fn write_settings(alloc: Global, settings: &StoreSettings) -> Result<Vec<u8>, AllocError>
-    ensures { IfOk result (λ bytes. bytes.items ≡ settings_bytes settings.now) }
-{
-    write_pair(alloc, settings.count, settings.ceiling)
 }
 
 /// The bytes of a well-formed record, and of the process whose change led to it.
@@ -82,8 +73,8 @@ fn put_number(out: &mut Vec<u8>, number: u64) -> Result<(), AllocError>
     Ok(())
 }
 
-/// Adds a number of bytes, and so many bytes.
-pub(crate) fn put_string(out: &mut Vec<u8>, bytes: &[u8]) -> Result<(), AllocError>
+// Adds a number of bytes, and so many bytes.
+fn put_string(out: &mut Vec<u8>, bytes: &[u8]) -> Result<(), AllocError>
     requires { length bytes.now < 2 ^ 32 }
     ensures { OnOk result (out.new.items ≡ out.old.items ++ string_bytes bytes.now) }
 {
@@ -130,14 +121,6 @@ pub fn write_requests(
     out.extend_from_slice(&(items.len() as u32).to_be_bytes())?;
     put_items(&mut out, items)?;
     Ok(out)
-}
-
-/// The bytes of a batch that has fewer than 2 ^ 32 requests, each of fewer bytes than that.
-pub fn write_batch(alloc: Global, stored: &StoredBatch) -> Result<Vec<u8>, AllocError>
-    requires { FitsBatch (batch_view stored.now) }
-    ensures { IfOk result (λ bytes. bytes.items ≡ batch_bytes (batch_view stored.now)) }
-{
-    write_requests(alloc, stored.server, &stored.items)
 }
 
 /// The bytes of a part of a base that has fewer than 2 ^ 32 bytes and last requests, each reply of fewer bytes than

@@ -1,8 +1,6 @@
 use sm_codec::{
-    Fault, MAX_ADDRESS, ReadError, StoreSettings, StoredBatch, StoredPart, StoredRecord,
-    StoredServer, StoredState, read_batch, read_head, read_part, read_process, read_record,
-    read_server, read_settings, read_state, write_batch, write_head, write_part, write_process,
-    write_record, write_server, write_settings, write_state,
+    Fault, ReadError, StoredPart, StoredRecord, StoredState, read_batch, read_head, read_part,
+    read_record, read_state, write_head, write_part, write_record, write_requests, write_state,
 };
 use sm_ownership::{Mode, Record};
 use sm_place::ServerState;
@@ -36,11 +34,7 @@ fn reads_a_batch_again(rt: HostRuntime) {
         request,
     };
     assert!(rt; items.push(item).is_ok());
-    let batch = StoredBatch {
-        server: ServerId::of(3),
-        items,
-    };
-    let mut bytes = write_batch(rt.alloc(), &batch).expect(&rt, "memory");
+    let mut bytes = write_requests(rt.alloc(), ServerId::of(3), &items).expect(&rt, "memory");
     assert!(rt; bytes.len() == 47);
     let again = read_batch(rt.alloc(), &bytes).ok().expect(&rt, "a batch");
     assert!(rt; again.server == ServerId::of(3));
@@ -71,20 +65,18 @@ fn names_a_word_of_no_record(rt: HostRuntime) {
 
 #[test]
 fn lets_no_bytes_stand(rt: HostRuntime) {
-    let settings = StoreSettings {
-        count: 8,
-        ceiling: 100,
+    let head = Head {
+        batches: 8,
+        base: 0,
+        parts: 0,
     };
-    let mut bytes = write_settings(rt.alloc(), &settings).expect(&rt, "memory");
-    assert!(rt; read_settings(&bytes) == Ok(settings));
+    let mut bytes = write_head(rt.alloc(), &head).expect(&rt, "memory");
     assert!(rt; bytes.push(0).is_ok());
-    assert!(rt; read_settings(&bytes) == Err(ReadError::Fault(Fault::Trailing)));
+    assert!(rt; read_head(&bytes) == Err(ReadError::Fault(Fault::Trailing)));
 }
 
 #[test]
-fn reads_controls_and_servers_again(rt: HostRuntime) {
-    let bytes = write_process(rt.alloc(), 7).expect(&rt, "memory");
-    assert!(rt; read_process(&bytes) == Ok(7));
+fn reads_a_state_again(rt: HostRuntime) {
     let stored = StoredState {
         state: ServerState::Failed,
         process: 7,
@@ -93,25 +85,6 @@ fn reads_controls_and_servers_again(rt: HostRuntime) {
     assert!(rt; matches!(read_state(&bytes), Ok(found) if found == stored));
     bytes[8] = 5;
     assert!(rt; matches!(read_state(&bytes), Err(ReadError::Fault(Fault::State))));
-    let stored = StoredServer {
-        revision: 12,
-        address: Vec::from_slice(rt.alloc(), b"10.0.0.1:7379").expect(&rt, "memory"),
-    };
-    let bytes = write_server(rt.alloc(), &stored).expect(&rt, "memory");
-    let found = read_server(rt.alloc(), &bytes).ok().expect(&rt, "a server");
-    assert!(rt; found.revision == 12);
-    assert!(rt; found.address.as_slice() == b"10.0.0.1:7379".as_slice());
-}
-
-#[test]
-fn reads_no_address_that_is_too_long(rt: HostRuntime) {
-    let stored = StoredServer {
-        revision: 12,
-        address: vec![in rt.alloc(); 0; MAX_ADDRESS + 1].expect(&rt, "memory"),
-    };
-    let bytes = write_server(rt.alloc(), &stored).expect(&rt, "memory");
-    let read = read_server(rt.alloc(), &bytes);
-    assert!(rt; matches!(read, Err(ReadError::Fault(Fault::Address))));
 }
 
 #[test]

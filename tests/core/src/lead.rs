@@ -16,6 +16,8 @@ use std::process::Abort;
 struct MemoryStore {
     records: [RecordRead; 4],
     states: [ServerState; 3],
+    // Whether servers' keys are there.
+    live: [bool; 3],
     elected: u64,
     placed: u64,
     revision: u64,
@@ -35,16 +37,22 @@ impl MemoryStore {
         MemoryStore {
             records: [unwritten; 4],
             states: [ServerState::Up; 3],
+            live: [false; 3],
             elected: 0,
             placed: 0,
             revision: 0,
         }
     }
 
-    // Makes what was sent, where both compares hold.
+    // Makes what was sent, where all compares hold.
     fn make(&mut self, sending: &CommandSending) -> SendOutcome {
         if sending.elected != self.elected || sending.placed != self.placed {
             return SendOutcome::Lost;
+        }
+        if let Some(server) = sending.absent {
+            if self.live[usize::from(server.number()) - 1] {
+                return SendOutcome::Lost;
+            }
         }
         self.revision += 1;
         self.placed = self.revision;
@@ -299,6 +307,28 @@ fn reassigns_after_a_failure(rt: HostRuntime) {
     }
     assert!(rt; store.records[0].state.stand == Stand::Serving(ServerId::of(2)));
     assert!(rt; control.next_of_shard(k, &all[1..]) == NextStep::Nothing);
+}
+
+// A server whose key is back before it is said to have failed stays up; no other step asks for its key.
+#[test]
+fn fails_no_server_that_is_back(rt: HostRuntime) {
+    let one = ServerId::of(1);
+    let mut store = MemoryStore::new();
+    let control = store.elect(&rt, rt.alloc(), 7);
+    assert!(rt; control.fallen_server(&followers(0)[1..]) == Some(one));
+    store.live = [true; 3];
+    let Judged::Sent(sent) = control.command(Command::Fail(one)) else {
+        return;
+    };
+    assert!(rt; sent.sending().absent == Some(one));
+    let outcome = store.make(&sent.sending());
+    assert!(rt; sent.outcome(outcome).is_none());
+    let control = store.read(&rt, rt.alloc(), 7);
+    assert!(rt; control.fallen_server(&followers(0)) == None);
+    let control = made(&rt, &mut store, control, Command::Ask(one));
+    store.live[0] = false;
+    made(&rt, &mut store, control, Command::Fail(one));
+    assert!(rt; store.states[0] == ServerState::Failed);
 }
 
 // What no commands lead to is a named fault.

@@ -1,5 +1,6 @@
-ghost use Rattle.std.specs.Prelude.{◌+◌, ◌%◌, ◌^◌, ◌==◌};
+ghost use Rattle.std.specs.Prelude.{◌+◌, ◌%◌, ◌^◌, ◌==◌, if◌then◌else◌};
 ghost use Rattle.std.specs.Int.{to_be_bytes, w64};
+ghost use Rattle.std.proofs.lemmas.Bool.{cond-true};
 
 use sm_shard::StoreMachine;
 use std::alloc::{AllocError, Global};
@@ -13,12 +14,11 @@ pub struct Sum {
 impl StoreMachine<u64, u64> for Sum {
     ghost service = { record {
       start = record { total = 0 };
-      after = λ sum amount. record { total = (sum.total + amount) % 2 ^ 64 };
+      after = λ sum amount. if amount == 0 then sum else record { total = (sum.total + amount) % 2 ^ 64 };
       reply = λ sum amount. (sum.total + amount) % 2 ^ 64;
+      reads = λ amount. amount == 0;
       spelled = λ sum. to_be_bytes w64 sum.total;
     } };
-
-    ghost reads = { λ amount. amount == 0 };
 
     ghost size = { λ amount. 8 };
 
@@ -27,8 +27,11 @@ impl StoreMachine<u64, u64> for Sum {
     }
 
     fn answer(&mut self, _: Global, request: &u64) -> Result<u64, AllocError> {
-        self.total = self.total.wrapping_add(*request);
-        Ok(self.total)
+        let total = self.total.wrapping_add(*request);
+        if *request != 0 {
+            self.total = total;
+        }
+        Ok(total)
     }
 
     fn peek(&self, _: Global, request: &u64) -> Result<Option<u64>, AllocError> {
@@ -57,4 +60,7 @@ impl StoreMachine<u64, u64> for Sum {
             ]),
         }))
     }
+
+    ghost reads_leave = { λ sum amount reads.
+        cond-true (amount == 0) sum (record { total = (sum.total + amount) % 2 ^ 64 }) reads };
 }
