@@ -36,8 +36,14 @@ typedef struct durkenzo_handle {
 
 #define DURKENZO_HANDLE_INIT {0}
 
-/* The greatest ceiling of generations. */
-#define DURKENZO_MAX_GENERATION ((UINT64_C(1) << 36) - 1)
+/* By tools/library-codes, the limits of library/codes.txt: */
+
+/* The greatest ceiling of a board's generations. */
+#define DURKENZO_MAX_GENERATION UINT64_C(68719476735)
+
+/* How often a request is forwarded at most. */
+#define DURKENZO_MOST_HOPS 4
+/* End of them. */
 
 /* What no record has for its word. */
 #define DURKENZO_NO_WORD UINT64_MAX
@@ -93,14 +99,14 @@ enum durkenzo_code {
     DURKENZO_UNKNOWN_SERVER = 30,  /* there is no such server */
     DURKENZO_LEAVING = 31,         /* the server is leaving */
     DURKENZO_NO_CAPACITY = 32,     /* the server has no room */
-    DURKENZO_DOMAIN_LIMIT = 33,    /* the server's domain has its share of the group */
+    DURKENZO_DOMAIN_LIMIT = 33,    /* the server's domain has as many shards of the group as its limit allows */
     DURKENZO_NOT_UP = 40,          /* the server isn't up */
-    DURKENZO_NOT_ASKED = 41,       /* the restart wasn't asked for */
+    DURKENZO_NOT_ASKED = 41,       /* no restart of the server is asked for */
     DURKENZO_GLOBAL_CAP = 42,      /* too many servers would be leaving */
     DURKENZO_SHARD_CAP = 43,       /* a shard may not be down */
     DURKENZO_GROUP_CAP = 44,       /* too many shards of a group would be down */
     DURKENZO_DOMAIN_CAP = 45,      /* too many servers of a domain would be down */
-    DURKENZO_NOT_APPROVED = 46,    /* the restart isn't approved */
+    DURKENZO_NOT_APPROVED = 46,    /* the server's restart isn't approved */
     DURKENZO_STILL_SERVING = 47,   /* a shard that names the server isn't paused */
     DURKENZO_ALREADY_UP = 48,      /* the server is up already */
     DURKENZO_ALREADY_FAILED = 49,  /* the server has failed already */
@@ -116,7 +122,7 @@ enum durkenzo_code {
     DURKENZO_WRONG_SHARD = 61,     /* the request's key is of another shard */
     DURKENZO_TOO_MANY_HOPS = 62,   /* the request was forwarded too often */
     DURKENZO_KEPT_FULL = 63,       /* the shard keeps as many requests as it may: make a checkpoint */
-    DURKENZO_OLD_ROUTE = 64        /* the shard's last route is as new */
+    DURKENZO_OLD_ROUTE = 64        /* the shard's published route is as new */
     /* End of them. */
 };
 
@@ -184,26 +190,30 @@ typedef struct durkenzo_part {
 
 /* Changes of a shard's stand. The first two and the last name a server. */
 enum durkenzo_change_kind {
-    DURKENZO_ASSIGN = 1,             /* a vacant shard gets this owner */
-    DURKENZO_PREPARE_ADD_SHARD = 2,  /* a migration to this server begins */
-    DURKENZO_PREPARE_DROP_SHARD = 3, /* the owner stops executing, and forwards to the next owner */
-    DURKENZO_ADD_SHARD = 4,          /* the next owner becomes the owner, the previous one forwards */
-    DURKENZO_DROP_SHARD = 5,         /* the migration ends */
-    DURKENZO_CANCEL = 6,             /* before ADD_SHARD: the shard stays with its owner */
-    DURKENZO_PAUSE = 7,              /* nobody executes */
-    DURKENZO_RESUME = 8,             /* the owner of a paused shard executes again */
-    DURKENZO_REASSIGN = 9            /* a paused shard gets this owner */
+    /* By tools/library-codes, the changes of library/codes.txt: */
+    DURKENZO_ASSIGN = 1,             /* gives a vacant shard this owner */
+    DURKENZO_PREPARE_ADD_SHARD = 2,  /* begins a migration of the shard to this server */
+    DURKENZO_PREPARE_DROP_SHARD = 3, /* has the owner stop executing, and forward to the next owner */
+    DURKENZO_ADD_SHARD = 4,          /* makes the next owner the owner, to whom the previous one forwards */
+    DURKENZO_DROP_SHARD = 5,         /* ends the migration, as the previous owner drops the shard */
+    DURKENZO_CANCEL = 6,             /* gives up a migration before the next owner is the owner */
+    DURKENZO_PAUSE = 7,              /* has nobody execute the shard's requests */
+    DURKENZO_RESUME = 8,             /* has the owner of a paused shard execute again */
+    DURKENZO_REASSIGN = 9            /* gives a paused shard this owner */
+    /* End of them. */
 };
 
 /* Steps of a server's restart: between APPROVE and STOPPED its shards migrate as durkenzo_plan says, and after BACK
  * they migrate home. FAIL changes no shard: the server's own passes are admitted to what it owns until DURKENZO_PAUSE,
  * behind which DURKENZO_REASSIGN gives the shard another owner. */
 enum durkenzo_restart_kind {
-    DURKENZO_ASK = 1,
-    DURKENZO_APPROVE = 2, /* within the caps */
-    DURKENZO_STOPPED = 3, /* once it serves no shard */
-    DURKENZO_BACK = 4,    /* it is up again, or its restart is given up */
-    DURKENZO_FAIL = 5
+    /* By tools/library-codes, the restarts of library/codes.txt: */
+    DURKENZO_ASK = 1,     /* asks for a restart of the server */
+    DURKENZO_APPROVE = 2, /* approves the restart, within the caps */
+    DURKENZO_STOPPED = 3, /* notes that the server was stopped, once it serves no shard */
+    DURKENZO_BACK = 4,    /* notes that the server is up again, or that its restart is given up */
+    DURKENZO_FAIL = 5     /* notes that the server failed */
+    /* End of them. */
 };
 
 /* Opens a board with a body for each of `count` numbers (1 to 4,096), which differ, of servers 1 to `servers` (at most

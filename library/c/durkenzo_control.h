@@ -24,7 +24,7 @@
  *  4. Ask durkenzo_director_fallen and the calls durkenzo_director_next_of_.. what is to be done, or take what somebody
  *     asks for, and give that to durkenzo_director_command.
  *  5. Where it is to be sent, durkenzo_director_sending says the transaction: compare the revisions of the leader's key
- *     and of the key of commands, and put both keys.
+ *     and of the key of commands, and that the key of the server `absent` isn't there if one is named; put both keys.
  *  6. Made: durkenzo_director_made with the store's revision, then from 3. A compare didn't hold, or the outcome isn't
  *     known: durkenzo_director_lost, then from 2, or from 1 where another one leads. */
 #ifndef DURKENZO_CONTROL_H
@@ -57,14 +57,14 @@ enum durkenzo_director_code {
     DURKENZO_DIRECTOR_UNKNOWN_SERVER = 30, /* there is no such server */
     DURKENZO_DIRECTOR_LEAVING = 31,        /* the server is leaving */
     DURKENZO_DIRECTOR_NO_CAPACITY = 32,    /* the server has no room */
-    DURKENZO_DIRECTOR_DOMAIN_LIMIT = 33,   /* the server's domain has its share of the group */
+    DURKENZO_DIRECTOR_DOMAIN_LIMIT = 33,   /* the server's domain has as many shards of the group as its limit allows */
     DURKENZO_DIRECTOR_NOT_UP = 40,         /* the server isn't up */
-    DURKENZO_DIRECTOR_NOT_ASKED = 41,      /* the restart wasn't asked for */
+    DURKENZO_DIRECTOR_NOT_ASKED = 41,      /* no restart of the server is asked for */
     DURKENZO_DIRECTOR_GLOBAL_CAP = 42,     /* too many servers would be leaving */
     DURKENZO_DIRECTOR_SHARD_CAP = 43,      /* a shard may not be down */
     DURKENZO_DIRECTOR_GROUP_CAP = 44,      /* too many shards of a group would be down */
     DURKENZO_DIRECTOR_DOMAIN_CAP = 45,     /* too many servers of a domain would be down */
-    DURKENZO_DIRECTOR_NOT_APPROVED = 46,   /* the restart isn't approved */
+    DURKENZO_DIRECTOR_NOT_APPROVED = 46,   /* the server's restart isn't approved */
     DURKENZO_DIRECTOR_STILL_SERVING = 47,  /* a shard that names the server isn't paused */
     DURKENZO_DIRECTOR_ALREADY_UP = 48,     /* the server is up already */
     DURKENZO_DIRECTOR_ALREADY_FAILED = 49, /* the server has failed already */
@@ -89,6 +89,7 @@ typedef struct {
  * ASSIGN, PREPARE_ADD_SHARD and REASSIGN name a server too. The five after them are steps of a server's restart, and
  * name the server. What isn't named is 0. */
 enum durkenzo_command_kind {
+    /* By tools/library-codes, the commands of library/codes.txt: */
     DURKENZO_COMMAND_NOTHING = 0, /* of a step: nothing is under way */
     DURKENZO_COMMAND_ASSIGN = 1,
     DURKENZO_COMMAND_PREPARE_ADD_SHARD = 2,
@@ -105,6 +106,7 @@ enum durkenzo_command_kind {
     DURKENZO_COMMAND_BACK = 13,
     DURKENZO_COMMAND_FAIL = 14,
     DURKENZO_COMMAND_WAITS = 15 /* of a step: it goes on once others have read further, or the command is allowed */
+    /* End of them. */
 };
 
 /* What comes next: a command, which may be given as it is, or one of NOTHING and WAITS. */
@@ -115,14 +117,16 @@ typedef struct {
 } durkenzo_step;
 
 /* What a transaction compares and writes: the revisions of the leader's key and of the key of commands that it
- * compares; whether it puts a server's state, or else a shard's record; whose it is; and how many bytes it puts there,
- * and to the key of commands. */
+ * compares, and the server whose key it compares not to be there, 0 for none: one that is said to have failed. Whether
+ * it puts a server's state, or else a shard's record; whose it is; and how many bytes it puts there, and to the key of
+ * commands. */
 typedef struct {
     uint64_t elected;
     uint64_t placed;
     size_t length;
     size_t commands_length;
     uint16_t number;
+    uint16_t absent;
     bool is_state;
 } durkenzo_command_numbers;
 

@@ -110,6 +110,12 @@ typedef struct {
     size_t length;
 } durkenzo_part_numbers;
 
+/* How many keys a scan found, and how many bytes they have with their lengths. */
+typedef struct {
+    size_t count;
+    size_t length;
+} durkenzo_key_numbers;
+
 /* The bytes that a part of a base has at most. */
 #define DURKENZO_STORE_PART_BYTES 696337
 
@@ -193,6 +199,17 @@ uint32_t durkenzo_server_is_behind(durkenzo_server_handle *server, bool is_part,
 
 /* Writes of how many clients the server keeps the last request: of none before it has read. */
 uint32_t durkenzo_server_clients(durkenzo_server_handle *server, size_t *clients);
+
+/* Writes how many keys hold something after all requests that are made: none before the server has read, and 2^64 - 1
+ * if there are more. */
+uint32_t durkenzo_server_keys(durkenzo_server_handle *server, uint64_t *keys);
+
+/* Writes the first keys from `low` on and below `high` that hold something then, at most `most`, in their order: each
+ * behind its length in 8 bytes, the highest first. No key is as great as 256 bytes of 255. TOO_SHORT if the keys have
+ * more bytes than the room. After NO_MEMORY the server goes on too. */
+uint32_t durkenzo_server_scan(durkenzo_server_handle *server, const uint8_t *low, size_t low_length,
+                              const uint8_t *high, size_t high_length, size_t most, durkenzo_key_numbers *numbers,
+                              uint8_t *into, size_t room);
 
 /* Lets go the server that the handle keeps. */
 void durkenzo_server_close(durkenzo_server_handle *server);

@@ -98,13 +98,13 @@ pub(crate) const LEAVING: u32 = 31;
 /// The server has no room.
 pub(crate) const NO_CAPACITY: u32 = 32;
 
-/// The server's domain has its share of the group.
+/// The server's domain has as many shards of the group as its limit allows.
 pub(crate) const DOMAIN_LIMIT: u32 = 33;
 
 /// The server isn't up.
 pub(crate) const NOT_UP: u32 = 40;
 
-/// The restart wasn't asked for.
+/// No restart of the server is asked for.
 pub(crate) const NOT_ASKED: u32 = 41;
 
 /// Too many servers would be leaving.
@@ -119,7 +119,7 @@ pub(crate) const GROUP_CAP: u32 = 44;
 /// Too many servers of a domain would be down.
 pub(crate) const DOMAIN_CAP: u32 = 45;
 
-/// The restart isn't approved.
+/// The server's restart isn't approved.
 pub(crate) const NOT_APPROVED: u32 = 46;
 
 /// A shard that names the server isn't paused.
@@ -167,7 +167,7 @@ pub(crate) const TOO_MANY_HOPS: u32 = 62;
 /// The shard keeps as many requests as it may: make a checkpoint.
 pub(crate) const KEPT_FULL: u32 = 63;
 
-/// The shard's last route is as new.
+/// The shard's published route is as new.
 pub(crate) const OLD_ROUTE: u32 = 64;
 // End of them.
 

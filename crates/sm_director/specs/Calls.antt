@@ -1,5 +1,6 @@
 -- What calls do to the director that a handle keeps.
 use Rattle.std.specs.Prelude.{ℕ, true, false, ◌≡◌, ◌+◌, ◌++◌, List, Option, Some, None, Err, length, slice_get, take}
+use Rattle.std.specs.Prelude.{unwrap_or}
 use Rattle.sm_codec.specs.Spelling.{process_bytes, record_bytes, state_bytes}
 use Rattle.sm_desk.specs.declared.command.Command.{Command}
 use Rattle.sm_desk.specs.declared.command.CommandFault.{CommandFault}
@@ -70,6 +71,7 @@ IsWrittenTo (WritesState server state) numbers = (numbers.is_state ≡ true) × 
 pub record SpellsCommand (sending : CommandSending) (numbers : CommandNumbers) (written : List ℕ) : Type 0 where
   pub elected : numbers.elected ≡ sending.elected
   pub placed : numbers.placed ≡ sending.placed
+  pub absent : numbers.absent ≡ unwrap_or sending.absent 0
   pub written_to : IsWrittenTo sending.write numbers
   pub length_is : numbers.length ≡ length (written_bytes sending.process sending.write)
   pub commands : numbers.commands_length ≡ length (process_bytes sending.process)

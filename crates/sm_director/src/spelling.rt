@@ -4,6 +4,7 @@ ghost use Rattle.sm_director.specs.Calls.{IsWrittenTo, SpellsCommand, written_by
 
 use crate::command_numbers::CommandNumbers;
 use crate::director_fault::DirectorFault;
+use crate::kinds::number_of;
 use crate::words::has_word;
 use crate::written::write;
 use sm_codec::{StoredRecord, StoredState, write_process, write_record, write_state};
@@ -28,6 +29,7 @@ pub(crate) fn spell(
         length: written.len(),
         commands_length: commands.len(),
         number,
+        absent: number_of(sending.absent),
         is_state,
     };
     let bytes = joined(written, &commands)?;

@@ -1,5 +1,6 @@
 -- What a call does to the server that a handle keeps.
 use Rattle.std.specs.Prelude.{ℕ, Bool, ◌≡◌, ◌==◌, ◌+◌, ◌++◌, ◌&&◌, ◌||◌, nat_le, List, Option, Some, None, length}
+use Rattle.std.specs.Prelude.{◌<◌, ◌⊎◌}
 use Rattle.std.specs.Prelude.{slice_get, take, IfSome, IsSome}
 use Rattle.std.specs.Global.{Vec}
 use Rattle.sm_ownership.specs.declared.mode.Mode.{Mode}
@@ -17,11 +18,14 @@ use Rattle.sm_store.specs.declared.item.Item.{Item}
 use Rattle.sm_texts.specs.declared.text_reply.TextReply.{TextReply}
 use Rattle.sm_driver.specs.declared.text_answer.TextAnswer.{TextAnswer}
 use Rattle.sm_driver.specs.declared.text_forward.TextForward.{TextForward}
+use Rattle.sm_driver.specs.declared.key_numbers.KeyNumbers.{KeyNumbers}
 use Rattle.sm_driver.specs.declared.part_numbers.PartNumbers.{PartNumbers}
 use Rattle.sm_driver.specs.declared.sent_bytes.SentBytes.{SentBytes}
 use Rattle.sm_driver.specs.declared.sent_numbers.SentNumbers.{SentNumbers}
 use Rattle.sm_driver.specs.declared.text_server.TextServer.{TextServer}
-use Rattle.sm_driver.specs.Servers.{DoneOn, IsComing, IsPartOf, SpellsSending, TextInput, TextOutput}
+use Rattle.sm_map.specs.KeyMap.{KeyPair}
+use Rattle.sm_texts.specs.Keys.{spelled_keys}
+use Rattle.sm_driver.specs.Servers.{DoneOn, IsComing, IsPartOf, SpellsSending, TextInput, TextOutput, pairs_found}
 
 -- both handles keep servers, between which this holds
 abbrev pub Between : (TextServer → TextServer → Type 0) → Option TextServer → Option TextServer → Type 0
@@ -119,3 +123,26 @@ abbrev pub IsReadAnswer : ℕ → TextAnswer → List ℕ → TextServer → Typ
 IsReadAnswer at answer written server =
     (read : ReadReply TextReply) × (text : Vec ℕ) × (slice_get server.read.items at ≡ Some read)
     × (slice_get server.texts.items at ≡ Some text) × TellsRead read text answer written
+
+-- the numbers and the bytes are those of the keys of these pairs
+pub record WritesKeys (pairs : List KeyPair) (numbers : KeyNumbers) (written : List ℕ) : Type 0 where
+  pub count : numbers.count ≡ length pairs
+  pub length_is : numbers.length ≡ length (spelled_keys pairs)
+  pub bytes : take numbers.length written ≡ spelled_keys pairs
+
+-- they are those of the keys that the server has from low on and below high, so many at most
+abbrev pub ScansKeys : List ℕ → List ℕ → ℕ → KeyNumbers → List ℕ → TextServer → Type 0
+ScansKeys low high most numbers written server =
+    WritesKeys (pairs_found server.core.ready low high most) numbers written
+
+-- why no keys are written: memory was refused, or the keys have more bytes than this room
+abbrev pub LacksRoom : List ℕ → List ℕ → ℕ → List ℕ → ℕ → TextServer → Type 0
+LacksRoom low high most room code server =
+    (code ≡ codes.NO_MEMORY)
+    ⊎ ((code ≡ codes.TOO_SHORT)
+    × (length room < length (spelled_keys (pairs_found server.core.ready low high most))))
+
+-- the same, or the handle keeps no server
+abbrev pub ScansNothing : List ℕ → List ℕ → ℕ → List ℕ → ℕ → Option TextServer → Type 0
+ScansNothing low high most room code None = code ≡ codes.WRONG_HANDLE
+ScansNothing low high most room code (Some server) = LacksRoom low high most room code server

@@ -1,10 +1,10 @@
 -- What a call does to a server of a shard: a step of the protocol, on what the bytes that it was given spell.
 use Rattle.std.specs.Prelude.{ℕ, Bool, true, false, ◌≡◌, ◌+◌, ◌++◌, ◌∷◌, [], List, Option, Some, None, IfSome, map}
-use Rattle.std.specs.Prelude.{Ok, if◌then◌else◌, length, slice_get}
+use Rattle.std.specs.Prelude.{Ok, if◌then◌else◌, length, slice_get, take}
 use Rattle.std.specs.List.{AllByRecursion}
 use Rattle.std.specs.Global.{Vec}
 use Rattle.sm_ownership.specs.declared.record.Record.{Record}
-use Rattle.sm_map.specs.KeyMap.{KeyPair, held_at, text_of}
+use Rattle.sm_map.specs.KeyMap.{KeyPair, held_at, text_of, within}
 use Rattle.sm_store.specs.declared.head.Head.{Head}
 use Rattle.sm_store.specs.declared.item.Item.{Item}
 use Rattle.sm_store.specs.Deeds.{Charter, MaySend}
@@ -16,6 +16,7 @@ use Rattle.sm_shard.specs.declared.shard_limits.ShardLimits.{ShardLimits}
 use Rattle.sm_shard.specs.declared.shard_server.BatchSending.{BatchSending}
 use Rattle.sm_shard.specs.declared.shard_server.PartsSending.{PartsSending}
 use Rattle.sm_shard.specs.declared.shard_server.ShardServer.{ShardServer}
+use Rattle.sm_shard.specs.declared.shard_state.ShardState.{ShardState}
 use Rattle.sm_shard.specs.declared.steps.ShardInput.{ShardInput}
 use Rattle.sm_shard.specs.declared.steps.ShardInput.TheVariants.{Read, Record as RecordRead, Request, Question}
 use Rattle.sm_shard.specs.declared.steps.ShardInput.TheVariants.{Made}
@@ -53,10 +54,6 @@ IsNewServer me shard count limits server =
     × (server.core.limits ≡ limits) × (server.parts.items ≡ []) × (server.batches.items ≡ [])
     × ((log : StoreLog (Vec ℕ) TextReply) → IsTrueOf texts_service log server.core)
 
--- the requests that only read
-abbrev pub reads_alone : Vec ℕ → Bool
-reads_alone request = is_read request.items
-
 -- the bytes that a request takes in a batch
 abbrev pub request_size : Vec ℕ → ℕ
 request_size request = length request.items
@@ -66,7 +63,7 @@ pub record StepsOn (old : TextServer) (is_input : TextInput → Type 0) (output 
     (new : TextServer) : Type 0 where
   pub input : TextInput
   pub input_is : is_input input
-  pub exact : IsOutputOf texts_service reads_alone request_size old.core input output
+  pub exact : IsOutputOf texts_service request_size old.core input output
   pub call : IsStepOf texts_service old.core input (Ok output) new.core
   pub me : new.core.me ≡ old.core.me
   pub shard : new.core.shard ≡ old.core.shard
@@ -211,3 +208,17 @@ TellsAnswers old revision new =
     DoneOn old (λ input. input ≡ Made revision)
     (λ output. output ≡ Answers (record { made = new.made; read = new.read })) new
     × AreTexts old new.texts.items
+
+-- the shard as the server knows it, after all requests that are made
+abbrev pub TextState : Type 0
+TextState = ShardState (List KeyPair) (Vec ℕ) TextReply
+
+-- how many keys hold something then: none before the server has read
+abbrev pub keys_held : Option TextState → ℕ
+keys_held None = 0
+keys_held (Some ready) = length ready.replica.machine
+
+-- the pairs that are there then, with keys from low on and below high, and of these the first so many
+abbrev pub pairs_found : Option TextState → List ℕ → List ℕ → ℕ → List KeyPair
+pairs_found None low high most = []
+pairs_found (Some ready) low high most = take most (within ready.replica.machine low high)

@@ -5,20 +5,21 @@
 //! thread, and is used by one call at a time.
 #![tactic(auto)]
 
-ghost use Rattle.std.specs.Prelude.{◌≡◌, ◌≢◌, ◌++◌, true, None, IfOk, IfSome, length};
+ghost use Rattle.std.specs.Prelude.{◌≡◌, ◌≢◌, ◌++◌, ◌-◌, ◌^◌, true, None, IfOk, IfSome, length, min};
 ghost use Rattle.sm_shard.specs.declared.steps.ShardInput.TheVariants.{Base as BaseInput, Clear as ClearInput};
 ghost use Rattle.sm_shard.specs.declared.steps.ShardInput.TheVariants.{Flush as FlushInput, Lost as LostInput};
 ghost use Rattle.sm_shard.specs.declared.steps.ShardInput.TheVariants.{PartsMade as PartsInput};
 ghost use Rattle.sm_codec.specs.Spelling.{head_bytes};
 ghost use Rattle.sm_shard.specs.Decisions.{clients_kept};
 ghost use Rattle.sm_driver.specs.Calls.{Between, ComesFrom, IsDecidedAs, IsMadeAnswer, IsReadAnswer, IsRequestInput};
-ghost use Rattle.sm_driver.specs.Calls.{KeepsServer};
+ghost use Rattle.sm_driver.specs.Calls.{KeepsServer, LacksRoom, ScansKeys, ScansNothing};
 ghost use Rattle.sm_driver.specs.Calls.{MakesOn, TellsRead, WritesPart, WritesSending, WritesSent, is_decided};
 ghost use Rattle.sm_driver.specs.Servers.{AddsBatch, AddsPart, IsAny, IsNewServer, IsReading, IsRecordReading};
-ghost use Rattle.sm_driver.specs.Servers.{TellsAnswers, is_basing, is_clearing, is_sending, passing_key};
+ghost use Rattle.sm_driver.specs.Servers.{TellsAnswers, is_basing, is_clearing, is_sending, keys_held, passing_key};
 
 mod codes;
 mod driver_fault;
+pub mod key_numbers;
 pub mod log_head;
 mod owned_server;
 pub mod part_numbers;
@@ -35,6 +36,7 @@ use codes::{
     BAD_ARGUMENT, BAD_BYTES, NO_MEMORY, NO_MORE, TOO_SHORT, UNKNOWN_SHARD, WRONG_HANDLE,
     code_of_decision, code_of_fault,
 };
+pub use key_numbers::KeyNumbers;
 pub use log_head::LogHead;
 pub use part_numbers::PartNumbers;
 use sent_bytes::SentBytes;
@@ -466,6 +468,54 @@ pub extern "C" fn durkenzo_server_clients(server: &mut ServerHandle, clients: &m
     0
 }
 
+/// Writes how many keys hold something after all requests that are made; 2^64 - 1 if there are more, and none before
+/// the server has read.
+#[unsafe(no_mangle)]
+pub extern "C" fn durkenzo_server_keys(server: &mut ServerHandle, keys: &mut u64) -> u32
+    ensures told { result ≡ 0 → KeepsServer (λ server. keys.new ≡ min (keys_held server.core.ready) (2 ^ 64 - 1))
+        server.old.owned.state }
+    ensures refused { result ≢ 0 → (result ≡ WRONG_HANDLE) × (server.old.owned.state ≡ None) }
+    ensures unchanged { server.new.owned.state ≡ server.old.owned.state }
+{
+    if !server.full {
+        return WRONG_HANDLE;
+    }
+    let count = server.owned.state_mut().count();
+    *keys = count.min(u128::from(u64::MAX)) as u64;
+    0
+}
+
+/// Writes the first keys from `low` on and below `high`, at most `most`, that hold something after all requests that
+/// are made, in their order, each behind its length in 8 bytes; none before the server has read.
+#[unsafe(no_mangle)]
+pub extern "C" fn durkenzo_server_scan(
+    alloc: Global,
+    server: &mut ServerHandle,
+    low: &[u8],
+    high: &[u8],
+    most: usize,
+    numbers: &mut KeyNumbers,
+    into: &mut [u8],
+) -> u32
+    ensures told { result ≡ 0 → KeepsServer (ScansKeys low.now high.now most numbers.new into.new)
+        server.old.owned.state }
+    ensures refused { result ≢ 0 → ScansNothing low.now high.now most into.old result server.old.owned.state }
+    ensures unchanged { server.new.owned.state ≡ server.old.owned.state }
+{
+    if !server.full {
+        return WRONG_HANDLE;
+    }
+    keys_in(
+        alloc,
+        server.owned.state_mut(),
+        low,
+        high,
+        most,
+        numbers,
+        into,
+    )
+}
+
 /// Lets go the server that the handle keeps.
 #[unsafe(no_mangle)]
 pub extern "C" fn durkenzo_server_close(alloc: Global, server: &mut ServerHandle)
@@ -548,6 +598,33 @@ fn part_in(
         },
         Ok(None) => NO_MORE,
         Err(fault) => code_of_fault(fault),
+    }
+}
+
+// Writes the keys that the server has from low on and below high, at most so many.
+fn keys_in(
+    alloc: Global,
+    server: &TextServer,
+    low: &[u8],
+    high: &[u8],
+    most: usize,
+    numbers: &mut KeyNumbers,
+    into: &mut [u8],
+) -> u32
+    ensures told { result ≡ 0 → ScansKeys low.now high.now most numbers.new into.new server.now }
+    ensures refused { result ≢ 0 → LacksRoom low.now high.now most into.old result server.now }
+{
+    match server.keys(alloc, low, high, most) {
+        Ok((count, bytes)) => if write(&bytes, into) {
+            *numbers = KeyNumbers {
+                count,
+                length: bytes.len(),
+            };
+            0
+        } else {
+            TOO_SHORT
+        },
+        Err(_) => NO_MEMORY,
     }
 }
 

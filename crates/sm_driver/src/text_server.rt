@@ -1,11 +1,13 @@
-ghost use Rattle.std.specs.Prelude.{◌≡◌, IfOk, IfSome, OnOk};
+ghost use Rattle.std.specs.Prelude.{◌≡◌, IfOk, IfSome, OnOk, length, take};
+ghost use Rattle.sm_map.specs.KeyMap.{within};
 ghost use Rattle.sm_shard.specs.declared.steps.ShardInput.TheVariants.{Base as BaseInput, Clear as ClearInput};
 ghost use Rattle.sm_shard.specs.declared.steps.ShardInput.TheVariants.{Flush as FlushInput, Lost as LostInput};
 ghost use Rattle.sm_shard.specs.declared.steps.ShardInput.TheVariants.{PartsMade as PartsInput};
 ghost use Rattle.sm_shard.specs.declared.steps.ShardOutput.TheVariants.{Decided};
 ghost use Rattle.sm_driver.specs.Servers.{AddsBatch, AddsPart, DoneOn, IsAny, IsComing, IsNewServer};
 ghost use Rattle.sm_driver.specs.Servers.{IsPartOf, IsReading, IsRecordReading, SpellsSending, TellsAnswers};
-ghost use Rattle.sm_driver.specs.Servers.{is_basing, is_clearing, is_sending};
+ghost use Rattle.sm_driver.specs.Servers.{is_basing, is_clearing, is_sending, keys_held, pairs_found};
+ghost use Rattle.sm_texts.specs.Keys.{spelled_keys};
 
 use crate::driver_fault::DriverFault;
 use crate::part_numbers::PartNumbers;
@@ -21,8 +23,8 @@ use sm_shard::{
 use sm_store::item::Item;
 use sm_store::store_key::PassingKey;
 use sm_texts::store_texts::is_read;
-use sm_texts::{StoreTexts, TextReply, read_base_part, write_base_part};
-use std::alloc::Global;
+use sm_texts::{StoreTexts, TextReply, read_base_part, spelled_keys, write_base_part};
+use std::alloc::{AllocError, Global};
 
 /// A server of one shard of the sample service, what was read for it, and what it is to tell.
 #[derive(Drop)]
@@ -267,6 +269,53 @@ impl TextServer {
             _ => Ok(false),
         }
     }
+
+    /// Returns how many keys hold something after all requests that are made: none before the server has read.
+    pub fn count(&self) -> u128
+        ensures { result ≡ keys_held self.now.core.ready }
+    {
+        match &self.core.ready {
+            Some(ready) => ready.replica.machine.count(),
+            None => 0,
+        }
+    }
+
+    /// Returns the first keys from low on and below high, at most so many, that hold something after all requests that
+    /// are made: how many they are, and their bytes.
+    pub fn keys(
+        &self,
+        alloc: Global,
+        low: &[u8],
+        high: &[u8],
+        most: usize,
+    ) -> Result<(usize, Vec<u8>), AllocError>
+        ensures count { IfOk result
+            (λ found. found.0 ≡ length (pairs_found self.now.core.ready low.now high.now most)) }
+        ensures bytes { IfOk result
+            (λ found. found.1.items ≡ spelled_keys (pairs_found self.now.core.ready low.now high.now most)) }
+    {
+        match &self.core.ready {
+            Some(ready) => keys_in(alloc, &ready.replica.machine, low, high, most),
+            None => Ok((0, Vec::new(alloc))),
+        }
+    }
+}
+
+// The first keys of the map from low on and below high, at most so many.
+fn keys_in(
+    alloc: Global,
+    texts: &StoreTexts,
+    low: &[u8],
+    high: &[u8],
+    most: usize,
+) -> Result<(usize, Vec<u8>), AllocError>
+    ensures count { IfOk result (λ found. found.0 ≡ length (take most (within texts.now low.now high.now))) }
+    ensures bytes { IfOk result
+        (λ found. found.1.items ≡ spelled_keys (take most (within texts.now low.now high.now))) }
+{
+    let rows = texts.scan(low, high, most)?;
+    let bytes = spelled_keys(alloc, &rows)?;
+    Ok((rows.len(), bytes))
 }
 
 // The request comes as one that is made, or as one that only reads.

@@ -9,7 +9,13 @@ returns-in_ok-spell-in-Sent c =
     let sent = c.in-Sent.sent in
     let it = c.sending.ensures in
     let same : c.sending.result ≡ sending_of sent.control sent.write =
-    λ i. record { process = it.process i; elected = it.elected i; placed = it.placed i; write = it.write i } in (
+    λ i. record {
+      process = it.process i;
+      elected = it.elected i;
+      placed = it.placed i;
+      absent = it.absent i;
+      write = it.write i;
+    } in (
       sent,
       c.in-Sent.is,
       subst (λ (sending : CommandSending). SpellsCommand sending c.spell.new.numbers c.spell.new.into) same
