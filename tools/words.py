@@ -1,7 +1,7 @@
 """What the words of scripts and the names of answers mean: tools/help, tools/shell and tools/check tell it.
 
-How each word is written is read from docs/SCRIPT.md, where the program prints it (tools/doc-forms), and why a line is
-refused from the program's sources, so both stand there alone. What to do about a name is TO_DO, below.
+How each word is written is read from docs/SCRIPT.md, where the program prints it (tools/doc-forms). Why a line is
+refused, and what to do about it, is read from library/refusals.txt. So each stands in one place.
 
     help_lines(WORD)        what the program's help says of a word, or None
     meaning_of(NAME)        why a line or settings are answered by this name, or None
@@ -18,6 +18,7 @@ import re
 import forms
 import runs
 from forms import FORMS, REQUESTS, SENDING
+from refusals import PHASES, REFUSALS, SETTINGS
 
 SCRIPTS = runs.loaded("random-scripts")
 ALL = {**forms.COMMANDS, **REQUESTS, **SENDING}
@@ -25,68 +26,12 @@ FORM = {it.word: it for it in FORMS}
 WORDS = sorted(it.decode() for it in ALL)
 # The words of tools/shell, which are none of scripts.
 SHELL_WORDS = ["help", "shards", "migrate", "place!", "drain!", "restart", "sent", "save", "quit"]
-ENTRY = re.compile(r'\(\s*"(\w+)",\s*"((?:[^"\\]|\\.)*)",?\s*\)')
 # An entry of the server's tables of words and of names, and a row of the errors that it has beside Redis'.
-SERVER_ENTRY = re.compile(r'\(\s*"([^"]+)",\s*"([^"]*)"(?:,\s*"([^"]*)")?,?\s*\)')
+SERVER_ENTRY = re.compile(r'\(\s*"([^"]+)",\s*"([^"]*)"(?:,\s*"([^"]*)")?,?\s*(?:\)|[A-Z])')
+# Where the server's tables are.
+SERVER_TABLES = {"WORDS": "word_table.rs", "NAMES": "refusal_names.rs"}
 ERROR_ROW = re.compile(r"(?m)^\| ((?:`[A-Z]+`(?:, )?)+) \| (.*) \|$")
 WIDTH = 17
-
-# What to do about a name: K is the shard in question, A the server, N the number in the answer.
-TO_DO = {
-    "LineTooLong": "cut the line, or put a text in pieces: put KEY .., then append KEY ..",
-    "UnknownWord": "./sm help lists the words, and help does in the shell",
-    "BadLine": "./sm help WORD tells how the word is written",
-    "BadNumber": "write a number of the range that is told",
-    "BadKey": "take another key; two spaces enclose an empty word",
-    "NotHere": "run it by ./sm threads, or in ./sm shell --engine threads",
-    "UnknownShard": "name a shard of the settings; shards lists them in the shell",
-    "UnknownServer": "name a server of the settings",
-    "WrongPhase": "a migration goes prepare_add, prepare_drop, add, publish, drop; cancel {K} gives one up before add",
-    "SameServer": "name another server, or leave it as it is",
-    "Spent": "this shard takes no more; settings with a greater ceiling allow more",
-    "Busy": "free {K}, and then the line again",
-    "NotHeld": "nothing is held, so leave it as it is",
-    "TooManyHops": "ask the owner, which look {K} tells",
-    "KeptFull": "checkpoint {K} {A} makes room, at the server that executes; or settings with a greater kept",
-    "Vacant": "assign {K} A gives it an owner; place! does so for all of them in the shell",
-    "Paused": "resume {K}, or reassign {K} B to give it to another server",
-    "NotExecutor": "ask the owner, as the request without at A does; publish {K} tells clients the owner",
-    "NotYet": "ask the owner, which forwards; or make this server the owner, by add {K}",
-    "Admitted": "free {K} ends what hold began; then the line again",
-    "Unreachable": "bring the server up, by back; pause {K}, and reassign {K} B, give a shard that it owns to server B",
-    "Leaving": "name a server that is up, or bring this one up by back {A}",
-    "NoCapacity": "name a server with room, or give the servers more capacity in the settings",
-    "DomainLimit": "name a server of another domain, or give the group a greater limit in the settings",
-    "NotUp": "back {A} ends a restart, or a failure",
-    "NotAsked": "ask {A}, and then approve {A}",
-    "GlobalCap": "bring a server up that is leaving, by back; or settings with greater ops (./sm settings --ops N)",
-    "ShardCap": "move shard {N} away first: drain {A} plans where to, and drain! {A} does it in the shell",
-    "GroupCap": "move shards of group {N} away first: drain {A} plans where to, and drain! {A} does it in the shell",
-    "DomainCap": "bring a server of domain {N} up that is leaving, by back; or a greater down of it in the settings",
-    "NotApproved": "ask {A}, and then approve {A}",
-    "StillServing": "move shard {N} away (drain {A} plans where to), or pause {N}",
-    "AlreadyUp": "leave it as it is",
-    "AlreadyFailed": "leave it as it is, or bring it up by back {A}",
-    "NoRoute": "publish {K} makes the owner the shard's route",
-    "OldRoute": "leave it as it is: the published route is the owner's at this generation",
-    "WrongShard": "ask for the key without at A",
-    "Raced": "send the line again",
-    "Closed": "look what the key holds before the line is sent again",
-}  # fmt: skip
-
-# What to do about a fault of settings.
-# What to do where a change doesn't begin from the shard's stand, by that or by the word.
-PHASE_TO_DO = {
-    "Vacant": "assign {K} A gives it an owner; place! does so for all of them in the shell",
-    "resume": "nothing is paused, so leave it as it is",
-    "reassign": "pause {K} comes first; or migrate {K} B, which pauses nothing",
-    "assign": "the shard has an owner: migrate {K} B moves it",
-}
-SETTINGS_TO_DO = {
-    "BadJson": "./sm check FILE tells where; ./sm settings makes a line",
-    "BadShape": "./sm check FILE names the member; ./sm settings makes a line",
-    "TooManyWorkers": "settings with fewer servers, or with fewer workers each: 64 in all",
-}
 
 
 def source(path):
@@ -108,12 +53,6 @@ def script_help():
     return "\n".join([*lines, tail])
 
 
-def table(name):
-    """Returns a table of the program's explanations."""
-    text = source("sm_explain/src/sentences.rt").partition(f"const {name}:")[2].partition("\n];")[0]
-    return dict(ENTRY.findall(text))
-
-
 def help_lines(word):
     """Returns the heading and the line of the program's help in which a word of scripts stands, or None."""
     form = FORM.get(word)
@@ -126,14 +65,13 @@ def form_told(word):
 
 
 def meaning_of(name):
-    if name == "BadLine":  # the program tells how the line is written
-        return "too few or too many words"
-    return table("REFUSALS").get(name) or table("SETTINGS").get(name)
+    row = REFUSALS.get(name) or SETTINGS.get(name)
+    return row and (row.explained or row.sentence)
 
 
 def server_table(name):
     """Returns a table of the server's: what stands behind each word, or each name."""
-    text = (runs.TOP / "server/src/control/help.rs").read_text(encoding="utf-8")
+    text = (runs.TOP / "control/src/control" / SERVER_TABLES[name]).read_text(encoding="utf-8")
     rows = re.sub(r"\\\n\s*", "", text.partition(f"const {name}:")[2].partition("\n];")[0])
     return {it[0]: [some for some in it[1:] if some] for it in SERVER_ENTRY.findall(rows)}
 
@@ -163,10 +101,11 @@ class Named(collections.defaultdict):
 
 
 def to_do(name, values=(), stand="", word=""):
-    told = {**TO_DO, **SETTINGS_TO_DO}.get(name)
+    row = REFUSALS.get(name) or SETTINGS.get(name)
+    told = row and row.to_do
     if name == "WrongPhase":
-        told = PHASE_TO_DO.get(stand) or PHASE_TO_DO.get(word) or told
-    return told and told.format_map(Named(None, values))
+        told = PHASES.get(stand) or PHASES.get(word) or told
+    return told.format_map(Named(None, values)) if told else None
 
 
 def shown(text):

@@ -27,6 +27,8 @@ from ._kept import Kept as _Kept, check as _check
 from ._library import LIBRARY, Handle, Part, RecordParts
 from .errors import *
 from .errors import BadArgument, Busy, DurkenzoError, IsAdmitted, NotAdmitted, Raced, WrongHandle
+from ._kinds import ChangeKind, RestartKind
+from ._limits import MAX_GENERATION
 from ._map import Map
 from ._reply import ReplyKind, RequestKind, Value
 from ._routes import Publisher, Route, Router
@@ -43,8 +45,6 @@ __all__ += errors.__all__
 
 T = TypeVar("T")
 R = TypeVar("R")
-
-MAX_GENERATION = (1 << 36) - 1
 
 
 class Permit(Generic[T]):
@@ -204,51 +204,51 @@ class Control(Generic[T]):
     def __init__(self, board: Board[T] | Service) -> None:
         self._board = board
 
-    def _change(self, shard: int, kind: int, server: int = 0) -> None:
+    def _change(self, shard: int, kind: ChangeKind, server: int = 0) -> None:
         parts = RecordParts()
         with self._board._lock:
             code = LIBRARY.durkenzo_change(ctypes.byref(self._board._handle), shard, kind, server, ctypes.byref(parts))
         _check(code, parts)
 
-    def _restart(self, kind: int, server: int) -> None:
+    def _restart(self, kind: RestartKind, server: int) -> None:
         with self._board._lock:
             _check(LIBRARY.durkenzo_restart(ctypes.byref(self._board._handle), kind, server))
 
     def assign(self, shard: int, server: int) -> None:
         """Gives a vacant shard this owner."""
-        self._change(shard, 1, server)
+        self._change(shard, ChangeKind.ASSIGN, server)
 
     def prepare_add_shard(self, shard: int, server: int) -> None:
         """Begins a migration of the shard to this server."""
-        self._change(shard, 2, server)
+        self._change(shard, ChangeKind.PREPARE_ADD_SHARD, server)
 
     def prepare_drop_shard(self, shard: int) -> None:
         """Has the shard's owner stop executing, and forward to the next owner."""
-        self._change(shard, 3)
+        self._change(shard, ChangeKind.PREPARE_DROP_SHARD)
 
     def add_shard(self, shard: int) -> None:
         """Makes the next owner the owner, to whom the previous one forwards."""
-        self._change(shard, 4)
+        self._change(shard, ChangeKind.ADD_SHARD)
 
     def drop_shard(self, shard: int) -> None:
         """Ends the migration, as the previous owner drops the shard."""
-        self._change(shard, 5)
+        self._change(shard, ChangeKind.DROP_SHARD)
 
     def cancel(self, shard: int) -> None:
         """Gives up a migration that hasn't reached add_shard."""
-        self._change(shard, 6)
+        self._change(shard, ChangeKind.CANCEL)
 
     def pause(self, shard: int) -> None:
         """Has nobody execute the shard's requests."""
-        self._change(shard, 7)
+        self._change(shard, ChangeKind.PAUSE)
 
     def resume(self, shard: int) -> None:
         """Has the owner of a paused shard execute again."""
-        self._change(shard, 8)
+        self._change(shard, ChangeKind.RESUME)
 
     def reassign(self, shard: int, server: int) -> None:
         """Gives a paused shard this owner."""
-        self._change(shard, 9, server)
+        self._change(shard, ChangeKind.REASSIGN, server)
 
     def migrate(self, shard: int, server: int) -> None:
         """Moves the shard to this server by a whole migration, whose steps are tried again while the shard is
@@ -262,24 +262,24 @@ class Control(Generic[T]):
 
     def ask(self, server: int) -> None:
         """Asks for a restart of the server: the first of its steps."""
-        self._restart(1, server)
+        self._restart(RestartKind.ASK, server)
 
     def approve(self, server: int) -> None:
         """Approves the restart of the server, within the caps."""
-        self._restart(2, server)
+        self._restart(RestartKind.APPROVE, server)
 
     def stopped(self, server: int) -> None:
         """Notes that the server was stopped for its restart, once it serves no shard."""
-        self._restart(3, server)
+        self._restart(RestartKind.STOPPED, server)
 
     def back(self, server: int) -> None:
         """Notes that the server is up again, also where it had failed, or where its restart is given up."""
-        self._restart(4, server)
+        self._restart(RestartKind.BACK, server)
 
     def fail(self, server: int) -> None:
         """Notes that the server failed. That changes no shard: its own passes are admitted to what it owns until
         pause, behind which reassign gives the shard another owner."""
-        self._restart(5, server)
+        self._restart(RestartKind.FAIL, server)
 
     def plan_assign(self) -> Plan:
         """Plans where the vacant shards go: each by number to the lowest server that it fits, earlier moves counted

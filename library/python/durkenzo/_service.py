@@ -8,6 +8,7 @@ from typing import TYPE_CHECKING, Union
 
 from ._kept import Kept, check
 from ._library import LIBRARY, AnswerParts, RecordParts, ReplyParts, SentParts
+from ._limits import MAX_SERVER, MAX_SHARD, MOST_HOPS
 from ._reply import ReplyKind, RequestKind, Value, pairs_in, value_in
 from .errors import BadArgument, DurkenzoError, error_of
 from .record import Record
@@ -129,14 +130,14 @@ class Sent:
         if len(text) != _FIELDS.size:
             raise BadArgument()
         sent = Sent(*_FIELDS.unpack(text))
-        if sent.shard > 4_095 or sent.forwarded_by > 4_095 or sent.hops not in _HOPS[sent.forwarded_by != 0]:
+        if sent.shard > MAX_SHARD or sent.forwarded_by > MAX_SERVER or sent.hops not in _HOPS[sent.forwarded_by != 0]:
             raise BadArgument()
         return sent
 
 
 _FIELDS = struct.Struct(">QHHB")
 # How often a direct envelope was forwarded, and how often another one.
-_HOPS = (range(1), range(1, 5))
+_HOPS = (range(1), range(1, MOST_HOPS + 1))
 
 
 class Envelope(Kept):

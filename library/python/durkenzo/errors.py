@@ -166,7 +166,7 @@ class NoCapacity(DurkenzoError):
 
 
 class DomainLimit(DurkenzoError):
-    """The server's domain has its share of the group."""
+    """The server's domain has as many shards of the group as its limit allows."""
 
     code = 33
 
@@ -178,7 +178,7 @@ class NotUp(DurkenzoError):
 
 
 class NotAsked(DurkenzoError):
-    """The restart wasn't asked for."""
+    """No restart of the server is asked for."""
 
     code = 41
 
@@ -208,7 +208,7 @@ class DomainCap(DurkenzoError):
 
 
 class NotApproved(DurkenzoError):
-    """The restart isn't approved."""
+    """The server's restart isn't approved."""
 
     code = 46
 
@@ -268,7 +268,7 @@ class KeyTooLong(DurkenzoError):
 
 
 class OldRoute(DurkenzoError):
-    """The shard's last route is as new."""
+    """The shard's published route is as new."""
 
     code = 64
 

@@ -19,21 +19,21 @@ const HOW: &str =
 Or unpack an archive of ./dist, and have DURKENZO_LIB name its folder lib/durkenzo.";
 
 /// Why nothing is linked.
-pub enum Refusal {
+pub enum LinkFault {
     /// The libraries are machine code of another target.
     Target(String),
     /// A library is in none of these folders.
     Absent(String, Vec<PathBuf>),
 }
 
-impl fmt::Display for Refusal {
+impl fmt::Display for LinkFault {
     fn fmt(&self, f: &mut fmt::Formatter<'_>) -> fmt::Result {
         match self {
-            Refusal::Target(target) => write!(
+            LinkFault::Target(target) => write!(
                 f,
                 "its proved libraries are for Linux on x86_64 only, and this is a build for {target}"
             ),
-            Refusal::Absent(library, folders) => {
+            LinkFault::Absent(library, folders) => {
                 let looked = folders.iter().map(|it| format!(" in {}", it.display()));
                 let proved = if library == OF_THE_KIT { "sm_c" } else { library };
                 write!(f, "there is no lib{library}.a{}", looked.collect::<Vec<_>>().join(" or"))?;
@@ -76,10 +76,10 @@ fn folders(library: &str) -> Vec<PathBuf> {
 }
 
 /// Links the library; returns whether it was proved.
-fn linked(library: &str) -> Result<bool, Refusal> {
+fn linked(library: &str) -> Result<bool, LinkFault> {
     let (folders, name) = (folders(library), format!("lib{library}.a"));
     let Some(folder) = folders.iter().find(|it| it.join(&name).is_file()) else {
-        return Err(Refusal::Absent(library.into(), folders));
+        return Err(LinkFault::Absent(library.into(), folders));
     };
     println!("cargo:rerun-if-changed={}", folder.join(&name).display());
     println!("cargo:rustc-link-search=native={}", folder.display());
@@ -88,12 +88,12 @@ fn linked(library: &str) -> Result<bool, Refusal> {
 }
 
 /// Links these libraries and the toolchain's; returns whether they were proved. On docs.rs nothing is linked.
-fn all_linked(libraries: &[&str]) -> Result<bool, Refusal> {
+fn all_linked(libraries: &[&str]) -> Result<bool, LinkFault> {
     if env::var_os("DOCS_RS").is_some() {
         return Ok(true);
     }
     if let Some(target) = other_target() {
-        return Err(Refusal::Target(target));
+        return Err(LinkFault::Target(target));
     }
     let mut are_proved = true;
     for library in libraries.iter().chain([&OF_THE_KIT]) {

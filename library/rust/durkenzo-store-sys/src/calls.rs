@@ -47,12 +47,20 @@ pub struct SentNumbers {
 /// An answer to a request that was made, or to a read.
 #[repr(C)]
 #[derive(Clone, Copy, Default, Debug)]
-pub struct Answer {
+pub struct AnswerNumbers {
     pub client: u64,
     pub number: u64,
     pub value: u64,
     pub length: usize,
     pub kind: u8,
+}
+
+/// How many keys a scan found, and how many bytes they have with their lengths.
+#[repr(C)]
+#[derive(Clone, Copy, Default, Debug)]
+pub struct KeyNumbers {
+    pub count: usize,
+    pub length: usize,
 }
 
 /// The head of a shard's log: how many batches there are, how many of them, from the first on, the base stands for, and
@@ -128,11 +136,15 @@ extern "C" {
         made: *mut usize,
         read: *mut usize,
     ) -> u32;
-    pub fn durkenzo_server_answer(server: *mut Handle, at: usize, answer: *mut Answer) -> u32;
+    pub fn durkenzo_server_answer(
+        server: *mut Handle,
+        at: usize,
+        answer: *mut AnswerNumbers,
+    ) -> u32;
     pub fn durkenzo_server_text(
         server: *mut Handle,
         at: usize,
-        answer: *mut Answer,
+        answer: *mut AnswerNumbers,
         into: *mut u8,
         room: usize,
     ) -> u32;
@@ -154,6 +166,18 @@ extern "C" {
         behind: *mut bool,
     ) -> u32;
     pub fn durkenzo_server_clients(server: *mut Handle, clients: *mut usize) -> u32;
+    pub fn durkenzo_server_keys(server: *mut Handle, keys: *mut u64) -> u32;
+    pub fn durkenzo_server_scan(
+        server: *mut Handle,
+        low: *const u8,
+        low_length: usize,
+        high: *const u8,
+        high_length: usize,
+        most: usize,
+        numbers: *mut KeyNumbers,
+        into: *mut u8,
+        room: usize,
+    ) -> u32;
     pub fn durkenzo_server_close(server: *mut Handle);
 }
 
@@ -161,7 +185,7 @@ extern "C" {
 #[cfg(feature = "control")]
 #[repr(C)]
 #[derive(Clone, Copy, Default, Debug, PartialEq, Eq)]
-pub struct Step {
+pub struct DirectorStep {
     pub shard: u16,
     pub server: u16,
     pub kind: u8,
@@ -177,6 +201,7 @@ pub struct CommandNumbers {
     pub length: usize,
     pub commands_length: usize,
     pub number: u16,
+    pub absent: u16,
     pub is_state: bool,
 }
 
@@ -225,17 +250,17 @@ extern "C" {
     pub fn durkenzo_director_next_of_shard(
         director: *mut Handle,
         shard: u16,
-        step: *mut Step,
+        step: *mut DirectorStep,
     ) -> u32;
     pub fn durkenzo_director_next_of_server(
         director: *mut Handle,
         server: u16,
-        step: *mut Step,
+        step: *mut DirectorStep,
     ) -> u32;
     pub fn durkenzo_director_next_of_drain(
         director: *mut Handle,
         server: u16,
-        step: *mut Step,
+        step: *mut DirectorStep,
     ) -> u32;
     pub fn durkenzo_director_fallen(director: *mut Handle, server: *mut u16) -> u32;
     pub fn durkenzo_director_record_of(

@@ -1,16 +1,17 @@
 use crate::calls::{self, CommandNumbers, Handle};
 use crate::Code;
 
-pub use crate::calls::Step;
+pub use crate::calls::DirectorStep;
 
 /// A record or a state, and the bytes of the key of commands behind it, are no longer.
 const ROOM: usize = 26;
 /// A call on the control for what comes next of this shard or server.
-type NextCall = unsafe extern "C" fn(*mut Handle, u16, *mut Step) -> u32;
+type NextCall = unsafe extern "C" fn(*mut Handle, u16, *mut DirectorStep) -> u32;
 
 /// The kinds of commands, and of what comes next where it is none.
 #[allow(missing_docs)]
-impl Step {
+impl DirectorStep {
+    // By tools/library-codes, the commands of library/codes.txt:
     pub const NOTHING: u8 = 0;
     pub const ASSIGN: u8 = 1;
     pub const PREPARE_ADD_SHARD: u8 = 2;
@@ -27,10 +28,11 @@ impl Step {
     pub const BACK: u8 = 13;
     pub const FAIL: u8 = 14;
     pub const WAITS: u8 = 15;
+    // End of them.
 
     /// A change of this kind of the shard; server 0 where it names none.
-    pub fn of_shard(kind: u8, shard: u16, server: u16) -> Step {
-        Step {
+    pub fn of_shard(kind: u8, shard: u16, server: u16) -> DirectorStep {
+        DirectorStep {
             shard,
             server,
             kind,
@@ -38,23 +40,25 @@ impl Step {
     }
 
     /// A step of this kind of the server's restart.
-    pub fn of_server(kind: u8, server: u16) -> Step {
-        Step::of_shard(kind, 0, server)
+    pub fn of_server(kind: u8, server: u16) -> DirectorStep {
+        DirectorStep::of_shard(kind, 0, server)
     }
 
     /// Whether it may be given as a command.
     pub fn is_command(self) -> bool {
-        (Step::ASSIGN..=Step::FAIL).contains(&self.kind)
+        DirectorStep::NOTHING < self.kind && self.kind < DirectorStep::WAITS
     }
 }
 
 /// What a command's transaction compares and writes.
 #[derive(Clone, Debug, PartialEq, Eq)]
-pub struct Sending {
+pub struct CommandTransaction {
     /// The revision of the leader's key.
     pub elected: u64,
     /// The revision of the key of commands.
     pub placed: u64,
+    /// The server whose key isn't there, 0 for none.
+    pub absent: u16,
     /// The shard whose record is written, or the server whose state is.
     pub number: u16,
     /// Whether it is a state.
@@ -166,8 +170,8 @@ impl Director {
     }
 
     /// Judges the command: it is to be sent, or refused by the first fault that applies.
-    pub fn command(&mut self, step: Step) -> Result<(), Code> {
-        let Step {
+    pub fn command(&mut self, step: DirectorStep) -> Result<(), Code> {
+        let DirectorStep {
             shard,
             server,
             kind,
@@ -178,7 +182,7 @@ impl Director {
     }
 
     /// What is sent. It may be asked again.
-    pub fn sending(&mut self) -> Result<Sending, Code> {
+    pub fn sending(&mut self) -> Result<CommandTransaction, Code> {
         let (mut numbers, mut room) = (CommandNumbers::default(), [0; ROOM]);
         let (into, length) = (room.as_mut_ptr(), room.len());
         let handle = &mut self.handle;
@@ -186,9 +190,10 @@ impl Director {
             calls::durkenzo_director_sending(handle, &mut numbers, into, length)
         })?;
         let (written, rest) = room.split_at(numbers.length.min(ROOM));
-        Ok(Sending {
+        Ok(CommandTransaction {
             elected: numbers.elected,
             placed: numbers.placed,
+            absent: numbers.absent,
             number: numbers.number,
             is_state: numbers.is_state,
             written: written.to_vec(),
@@ -219,22 +224,22 @@ impl Director {
     }
 
     /// What comes next of the shard.
-    pub fn next_of_shard(&mut self, shard: u16) -> Result<Step, Code> {
+    pub fn next_of_shard(&mut self, shard: u16) -> Result<DirectorStep, Code> {
         self.next(calls::durkenzo_director_next_of_shard, shard)
     }
 
     /// What comes next of the server's restart.
-    pub fn next_of_server(&mut self, server: u16) -> Result<Step, Code> {
+    pub fn next_of_server(&mut self, server: u16) -> Result<DirectorStep, Code> {
         self.next(calls::durkenzo_director_next_of_server, server)
     }
 
     /// What comes next of the drain of the server, or for 0 of the vacant shards.
-    pub fn next_of_drain(&mut self, server: u16) -> Result<Step, Code> {
+    pub fn next_of_drain(&mut self, server: u16) -> Result<DirectorStep, Code> {
         self.next(calls::durkenzo_director_next_of_drain, server)
     }
 
-    fn next(&mut self, call: NextCall, number: u16) -> Result<Step, Code> {
-        let mut step = Step::default();
+    fn next(&mut self, call: NextCall, number: u16) -> Result<DirectorStep, Code> {
+        let mut step = DirectorStep::default();
         Code::judged(unsafe { call(&mut self.handle, number, &mut step) })?;
         Ok(step)
     }

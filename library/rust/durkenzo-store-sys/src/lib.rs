@@ -9,7 +9,8 @@
 //! let record = [&[1][..], &(1u64 << 61 | 1 << 48 | 1).to_be_bytes(), &[0; 8]].concat();
 //! let head = [&[1][..], &[0; 24]].concat();
 //! server.read((&record, 1), (&head, 0))?;
-//! let asked = durkenzo_store_sys::Asked { client: 7, number: 1, request: b"\x02\x01kvalue", ..Default::default() };
+//! let request = b"\x02\x01kvalue";
+//! let asked = durkenzo_store_sys::ServerRequest { client: 7, number: 1, request, ..Default::default() };
 //! assert_eq!(server.take(&asked)?, Decision::Waits);
 //! assert!(server.flush()?);
 //! let sent = server.sending()?;
@@ -27,11 +28,12 @@ mod code;
 #[cfg(feature = "control")]
 #[allow(unsafe_code)]
 mod director;
+mod limits;
 #[allow(unsafe_code)]
 mod server;
 
 pub use calls::{Head, Reply};
 pub use code::Code;
 #[cfg(feature = "control")]
-pub use director::{Director, Sending, Step};
-pub use server::{Asked, Base, Decision, Limits, Passing, Sent, Server, Told};
+pub use director::{CommandTransaction, Director, DirectorStep};
+pub use server::{Base, Decision, Limits, Passing, Server, ServerRequest, ServerTransaction, Told};

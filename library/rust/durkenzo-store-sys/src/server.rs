@@ -1,12 +1,15 @@
-use crate::calls::{self, Answer, Forward, Handle, Head, PartNumbers, Reply, SentNumbers};
+use crate::calls::{
+    self, AnswerNumbers, Forward, Handle, Head, KeyNumbers, PartNumbers, Reply, SentNumbers,
+};
+use crate::limits::MAX_TEXT;
 use crate::Code;
 
 /// How many bytes a part of a base has at most.
 const PART_BYTES: usize = 696_337;
-/// How many bytes a text has at most.
-const MAX_TEXT: usize = 65_535;
-/// How many bytes what is sent has at first, before it grows.
-const SENT: usize = 4 << 10;
+/// How many bytes the room has at first, before it grows to what is written there.
+const FIRST_ROOM: usize = 4 << 10;
+/// No key is as great as this one.
+const ABOVE_KEYS: [u8; 256] = [u8::MAX; 256];
 
 impl Head {
     /// What the bytes at a log's head say.
@@ -50,7 +53,7 @@ impl Default for Limits {
 
 /// A request, as a server takes it.
 #[derive(Clone, Copy, Debug, Default)]
-pub struct Asked<'a> {
+pub struct ServerRequest<'a> {
     /// Whose it is.
     pub client: u64,
     /// Its number.
@@ -84,7 +87,7 @@ pub enum Decision {
 
 /// What a server's transaction compares and writes.
 #[derive(Clone, Debug, PartialEq, Eq)]
-pub struct Sent {
+pub struct ServerTransaction {
     /// The revision of the record.
     pub stood: u64,
     /// The revision of the head.
@@ -210,7 +213,7 @@ impl Server {
     }
 
     /// What is decided of a request.
-    pub fn take(&mut self, asked: &Asked<'_>) -> Result<Decision, Code> {
+    pub fn take(&mut self, asked: &ServerRequest<'_>) -> Result<Decision, Code> {
         let (mut reply, mut forward) = (Reply::default(), Forward::default());
         let code = unsafe {
             calls::durkenzo_server_take(
@@ -247,7 +250,7 @@ impl Server {
     }
 
     /// What is sent. It may be asked again.
-    pub fn sending(&mut self) -> Result<Sent, Code> {
+    pub fn sending(&mut self) -> Result<ServerTransaction, Code> {
         let mut numbers = SentNumbers::default();
         loop {
             let (into, room) = (self.room.as_mut_ptr(), self.room.len());
@@ -255,12 +258,12 @@ impl Server {
                 calls::durkenzo_server_sending(&mut self.handle, &mut numbers, into, room)
             };
             match Code(code) {
-                Code::TOO_SHORT => self.room.resize((2 * room).max(SENT), 0),
+                Code::TOO_SHORT => self.grow_room(),
                 Code(code) => break Code::judged(code)?,
             }
         }
         let (head, rest) = self.room.split_at(numbers.head_length);
-        Ok(Sent {
+        Ok(ServerTransaction {
             stood: numbers.stood,
             logged: numbers.logged,
             number: numbers.number,
@@ -286,14 +289,14 @@ impl Server {
     }
 
     fn answer(&mut self, at: usize) -> Result<Told, Code> {
-        let mut answer = Answer::default();
+        let mut answer = AnswerNumbers::default();
         Code::judged(unsafe { calls::durkenzo_server_answer(&mut self.handle, at, &mut answer) })?;
         Ok(told(&answer, &[]))
     }
 
     fn text(&mut self, at: usize) -> Result<Told, Code> {
         self.have_room(MAX_TEXT);
-        let mut answer = Answer::default();
+        let mut answer = AnswerNumbers::default();
         let (into, room) = (self.room.as_mut_ptr(), self.room.len());
         Code::judged(unsafe {
             calls::durkenzo_server_text(&mut self.handle, at, &mut answer, into, room)
@@ -358,6 +361,59 @@ impl Server {
         Ok(clients)
     }
 
+    /// Returns how many keys hold something after all requests that are made: none before the shard was read.
+    pub fn count(&mut self) -> Result<u64, Code> {
+        let mut keys = 0;
+        Code::judged(unsafe { calls::durkenzo_server_keys(&mut self.handle, &mut keys) })?;
+        Ok(keys)
+    }
+
+    /// Returns the first keys, at most so many, that hold something after all requests that are made, in their order:
+    /// those from `low` on and below `high`, or up to the last one. There are none before the shard was read.
+    ///
+    /// After [`Code::NO_MEMORY`] the server goes on as it was.
+    pub fn scan(
+        &mut self,
+        low: &[u8],
+        high: Option<&[u8]>,
+        most: usize,
+    ) -> Result<Vec<Box<[u8]>>, Code> {
+        let high = high.unwrap_or(&ABOVE_KEYS);
+        let mut numbers = KeyNumbers::default();
+        loop {
+            let (into, room) = (self.room.as_mut_ptr(), self.room.len());
+            let code = unsafe {
+                calls::durkenzo_server_scan(
+                    &mut self.handle,
+                    low.as_ptr(),
+                    low.len(),
+                    high.as_ptr(),
+                    high.len(),
+                    most,
+                    &mut numbers,
+                    into,
+                    room,
+                )
+            };
+            match Code(code) {
+                Code::TOO_SHORT => self.grow_room(),
+                code => break Code::judged(code.0)?,
+            }
+        }
+        let mut keys = Vec::with_capacity(numbers.count);
+        let mut left = &self.room[..numbers.length];
+        while let Some((length, behind)) = left.split_first_chunk() {
+            let (key, rest) = behind.split_at(u64::from_be_bytes(*length) as usize);
+            keys.push(key.into());
+            left = rest;
+        }
+        Ok(keys)
+    }
+
+    fn grow_room(&mut self) {
+        self.have_room((2 * self.room.len()).max(FIRST_ROOM));
+    }
+
     fn have_room(&mut self, bytes: usize) {
         if self.room.len() < bytes {
             self.room.resize(bytes, 0);
@@ -365,7 +421,7 @@ impl Server {
     }
 }
 
-fn told(answer: &Answer, text: &[u8]) -> Told {
+fn told(answer: &AnswerNumbers, text: &[u8]) -> Told {
     Told {
         client: answer.client,
         number: answer.number,

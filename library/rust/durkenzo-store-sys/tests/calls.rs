@@ -1,5 +1,5 @@
 //! Wrong bodies of the library's calls on a store that these tests refuse, so that no edit has to.
-use durkenzo_store_sys::{Asked, Code, Decision, Director, Limits, Server, Step};
+use durkenzo_store_sys::{Code, Decision, Director, DirectorStep, Limits, Server, ServerRequest};
 
 /// Two shards, and three servers, one of which may be away at a time.
 const SETTINGS: &str = concat!(
@@ -20,9 +20,9 @@ const EMPTY: [u8; 25] = {
     bytes
 };
 /// The code of a control that has to read all again.
-const UNREAD: Code = Code(90);
+const UNREAD: Code = Code::DIRECTOR_UNREAD;
 /// The code of a drop before each follower has read that the shard is taken.
-const NOT_FOLLOWED: Code = Code(96);
+const NOT_FOLLOWED: Code = Code::DIRECTOR_NOT_FOLLOWED;
 
 /// The server of a shard that it serves, of which nothing was made.
 fn serving() -> Result<Server, Code> {
@@ -31,12 +31,12 @@ fn serving() -> Result<Server, Code> {
     Ok(server)
 }
 
-fn asked(number: u64, request: &[u8]) -> Asked<'_> {
-    Asked {
+fn asked(number: u64, request: &[u8]) -> ServerRequest<'_> {
+    ServerRequest {
         client: 7,
         number,
         request,
-        ..Asked::default()
+        ..ServerRequest::default()
     }
 }
 
@@ -78,19 +78,71 @@ fn what_a_later_request_made_has_passed() -> Result<(), Code> {
     Ok(())
 }
 
+/// Has the server make these requests, each by a transaction of its own.
+fn makes(server: &mut Server, first: u64, requests: &[&[u8]]) -> Result<(), Code> {
+    for (number, request) in (first..).zip(requests) {
+        assert_eq!(server.take(&asked(number, request))?, Decision::Waits);
+        assert!(server.flush()?);
+        server.made(5 + number)?;
+    }
+    Ok(())
+}
+
+#[test]
+fn a_scan_finds_the_keys_of_what_is_made() -> Result<(), Code> {
+    let mut server = Server::new(1, 0, 2, Limits::default())?;
+    assert_eq!((server.count()?, server.scan(b"", None, 9)?), (0, vec![]));
+    server.read((&SERVED, 3), (&EMPTY, 5))?;
+    makes(
+        &mut server,
+        1,
+        &[b"\x02\x01bvalue", b"\x02\x02b\x00value", b"\x02\x01atext"],
+    )?;
+    // What is sent changes nothing until it is made.
+    assert_eq!(server.take(&asked(4, b"\x05\x01b"))?, Decision::Waits);
+    assert!(server.flush()?);
+    let keys = |keys: &[&[u8]]| keys.iter().map(|it| Box::from(*it)).collect::<Vec<_>>();
+    let all = keys(&[b"a", b"b", b"b\x00"]);
+    assert_eq!((server.count()?, server.scan(b"", None, 9)?), (3, all));
+    assert_eq!(server.scan(b"b", None, 9)?, keys(&[b"b", b"b\x00"]));
+    assert_eq!(server.scan(b"a", Some(b"b"), 9)?, keys(&[b"a"]));
+    assert_eq!(server.scan(b"", None, 2)?, keys(&[b"a", b"b"]));
+    assert!(server.scan(b"b", Some(b"b"), 9)?.is_empty());
+    assert!(server.scan(b"", None, 0)?.is_empty());
+    server.made(9)?;
+    assert_eq!(
+        (server.count()?, server.scan(b"", None, 9)?),
+        (2, keys(&[b"a", b"b\x00"]))
+    );
+    Ok(())
+}
+
+#[test]
+fn a_scan_gives_more_keys_than_the_first_room_has() -> Result<(), Code> {
+    let mut server = serving()?;
+    let key = |it: u8| vec![it; 255];
+    for it in 0..100 {
+        let put = [&b"\x02\xff"[..], &key(it)].concat();
+        makes(&mut server, u64::from(it) + 1, &[&put])?;
+    }
+    let keys = server.scan(b"", None, 100)?;
+    assert!(keys.iter().map(|it| it.to_vec()).eq((0..100).map(key)));
+    Ok(())
+}
+
 #[test]
 fn a_shard_is_dropped_once_all_follow() -> Result<(), Code> {
     let mut director = leading()?;
     for (at, kind, server) in [
-        (9, Step::ASSIGN, 1),
-        (10, Step::PREPARE_ADD_SHARD, 2),
-        (11, Step::PREPARE_DROP_SHARD, 0),
-        (12, Step::ADD_SHARD, 0),
+        (9, DirectorStep::ASSIGN, 1),
+        (10, DirectorStep::PREPARE_ADD_SHARD, 2),
+        (11, DirectorStep::PREPARE_DROP_SHARD, 0),
+        (12, DirectorStep::ADD_SHARD, 0),
     ] {
-        director.command(Step::of_shard(kind, 0, server))?;
+        director.command(DirectorStep::of_shard(kind, 0, server))?;
         director.made(at)?;
     }
-    let drop = Step::of_shard(Step::DROP_SHARD, 0, 0);
+    let drop = DirectorStep::of_shard(DirectorStep::DROP_SHARD, 0, 0);
     director.follower(2, 11)?;
     assert_eq!(director.command(drop), Err(NOT_FOLLOWED));
     director.forget_followers()?;
@@ -101,7 +153,7 @@ fn a_shard_is_dropped_once_all_follow() -> Result<(), Code> {
 #[test]
 fn a_command_compares_the_election_by_which_it_leads() -> Result<(), Code> {
     let mut director = leading()?;
-    director.command(Step::of_shard(Step::ASSIGN, 0, 1))?;
+    director.command(DirectorStep::of_shard(DirectorStep::ASSIGN, 0, 1))?;
     let sending = director.sending()?;
     assert_eq!((sending.elected, sending.placed), (3, 0));
     Ok(())
@@ -110,7 +162,7 @@ fn a_command_compares_the_election_by_which_it_leads() -> Result<(), Code> {
 #[test]
 fn what_was_lost_is_to_be_read_again() -> Result<(), Code> {
     let mut director = leading()?;
-    director.command(Step::of_shard(Step::ASSIGN, 0, 1))?;
+    director.command(DirectorStep::of_shard(DirectorStep::ASSIGN, 0, 1))?;
     director.lost()?;
     assert_eq!(director.next_of_shard(0).err(), Some(UNREAD));
     Ok(())

@@ -10,7 +10,7 @@ use std::fs;
 use std::io::ErrorKind;
 use std::path::PathBuf;
 
-type Fault = Box<dyn Error + Send + Sync>;
+type BoxError = Box<dyn Error + Send + Sync>;
 
 const ACCOUNTS: u16 = 4;
 
@@ -21,16 +21,16 @@ struct Account {
     token: u64,
 }
 
-struct Store {
+struct AccountFile {
     file: PathBuf,
     /// The number after which the tokens of the next process begin.
     after: u64,
     accounts: [Account; ACCOUNTS as usize],
 }
 
-impl Store {
+impl AccountFile {
     /// The store of the file: its first line is `after`, and each other one an account.
-    fn open(file: PathBuf) -> Result<Store, Fault> {
+    fn open(file: PathBuf) -> Result<AccountFile, BoxError> {
         let kept = match fs::read_to_string(&file) {
             Err(error) if error.kind() == ErrorKind::NotFound => String::new(),
             read => read?,
@@ -42,14 +42,14 @@ impl Store {
             account.balance = numbers.next().transpose()?.unwrap_or_default();
             account.token = numbers.next().transpose()?.unwrap_or_default();
         }
-        Ok(Store {
+        Ok(AccountFile {
             file,
             after,
             accounts,
         })
     }
 
-    fn save(&self) -> Result<(), Fault> {
+    fn save(&self) -> Result<(), BoxError> {
         let lines = self.accounts.iter();
         let lines = lines.map(|it| format!("{} {}\n", it.balance, it.token));
         let text = format!("{}\n{}", self.after, lines.collect::<String>());
@@ -58,7 +58,7 @@ impl Store {
 
     /// The number after which the tokens of this process begin. Those of the next one begin above them, so a process
     /// that was cut off and still writes has lower ones.
-    fn claim(&mut self) -> Result<u64, Fault> {
+    fn claim(&mut self) -> Result<u64, BoxError> {
         let after = self.after;
         self.after += MAX_GENERATION;
         self.save()?;
@@ -67,9 +67,9 @@ impl Store {
 
     /// Adds 1, as `UPDATE .. SET balance = balance + 1, token = ?1 WHERE shard = ?2 AND token <= ?1` does. A write that
     /// changes no row is an error.
-    fn add(&mut self, shard: u16, token: u64) -> Result<(), Fault> {
+    fn add(&mut self, shard: u16, token: u64) -> Result<(), BoxError> {
         // Another process may have written meanwhile.
-        *self = Store::open(self.file.clone())?;
+        *self = AccountFile::open(self.file.clone())?;
         let account = &mut self.accounts[usize::from(shard)];
         if token < account.token {
             return Err(format!("account {shard} has a later token than {token}").into());
@@ -80,12 +80,12 @@ impl Store {
     }
 }
 
-fn main() -> Result<(), Fault> {
+fn main() -> Result<(), BoxError> {
     let mut words = std::env::args().skip(1);
     let (Some(file), Some(writes)) = (words.next(), words.next()) else {
         return Err("fenced FILE WRITES [AFTER]".into());
     };
-    let mut store = Store::open(file.into())?;
+    let mut store = AccountFile::open(file.into())?;
     let after = match words.next() {
         Some(after) => after.parse()?,
         None => store.claim()?,

@@ -7,103 +7,84 @@
 //! The settings line is passed over: the board has servers 1 to SERVERS, each in a domain of its own and with room for
 //! all shards, which may all be down. `load` isn't answered.
 use durkenzo::{
-    Board, Control, Layout, Mode, Pass, Plan, Record, RestartFault, Router, Routes, Stand,
+    Board, Control, Layout, Map, MapFault, Mode, Pass, Plan, Record, Reply, Request, RestartFault,
+    Router, Routes, Stand, Value,
 };
-use std::collections::{BTreeMap, HashMap};
+use std::collections::HashMap;
 use std::error::Error;
 use std::io::{stdin, stdout, Read, Write};
+use std::str::FromStr;
+
+const MOST_HOPS: usize = 4;
 
 /// What a shard's keys hold, and how many requests the shard has had.
-#[derive(Default)]
 struct Body {
-    pairs: BTreeMap<Vec<u8>, Value>,
+    map: Map,
     requests: u64,
 }
 
-#[derive(Clone)]
-enum Value {
-    Text(Vec<u8>),
-    Count(i64),
+impl Body {
+    fn new() -> Result<Body, MapFault> {
+        Ok(Body {
+            map: Map::new()?,
+            requests: 0,
+        })
+    }
+
+    /// Returns the text of the reply to a request of the sample service, which the library's own map gives.
+    fn reply(&mut self, word: &str, key: &[u8], rest: &[u8]) -> Vec<u8> {
+        let request = request(word, key, rest);
+        match self.map.ask(&request).expect("memory is there") {
+            Reply::Nothing => b"nothing".to_vec(),
+            Reply::Done => b"done".to_vec(),
+            Reply::Value(value) => shown_value("count ", "text ", &value),
+            Reply::Pairs(pairs) => shown_pairs(&pairs),
+            Reply::WrongKind => b"reply WrongKind".to_vec(),
+            Reply::Overflow => b"reply Overflow".to_vec(),
+            Reply::TextTooLong => b"reply TooLong".to_vec(),
+        }
+    }
 }
 
-const LONGEST_TEXT: usize = 65_535;
-const MOST_HOPS: usize = 4;
-const MOST_PAIRS: usize = 100;
-
-impl Body {
-    /// The reply to a request of the sample service.
-    fn reply(&mut self, word: &str, key: &[u8], rest: &[u8]) -> Vec<u8> {
-        let held = self.pairs.get(key).cloned();
-        match (word, held) {
-            ("get", None) => b"nothing".to_vec(),
-            ("get", Some(Value::Count(count))) => format!("count {count}").into_bytes(),
-            ("get", Some(Value::Text(text))) => {
-                [format!("text {}:", text.len()).as_bytes(), &text].concat()
-            }
-            ("del", None) => b"nothing".to_vec(),
-            ("del", Some(_)) => {
-                self.pairs.remove(key);
-                b"done".to_vec()
-            }
-            ("inc", Some(Value::Text(_))) | ("put" | "append", Some(Value::Count(_))) => {
-                b"reply WrongKind".to_vec()
-            }
-            ("scan", _) => self.scan(key, rest),
-            ("inc", held) => self.add(key, held, rest),
-            ("append", Some(Value::Text(text))) => self.put(key, [&text, rest].concat()),
-            _ => self.put(key, rest.to_vec()),
+/// Returns the request that these words of a line are.
+fn request<'a>(word: &str, key: &'a [u8], rest: &'a [u8]) -> Request<'a> {
+    match word {
+        "get" => Request::Get(key),
+        "put" => Request::Put(key, rest),
+        "append" => Request::Append(key, rest),
+        "inc" => Request::Add(key, number(rest)),
+        "del" => Request::Remove(key),
+        _ => {
+            let (high, most) = split(rest);
+            Request::Scan(key, high, number(most))
         }
     }
+}
 
-    fn scan(&self, low: &[u8], rest: &[u8]) -> Vec<u8> {
-        let (high, most) = split(rest);
-        let most: usize = std::str::from_utf8(most).unwrap().parse().unwrap();
-        let within = self
-            .pairs
-            .iter()
-            .filter(|(key, _)| &key[..] >= low && &key[..] < high);
-        let found: Vec<_> = within.take(most.min(MOST_PAIRS)).collect();
-        let mut reply = format!("pairs {}", found.len()).into_bytes();
-        for (key, value) in found {
-            reply.extend(
-                format!(" {}:", key.len())
-                    .bytes()
-                    .chain(key.iter().copied()),
-            );
-            match value {
-                Value::Count(count) => reply.extend(format!(" c{count}").bytes()),
-                Value::Text(text) => {
-                    reply.extend(
-                        format!(" t{}:", text.len())
-                            .bytes()
-                            .chain(text.iter().copied()),
-                    );
-                }
-            }
-        }
-        reply
-    }
+/// Returns the number that a word of a line without an error is.
+fn number<T: FromStr>(word: &[u8]) -> T {
+    let number = std::str::from_utf8(word)
+        .ok()
+        .and_then(|it| it.parse().ok());
+    number.expect("the line is without an error")
+}
 
-    fn put(&mut self, key: &[u8], text: Vec<u8>) -> Vec<u8> {
-        if text.len() > LONGEST_TEXT {
-            return b"reply TooLong".to_vec();
-        }
-        self.pairs.insert(key.to_vec(), Value::Text(text));
-        b"done".to_vec()
+/// Returns a value as an answer shows it: behind the first word if it is a count, and behind the second if a text.
+fn shown_value(count: &str, text: &str, value: &Value) -> Vec<u8> {
+    match value {
+        Value::Count(held) => format!("{count}{held}").into_bytes(),
+        Value::Text(held) => [format!("{text}{}:", held.len()).as_bytes(), held].concat(),
     }
+}
 
-    fn add(&mut self, key: &[u8], held: Option<Value>, number: &[u8]) -> Vec<u8> {
-        let held = match held {
-            Some(Value::Count(count)) => count,
-            _ => 0,
-        };
-        let number: i64 = std::str::from_utf8(number).unwrap().parse().unwrap();
-        let Some(sum) = held.checked_add(number) else {
-            return b"reply Overflow".to_vec();
-        };
-        self.pairs.insert(key.to_vec(), Value::Count(sum));
-        format!("count {sum}").into_bytes()
+fn shown_pairs(pairs: &[(Vec<u8>, Value)]) -> Vec<u8> {
+    let mut shown = format!("pairs {}", pairs.len()).into_bytes();
+    for (key, value) in pairs {
+        shown.extend(format!(" {}:", key.len()).bytes());
+        shown.extend(key);
+        shown.extend(shown_value(" c", " t", value));
     }
+    shown
 }
 
 /// The word before the first space, and what follows that.
@@ -114,7 +95,7 @@ fn split(line: &[u8]) -> (&[u8], &[u8]) {
     }
 }
 
-struct Session {
+struct ScriptSession {
     board: Board<Body>,
     routes: Routes,
     router: Router,
@@ -128,10 +109,10 @@ struct Session {
     reached: Vec<bool>,
 }
 
-type Answer = Result<Vec<u8>, String>;
+type ScriptAnswer = Result<Vec<u8>, String>;
 
-impl Session {
-    fn answer(&mut self, line: &[u8]) -> Option<Answer> {
+impl ScriptSession {
+    fn answer(&mut self, line: &[u8]) -> Option<ScriptAnswer> {
         let (word, rest) = split(line);
         let (first, after) = split(rest);
         let number = |word: &[u8]| std::str::from_utf8(word).ok()?.parse::<u16>().ok();
@@ -161,21 +142,21 @@ impl Session {
     }
 
     /// A permit that is forgotten keeps its shard until its pass is dropped.
-    fn hold(&mut self, shard: u16, server: u16) -> Answer {
+    fn hold(&mut self, shard: u16, server: u16) -> ScriptAnswer {
         let mut pass = self.pass(shard, server)?;
         std::mem::forget(pass.admit(shard, Mode::Direct).map_err(|it| named(&it))?);
         self.held.insert(shard, pass);
         Ok(b"ok".to_vec())
     }
 
-    fn free(&mut self, shard: u16) -> Answer {
+    fn free(&mut self, shard: u16) -> ScriptAnswer {
         self.known(shard)?;
         self.held.remove(&shard).ok_or("NotHeld")?;
         Ok(b"ok".to_vec())
     }
 
     /// A body of another program has no requests to let go: an admission that changes nothing is all of a checkpoint.
-    fn admit(&mut self, shard: u16, server: u16) -> Answer {
+    fn admit(&mut self, shard: u16, server: u16) -> ScriptAnswer {
         let mut pass = self.pass(shard, server)?;
         let permit = pass.admit(shard, Mode::Direct).map_err(|it| named(&it))?;
         permit.finish();
@@ -205,13 +186,13 @@ impl Session {
         }
     }
 
-    fn by_route(&mut self, request: &[u8]) -> Answer {
+    fn by_route(&mut self, request: &[u8]) -> ScriptAnswer {
         let (key, _) = split(split(request).1);
         let route = self.router.route(self.layout.shard_of(key));
         self.request(Some(route.ok_or("NoRoute")?.server), request)
     }
 
-    fn change(&self, word: &str, shard: u16, server: u16) -> Option<Answer> {
+    fn change(&self, word: &str, shard: u16, server: u16) -> Option<ScriptAnswer> {
         let control = &self.control;
         let made = match word {
             "assign" => control.assign(shard, server),
@@ -231,7 +212,7 @@ impl Session {
         })
     }
 
-    fn step(&mut self, word: &str, server: u16) -> Answer {
+    fn step(&mut self, word: &str, server: u16) -> ScriptAnswer {
         let made = match word {
             "ask" => self.control.ask(server),
             "approve" => self.control.approve(server),
@@ -267,7 +248,7 @@ impl Session {
         format!("{name} {}", shard.unwrap())
     }
 
-    fn look(&mut self, shard: u16) -> Answer {
+    fn look(&mut self, shard: u16) -> ScriptAnswer {
         let record = self.passes[0]
             .look(shard)
             .map_err(|fault| format!("{fault:?}"))?;
@@ -278,7 +259,7 @@ impl Session {
     }
 
     /// Sends a request to a server, or to the shard's owner, and on to where servers forward it.
-    fn request(&mut self, at: Option<u16>, request: &[u8]) -> Answer {
+    fn request(&mut self, at: Option<u16>, request: &[u8]) -> ScriptAnswer {
         let (word, rest) = split(request);
         let (word, (key, rest)) = (std::str::from_utf8(word).unwrap(), split(rest));
         let shard = self.layout.shard_of(key);
@@ -335,13 +316,17 @@ fn main() -> Result<(), Box<dyn Error>> {
         return Err("script SERVERS RESTARTS CEILING BOUND..".into());
     };
     let servers = servers.parse()?;
+    let bodies: Vec<_> = bounds
+        .iter()
+        .map(|_| Body::new())
+        .collect::<Result<_, _>>()?;
     let board = Board::builder()
         .servers(servers)
         .restarts(restarts.parse()?)
         .ceiling(ceiling.parse()?)
-        .build(bounds.iter().map(|_| Body::default()))?;
+        .build(bodies)?;
     let routes = Routes::new(board.count())?;
-    let mut session = Session {
+    let mut session = ScriptSession {
         router: routes.router()?,
         routes,
         held: HashMap::new(),

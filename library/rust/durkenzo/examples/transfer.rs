@@ -3,7 +3,7 @@ use durkenzo::{AdmitFault, Board, Control, Mode, Pass};
 use std::error::Error;
 use std::thread;
 
-type Fault = Box<dyn Error + Send + Sync>;
+type BoxError = Box<dyn Error + Send + Sync>;
 
 const SERVERS: u16 = 3;
 const ACCOUNTS: u16 = 8;
@@ -15,7 +15,7 @@ struct Account {
 }
 
 /// A pass of each server.
-fn passes(board: &Board<Account>) -> Result<Vec<Pass<Account>>, Fault> {
+fn passes(board: &Board<Account>) -> Result<Vec<Pass<Account>>, BoxError> {
     let passes = (1..=SERVERS).map(|it| board.pass(it));
     Ok(passes.collect::<Result<_, _>>()?)
 }
@@ -59,7 +59,7 @@ fn transfer(
 }
 
 /// Makes many transfers, and returns how many were made.
-fn serve(board: &Board<Account>, thread: u16) -> Result<u64, Fault> {
+fn serve(board: &Board<Account>, thread: u16) -> Result<u64, BoxError> {
     let mut passes = [passes(board)?, passes(board)?];
     let mut done = 0;
     for turn in 0..TRANSFERS {
@@ -70,7 +70,7 @@ fn serve(board: &Board<Account>, thread: u16) -> Result<u64, Fault> {
     Ok(done)
 }
 
-fn migrate(control: &Control<Account>) -> Result<(), Fault> {
+fn migrate(control: &Control<Account>) -> Result<(), BoxError> {
     for round in 0..1_000 {
         let (shard, turn) = (round % ACCOUNTS, round / ACCOUNTS + 1);
         control.migrate(shard, (shard + turn) % SERVERS + 1)?;
@@ -78,7 +78,7 @@ fn migrate(control: &Control<Account>) -> Result<(), Fault> {
     Ok(())
 }
 
-fn main() -> Result<(), Fault> {
+fn main() -> Result<(), BoxError> {
     let account = || Account {
         balance: FIRST_BALANCE,
     };

@@ -1,15 +1,13 @@
 use crate::control::Control;
 use crate::fault::{BuildFault, PassFault};
 use crate::layout::Layout;
+use crate::limits::MAX_GENERATION;
 use crate::pass::Pass;
 use crate::raw::{self, Handle};
 use crate::settings_fault::SettingsFault;
 use std::cell::UnsafeCell;
 use std::fmt;
 use std::sync::{Arc, Mutex, MutexGuard, PoisonError};
-
-/// The greatest ceiling of a board's generations.
-pub const MAX_GENERATION: u64 = (1 << 36) - 1;
 
 /// What all that belongs to a board shares.
 pub(crate) struct Shared<T> {

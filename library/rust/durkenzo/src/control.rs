@@ -1,8 +1,11 @@
 use crate::board::Shared;
+use crate::change::Change;
 use crate::fault::{ChangeFault, PlanFault, RestartFault};
+use crate::limits::MAX_SERVER;
 use crate::plan::Plan;
 use crate::raw::{self, Handle, RecordParts};
 use crate::record::{Record, Stand};
+use crate::restart_step::RestartStep;
 use crate::restore_fault::RestoreFault;
 use std::fmt;
 use std::sync::Arc;
@@ -36,7 +39,7 @@ impl<T> Control<T> {
     ///
     /// As [a change](Control#errors).
     pub fn assign(&self, shard: u16, server: u16) -> Result<(), ChangeFault> {
-        self.change(shard, 1, server)
+        self.change(shard, Change::Assign(server))
     }
 
     /// Begins a migration of the shard to this server.
@@ -45,7 +48,7 @@ impl<T> Control<T> {
     ///
     /// As [a change](Control#errors).
     pub fn prepare_add_shard(&self, shard: u16, server: u16) -> Result<(), ChangeFault> {
-        self.change(shard, 2, server)
+        self.change(shard, Change::PrepareAddShard(server))
     }
 
     /// Has the shard's owner stop executing, and forward to the next owner.
@@ -54,7 +57,7 @@ impl<T> Control<T> {
     ///
     /// As [a change](Control#errors).
     pub fn prepare_drop_shard(&self, shard: u16) -> Result<(), ChangeFault> {
-        self.change(shard, 3, 0)
+        self.change(shard, Change::PrepareDropShard)
     }
 
     /// Makes the next owner the owner, to whom the previous one forwards.
@@ -63,7 +66,7 @@ impl<T> Control<T> {
     ///
     /// As [a change](Control#errors).
     pub fn add_shard(&self, shard: u16) -> Result<(), ChangeFault> {
-        self.change(shard, 4, 0)
+        self.change(shard, Change::AddShard)
     }
 
     /// Ends the migration, as the previous owner drops the shard.
@@ -72,7 +75,7 @@ impl<T> Control<T> {
     ///
     /// As [a change](Control#errors).
     pub fn drop_shard(&self, shard: u16) -> Result<(), ChangeFault> {
-        self.change(shard, 5, 0)
+        self.change(shard, Change::DropShard)
     }
 
     /// Gives up a migration that hasn't reached `add_shard`.
@@ -81,7 +84,7 @@ impl<T> Control<T> {
     ///
     /// As [a change](Control#errors).
     pub fn cancel(&self, shard: u16) -> Result<(), ChangeFault> {
-        self.change(shard, 6, 0)
+        self.change(shard, Change::Cancel)
     }
 
     /// Has nobody execute the shard's requests.
@@ -90,7 +93,7 @@ impl<T> Control<T> {
     ///
     /// As [a change](Control#errors).
     pub fn pause(&self, shard: u16) -> Result<(), ChangeFault> {
-        self.change(shard, 7, 0)
+        self.change(shard, Change::Pause)
     }
 
     /// Has the owner of a paused shard execute again.
@@ -99,7 +102,7 @@ impl<T> Control<T> {
     ///
     /// As [a change](Control#errors).
     pub fn resume(&self, shard: u16) -> Result<(), ChangeFault> {
-        self.change(shard, 8, 0)
+        self.change(shard, Change::Resume)
     }
 
     /// Gives a paused shard this owner.
@@ -108,7 +111,7 @@ impl<T> Control<T> {
     ///
     /// As [a change](Control#errors).
     pub fn reassign(&self, shard: u16, server: u16) -> Result<(), ChangeFault> {
-        self.change(shard, 9, server)
+        self.change(shard, Change::Reassign(server))
     }
 
     /// Moves the shard to this server by a whole migration, whose steps are tried again while the shard is admitted:
@@ -137,14 +140,14 @@ impl<T> Control<T> {
     /// `Change` with the first change that is refused, before which those stay made, or `NoMemory`.
     pub fn restore(&self, shard: u16, to: Stand) -> Result<(), RestoreFault> {
         let (from, mut at) = (self.stand(shard)?, to);
-        let mut steps = Vec::new();
+        let mut changes = Vec::new();
         while at != from {
-            let (before, kind, server) = at.step_to().ok_or(ChangeFault::WrongPhase)?;
-            steps.push((kind, server));
+            let (before, change) = at.step_to().ok_or(ChangeFault::WrongPhase)?;
+            changes.push(change);
             at = before;
         }
-        for (kind, server) in steps.into_iter().rev() {
-            self.change(shard, kind, server)?;
+        for change in changes.into_iter().rev() {
+            self.change(shard, change)?;
         }
         Ok(())
     }
@@ -155,7 +158,7 @@ impl<T> Control<T> {
     ///
     /// As [a step](Control#errors).
     pub fn ask(&self, server: u16) -> Result<(), RestartFault> {
-        self.restart(1, server)
+        self.restart(server, RestartStep::Ask)
     }
 
     /// Approves the restart of the server, within the caps.
@@ -164,7 +167,7 @@ impl<T> Control<T> {
     ///
     /// As [a step](Control#errors).
     pub fn approve(&self, server: u16) -> Result<(), RestartFault> {
-        self.restart(2, server)
+        self.restart(server, RestartStep::Approve)
     }
 
     /// Notes that the server was stopped for its restart, once it serves no shard.
@@ -173,7 +176,7 @@ impl<T> Control<T> {
     ///
     /// As [a step](Control#errors).
     pub fn stopped(&self, server: u16) -> Result<(), RestartFault> {
-        self.restart(3, server)
+        self.restart(server, RestartStep::Stopped)
     }
 
     /// Notes that the server is up again, also where it had failed, or where its restart is given up.
@@ -182,7 +185,7 @@ impl<T> Control<T> {
     ///
     /// As [a step](Control#errors).
     pub fn back(&self, server: u16) -> Result<(), RestartFault> {
-        self.restart(4, server)
+        self.restart(server, RestartStep::Back)
     }
 
     /// Notes that the server failed. That changes no shard: its own passes are admitted to what it owns until
@@ -192,7 +195,7 @@ impl<T> Control<T> {
     ///
     /// As [a step](Control#errors).
     pub fn fail(&self, server: u16) -> Result<(), RestartFault> {
-        self.restart(5, server)
+        self.restart(server, RestartStep::Fail)
     }
 
     /// Plans where the vacant shards go: each by number to the lowest server that it fits, earlier moves counted as
@@ -239,7 +242,7 @@ impl<T> Control<T> {
     // A pass of the board's first server, whose number settings tell.
     fn any_pass(&self) -> Result<Handle, RestoreFault> {
         let (mut chief, mut pass) = (self.shared.chief(), Handle::empty());
-        for server in 1..=raw::MAX_SERVER {
+        for server in 1..=MAX_SERVER {
             // SAFETY: the control's handle is locked, and the other is this call's alone.
             match unsafe { raw::durkenzo_pass(&mut *chief, &mut pass, server) } {
                 0 => return Ok(pass),
@@ -250,8 +253,13 @@ impl<T> Control<T> {
         Err(RestoreFault::NoMemory)
     }
 
-    fn change(&self, shard: u16, kind: u8, server: u16) -> Result<(), ChangeFault> {
-        let mut read = RecordParts::default();
+    /// Makes this change of the shard.
+    ///
+    /// # Errors
+    ///
+    /// As [a change](Control#errors).
+    pub fn change(&self, shard: u16, change: Change) -> Result<(), ChangeFault> {
+        let ((kind, server), mut read) = (change.parts(), RecordParts::default());
         // SAFETY: the control's handle is locked, and the record is this call's alone.
         match unsafe {
             raw::durkenzo_change(&mut *self.shared.chief(), shard, kind, server, &mut read)
@@ -261,7 +269,13 @@ impl<T> Control<T> {
         }
     }
 
-    fn restart(&self, kind: u8, server: u16) -> Result<(), RestartFault> {
+    /// Makes this step of the server's restart.
+    ///
+    /// # Errors
+    ///
+    /// As [a step](Control#errors).
+    pub fn restart(&self, server: u16, step: RestartStep) -> Result<(), RestartFault> {
+        let kind = step.number();
         // SAFETY: the control's handle is locked.
         match unsafe { raw::durkenzo_restart(&mut *self.shared.chief(), kind, server) } {
             0 => Ok(()),

@@ -226,7 +226,7 @@ pub enum ChangeFault {
     Leaving,
     /// The server has no room.
     NoCapacity,
-    /// The server's domain has its share of the group.
+    /// The server's domain has as many shards of the group as its limit allows.
     DomainLimit,
     /// The library answered this code, which this version doesn't know.
     Other(u32),
@@ -263,7 +263,9 @@ impl fmt::Display for ChangeFault {
             ChangeFault::Raced(_) => "another thread was first",
             ChangeFault::Leaving => "the server is leaving",
             ChangeFault::NoCapacity => "the server has no room",
-            ChangeFault::DomainLimit => "the server's domain has its share of the group",
+            ChangeFault::DomainLimit => {
+                "the server's domain has as many shards of the group as its limit allows"
+            }
             ChangeFault::Other(code) => return write!(f, "the library answered code {code}"),
         })
     }
@@ -279,7 +281,7 @@ pub enum RestartFault {
     UnknownServer,
     /// The server isn't up.
     NotUp,
-    /// The restart wasn't asked for.
+    /// No restart of the server is asked for.
     NotAsked,
     /// Too many servers would be leaving.
     GlobalCap,
@@ -289,7 +291,7 @@ pub enum RestartFault {
     GroupCap,
     /// Too many servers of a domain would be down.
     DomainCap,
-    /// The restart isn't approved.
+    /// The server's restart isn't approved.
     NotApproved,
     /// A shard that names the server isn't paused.
     StillServing,
@@ -326,12 +328,12 @@ impl fmt::Display for RestartFault {
         f.write_str(match self {
             RestartFault::UnknownServer => "there is no such server",
             RestartFault::NotUp => "the server isn't up",
-            RestartFault::NotAsked => "the restart wasn't asked for",
+            RestartFault::NotAsked => "no restart of the server is asked for",
             RestartFault::GlobalCap => "too many servers would be leaving",
             RestartFault::ShardCap => "a shard may not be down",
             RestartFault::GroupCap => "too many shards of a group would be down",
             RestartFault::DomainCap => "too many servers of a domain would be down",
-            RestartFault::NotApproved => "the restart isn't approved",
+            RestartFault::NotApproved => "the server's restart isn't approved",
             RestartFault::StillServing => "a shard that names the server isn't paused",
             RestartFault::AlreadyUp => "the server is up already",
             RestartFault::AlreadyFailed => "the server has failed already",
@@ -693,7 +695,7 @@ impl Error for RoutesFault {}
 pub enum PublishFault {
     /// There is no such shard.
     UnknownShard,
-    /// The shard's last route is as new.
+    /// The shard's published route is as new.
     OldRoute,
     /// Nobody owns the shard.
     WrongPhase,
@@ -716,7 +718,7 @@ impl fmt::Display for PublishFault {
     fn fmt(&self, f: &mut fmt::Formatter<'_>) -> fmt::Result {
         f.write_str(match self {
             PublishFault::UnknownShard => "there is no such shard",
-            PublishFault::OldRoute => "the shard's last route is as new",
+            PublishFault::OldRoute => "the shard's published route is as new",
             PublishFault::WrongPhase => "nobody owns the shard",
             PublishFault::Other(code) => return write!(f, "the library answered code {code}"),
         })

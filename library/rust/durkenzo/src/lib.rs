@@ -74,10 +74,12 @@
 #![warn(missing_docs)]
 #![warn(clippy::missing_errors_doc)]
 mod board;
+mod change;
 mod control;
 mod envelope;
 mod fault;
 mod layout;
+mod limits;
 mod map;
 mod note;
 mod pass;
@@ -86,6 +88,7 @@ mod raw;
 mod record;
 mod reply;
 mod request;
+mod restart_step;
 mod restore_fault;
 mod routes;
 mod sent;
@@ -94,7 +97,8 @@ mod service_pass;
 mod settings_fault;
 pub mod word;
 
-pub use board::{Board, Builder, MAX_GENERATION};
+pub use board::{Board, Builder};
+pub use change::Change;
 pub use control::Control;
 pub use envelope::{Answer, Envelope};
 pub use fault::{
@@ -103,13 +107,15 @@ pub use fault::{
     UnknownShard,
 };
 pub use layout::Layout;
+pub use limits::{MAX_GENERATION, MAX_KEY, MAX_SERVER, MAX_SHARD, MAX_TEXT, MOST_HOPS};
 pub use map::Map;
 pub use note::Note;
 pub use pass::{Front, Mode, Pass, Permit};
 pub use plan::{Move, Plan};
 pub use record::{Record, Stand};
-pub use reply::{Held, LentReply, LentText, Measure, Reply, Value, MAX_KEY};
+pub use reply::{Held, LentReply, LentText, Measure, Reply, Value};
 pub use request::Request;
+pub use restart_step::RestartStep;
 pub use restore_fault::RestoreFault;
 pub use routes::{Route, Router, Routes};
 pub use sent::{Sent, SentFault};

@@ -123,9 +123,6 @@ pub(crate) const BAD_ARGUMENT: u32 = 2;
 /// The code of a server that the board hasn't.
 pub(crate) const UNKNOWN_SERVER: u32 = 30;
 
-/// The greatest number of a server.
-pub(crate) const MAX_SERVER: u16 = 4095;
-
 /// What `durkenzo_look_word` answers where there is no shard to look at; no record has this word.
 pub(crate) const NO_WORD: u64 = u64::MAX;
 

@@ -1,5 +1,7 @@
-use crate::board::MAX_GENERATION;
+use crate::change::Change;
+use crate::limits::MAX_GENERATION;
 use crate::raw::RecordParts;
+use crate::word;
 
 // By tools/library-codes, the names in library/codes.txt:
 const NAMES: [&str; 6] = [
@@ -60,18 +62,22 @@ impl Stand {
         }
     }
 
-    /// The stand before this one on the shortest way from a vacant shard, and the kind and server of the change.
-    pub(crate) fn step_to(&self) -> Option<(Stand, u8, u16)> {
+    /// The stand before this one on the shortest way from a vacant shard, and the change that leads on from there.
+    pub(crate) fn step_to(&self) -> Option<(Stand, Change)> {
         match *self {
             Stand::Vacant => None,
-            Stand::Serving(owner) => Some((Stand::Vacant, 1, owner)),
-            Stand::Prepared { owner, next } => Some((Stand::Serving(owner), 2, next)),
-            Stand::Forwarding { owner, next } => Some((Stand::Prepared { owner, next }, 3, 0)),
+            Stand::Serving(owner) => Some((Stand::Vacant, Change::Assign(owner))),
+            Stand::Prepared { owner, next } => {
+                Some((Stand::Serving(owner), Change::PrepareAddShard(next)))
+            }
+            Stand::Forwarding { owner, next } => {
+                Some((Stand::Prepared { owner, next }, Change::PrepareDropShard))
+            }
             Stand::Taken {
                 owner: next,
                 previous: owner,
-            } => Some((Stand::Forwarding { owner, next }, 4, 0)),
-            Stand::Paused(owner) => Some((Stand::Serving(owner), 7, 0)),
+            } => Some((Stand::Forwarding { owner, next }, Change::AddShard)),
+            Stand::Paused(owner) => Some((Stand::Serving(owner), Change::Pause)),
         }
     }
 
@@ -162,30 +168,54 @@ impl Record {
         }
     }
 
-    /// The server that executes requests on the shard.
+    /// Returns the server that executes requests on the shard, by the proved [`word::executor`]. If no shard may have
+    /// this record, returns `None`.
     pub fn executor(&self) -> Option<u16> {
-        match self.stand {
-            Stand::Vacant | Stand::Paused(_) => None,
-            Stand::Forwarding { next, .. } => Some(next),
-            _ => self.owner(),
-        }
+        word::of(self).and_then(word::executor)
     }
 
-    /// The server to which this one forwards requests on the shard, if it does.
+    /// Returns the server to which this one forwards requests on the shard, by the proved [`word::forward`]. If this
+    /// server forwards nothing, or no shard may have this record, returns `None`.
     pub fn forward(&self, server: u16) -> Option<u16> {
-        match self.stand {
-            Stand::Forwarding { owner, next } if owner == server => Some(next),
-            Stand::Taken { owner, previous } if previous == server => Some(owner),
-            _ => None,
-        }
+        word::forward(word::of(self)?, server)
     }
 }
 
 #[cfg(test)]
 mod tests {
     use super::{Record, Stand};
-    use crate::board::MAX_GENERATION;
+    use crate::limits::MAX_GENERATION;
     use crate::word;
+
+    type Servers = (Option<u16>, [Option<u16>; 2]);
+
+    /// Who executes, and to whom each of these servers forwards.
+    fn asked(record: &Record, servers: [u16; 2]) -> Servers {
+        (record.executor(), servers.map(|it| record.forward(it)))
+    }
+
+    /// The same as a plain table has it.
+    fn told(stand: Stand, servers: [u16; 2]) -> Servers {
+        let (executor, forwards) = match stand {
+            Stand::Vacant | Stand::Paused(_) => (None, None),
+            Stand::Serving(owner) | Stand::Prepared { owner, .. } => (Some(owner), None),
+            Stand::Forwarding { owner, next } => (Some(next), Some((owner, next))),
+            Stand::Taken { owner, previous } => (Some(owner), Some((previous, owner))),
+        };
+        let to = |from| forwards.filter(|it| it.0 == from).map(|it| it.1);
+        (executor, servers.map(to))
+    }
+
+    #[test]
+    fn a_record_that_no_shard_may_have_forwards_nothing() {
+        let record = Record {
+            stand: Stand::Forwarding { owner: 1, next: 1 },
+            admitted: false,
+            generation: 3,
+        };
+        assert_eq!(word::of(&record), None);
+        assert_eq!((record.executor(), record.forward(1)), (None, None));
+    }
 
     #[test]
     fn words_are_read_as_the_proved_call_reads_them() {
@@ -210,6 +240,7 @@ mod tests {
                         if let Some(packed) = word::of(&record) {
                             assert_eq!(Some(Record::of_word(packed)), word::record(packed));
                             assert_eq!(Record::of_word(packed), record);
+                            assert_eq!(asked(&record, [one, other]), told(stand, [one, other]));
                             read += 1;
                         }
                     }

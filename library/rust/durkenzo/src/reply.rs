@@ -1,9 +1,7 @@
 //! What the sample service replies.
 use crate::fault::MapFault;
+use crate::limits::MAX_KEY;
 use crate::raw::{self, Handle, ReplyParts};
-
-/// The longest key, in bytes.
-pub const MAX_KEY: usize = 255;
 
 /// What a key holds.
 #[derive(Clone, Debug, PartialEq, Eq)]

@@ -1,4 +1,5 @@
 //! How an envelope came.
+use crate::limits::{MAX_SERVER, MAX_SHARD, MOST_HOPS};
 use crate::pass::Mode;
 use crate::raw::SentParts;
 use std::error::Error;
@@ -61,17 +62,10 @@ impl Sent {
             from: pair(10),
             hops: bytes[12],
         };
-        match parts {
-            SentParts { shard: 4_096.., .. } => Err(SentFault::Shard),
-            SentParts { from: 4_096.., .. } => Err(SentFault::Server),
-            SentParts {
-                from: 0, hops: 0, ..
-            } => Ok(Sent::of(&parts)),
-            SentParts {
-                from: 1..,
-                hops: 1..=4,
-                ..
-            } => Ok(Sent::of(&parts)),
+        match (parts.from, parts.hops) {
+            _ if parts.shard > MAX_SHARD => Err(SentFault::Shard),
+            (from, _) if from > MAX_SERVER => Err(SentFault::Server),
+            (0, 0) | (1.., 1..=MOST_HOPS) => Ok(Sent::of(&parts)),
             _ => Err(SentFault::Hops),
         }
     }

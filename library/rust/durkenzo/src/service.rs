@@ -17,10 +17,11 @@
 //! client.hear(answer)?;
 //! # Ok::<(), Box<dyn std::error::Error>>(())
 //! ```
-use crate::board::{Shared, MAX_GENERATION};
+use crate::board::Shared;
 use crate::control::Control;
 use crate::fault::{BuildFault, PassFault};
 use crate::layout::Layout;
+use crate::limits::MAX_GENERATION;
 use crate::raw::{self, Handle};
 use crate::service_pass::ServicePass;
 use crate::settings_fault::SettingsFault;

@@ -11,6 +11,7 @@
 //! assert_eq!(word::of(&word::record(admitted).unwrap()), Some(admitted));
 //! # Ok::<(), Box<dyn std::error::Error>>(())
 //! ```
+pub use crate::change::Change;
 use crate::raw::{self, RecordParts};
 use crate::{AdmitFault, ChangeFault, Mode, Record};
 use std::error::Error;
@@ -54,45 +55,6 @@ impl<F: Error + 'static> Error for WordFault<F> {
         match self {
             WordFault::Refused(fault) => Some(fault),
             _ => None,
-        }
-    }
-}
-
-/// A change of a shard's stand.
-#[derive(Clone, Copy, Debug, PartialEq, Eq)]
-pub enum Change {
-    /// Gives a vacant shard this owner.
-    Assign(u16),
-    /// Begins a migration of the shard to this server.
-    PrepareAddShard(u16),
-    /// Has the owner stop executing, and forward to the next owner.
-    PrepareDropShard,
-    /// Makes the next owner the owner, to whom the previous one forwards.
-    AddShard,
-    /// Ends the migration, as the previous owner drops the shard.
-    DropShard,
-    /// Gives up a migration before `AddShard`.
-    Cancel,
-    /// Has nobody execute the shard's requests.
-    Pause,
-    /// Has the owner of a paused shard execute again.
-    Resume,
-    /// Gives a paused shard this owner.
-    Reassign(u16),
-}
-
-impl Change {
-    fn parts(self) -> (u8, u16) {
-        match self {
-            Change::Assign(server) => (1, server),
-            Change::PrepareAddShard(server) => (2, server),
-            Change::PrepareDropShard => (3, 0),
-            Change::AddShard => (4, 0),
-            Change::DropShard => (5, 0),
-            Change::Cancel => (6, 0),
-            Change::Pause => (7, 0),
-            Change::Resume => (8, 0),
-            Change::Reassign(server) => (9, server),
         }
     }
 }

@@ -1,0 +1,80 @@
+//! What the proved control answers of a store of two shards and three servers.
+use durkenzo_store_sys::{Code, Director, DirectorStep};
+
+/// The settings of the store: two shards, and three servers, one of which may be away at a time.
+const SETTINGS: &str = concat!(
+    r#"{"version":1,"bounds":["","m"],"#,
+    r#""servers":[{"id":1,"domain":0,"capacity":9},{"id":2,"domain":1,"capacity":9},"#,
+    r#"{"id":3,"domain":2,"capacity":9}],"groups":[{"limit":9,"down":9}],"#,
+    r#""shards":[{"group":0,"load":1,"cap":1},{"group":0,"load":1,"cap":1}],"#,
+    r#""ops":1,"kept":1,"ceiling":100000,"workers":1}"#
+);
+
+/// A record or a state that was never written is read as these bytes: a vacant one, or a server that is up.
+const UNWRITTEN: [u8; 17] = [1, 0, 0, 0, 0, 0, 0, 0, 0, 0, 0, 0, 0, 0, 0, 0, 0];
+
+#[test]
+fn keys_have_shards() {
+    let mut core = Director::new(SETTINGS, 7, 1).unwrap();
+    assert_eq!((core.shards(), core.servers()), (2, &[1, 2, 3][..]));
+    for (key, wanted) in [("", 0), ("lynx", 0), ("m", 1), ("zebra", 1)] {
+        assert_eq!(core.shard_of(key.as_bytes()), Ok(wanted), "{key}");
+    }
+}
+
+#[test]
+fn refusals_have_codes() {
+    let refused = |line, elected| Director::new(line, 7, elected).unwrap_err().0;
+    assert_eq!(refused(SETTINGS, 0), 2);
+    assert_eq!(refused("{", 1), 71);
+    assert_eq!(refused("{}", 1), 72);
+    let mut core = Director::new(SETTINGS, 7, 3).unwrap();
+    assert_eq!(core.next_of_shard(0), Err(Code(90)));
+    assert_eq!(core.made(5), Err(Code(92)));
+    assert_eq!(core.record(&[1], 0), Err(Code(93)));
+    assert_eq!(core.read(0), Err(Code(95)));
+    assert_eq!(
+        core.command(DirectorStep::of_server(DirectorStep::WAITS, 0)),
+        Err(Code(2))
+    );
+    assert_eq!(
+        core.command(DirectorStep::of_shard(DirectorStep::ASK, 1, 1)),
+        Err(Code(2))
+    );
+    assert_eq!(core.follower(4_096, 1), Err(Code(2)));
+    assert_eq!(core.server(3), Err(Code(56)));
+}
+
+#[test]
+fn a_command_is_sent_and_made() {
+    let mut core = Director::new(SETTINGS, 7, 3).unwrap();
+    (0..2).for_each(|_| core.record(&UNWRITTEN, 0).unwrap());
+    (0..3).for_each(|_| core.state(&UNWRITTEN).unwrap());
+    core.read(0).unwrap();
+    let step = core.next_of_drain(0).unwrap();
+    assert_eq!(step, DirectorStep::of_shard(DirectorStep::ASSIGN, 0, 1));
+    assert!(core
+        .command(DirectorStep::of_shard(DirectorStep::PAUSE, 0, 0))
+        .is_err());
+    core.command(step).unwrap();
+    let sent = core.sending().unwrap();
+    assert_eq!((sent.elected, sent.placed, sent.number), (3, 0, 0));
+    assert_eq!((sent.is_state, sent.absent), (false, 0));
+    assert_eq!(sent.written[1..9], (1u64 << 61 | 1 << 48 | 1).to_be_bytes());
+    assert_eq!(sent.written[9..], 7u64.to_be_bytes());
+    assert_eq!(sent.commands, [1, 0, 0, 0, 0, 0, 0, 0, 7]);
+    core.made(9).unwrap();
+    assert_eq!(core.record_of(0), Ok((1 << 61 | 1 << 48 | 1, 9)));
+    assert_eq!(core.fallen(), Ok(1));
+    core.follower(1, 9).unwrap();
+    assert_eq!(core.fallen(), Ok(2));
+    core.command(DirectorStep::of_server(DirectorStep::FAIL, 2))
+        .unwrap();
+    let sent = core.sending().unwrap();
+    assert_eq!((sent.number, sent.is_state, sent.absent), (2, true, 2));
+    core.made(10).unwrap();
+    assert_eq!(core.state_of(2), Ok(4));
+    core.command(DirectorStep::of_server(DirectorStep::BACK, 2))
+        .unwrap();
+    assert_eq!(core.sending().unwrap().absent, 0);
+}
