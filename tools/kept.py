@@ -13,23 +13,40 @@ looked for by the address sanitizer that is in it, which also says how many allo
                                 failed, misused memory or leaked
     kept.allocations(TEST)      how many allocations it makes
 """
+import errno
 import pathlib
 import re
 import shutil
 import subprocess
 import threading
+import time
 
 NEVER = 0x5A5A5A5A5A5A5A5A
 SECONDS = 300
 BYTES = NEVER.to_bytes(8, "little")
 CALLS = re.compile(r"^Stats: .* (?:malloced .*|realloced )by (\d+) calls$", re.M)
 
+# How often a program that was just written is started, and how long after the try before, in seconds.
+TRIES, PAUSE = 200, 0.05
+
+
+def started(words, how):
+    """Starts a program that was just written. A child that another thread forks meanwhile holds the file open for
+    writing until its own program runs, and Linux starts no file that is open for writing."""
+    for _ in range(TRIES):
+        try:
+            return subprocess.Popen(words, **how)
+        except OSError as error:
+            if error.errno != errno.ETXTBSY:
+                raise
+        time.sleep(PAUSE)
+    return subprocess.Popen(words, **how)
+
 
 class Kept:
     def __init__(self, room):
         self.room = pathlib.Path(room)
         self.program = self.room / "kept"
-        self.lock = threading.Lock()
 
     def prepare(self):
         """Finds where the program has the number, and compiles what has it end by exit."""
@@ -62,9 +79,7 @@ class Kept:
         told = {"ASAN_OPTIONS": options, "LD_PRELOAD": str(self.room / "leave.so")}
         how = {"stdout": subprocess.PIPE, "stderr": subprocess.STDOUT, "stdin": subprocess.DEVNULL}
         how = {**how, "text": True, "errors": "replace", "cwd": self.room, "env": told}
-        # No program starts while another one is written, which it would hold open.
-        with self.lock:
-            ran = subprocess.Popen([self.refusing(number), test], **how)
+        ran = started([self.refusing(number), test], how)
         try:
             said = ran.communicate(timeout=SECONDS)[0]
         except subprocess.TimeoutExpired:

@@ -1,57 +1,138 @@
-"""Other people's crates for what cargo builds here: Debian's packages where all are installed, which needs no network,
-and else crates.io's. tools/setup installs the packages."""
+"""Other people's crates for what cargo builds here: Debian's packages if they have all that Cargo.lock names, which
+needs no network, and else crates.io's. tools/setup installs the packages.
+
+Debian patches crates, and has other checksums of them than crates.io, or other words in their place; cargo refuses a
+checksum that isn't the lock's. So Cargo.lock has no checksum, and cargo reads copies of Debian's crates, in out/debian,
+that have none either. They are no links, because rt refuses each link below the top. crates.io tells cargo all
+checksums, which cargo then adds to the lock, with crates that only other platforms need. A run with Debian's crates
+puts back the text that is committed."""
 import os
 import pathlib
 import re
+import shutil
 import subprocess
-import tempfile
+import sys
 
 import limited
+import telling
 
 TOP = pathlib.Path(__file__).resolve().parent.parent
-# Where Debian's packages put them.
-DEBIAN = pathlib.Path("/usr/share/cargo/registry")
+LOCK = TOP / "Cargo.lock"
+# Where Debian's packages put them, and where cargo reads them.
+DEBIAN, COPIED = pathlib.Path("/usr/share/cargo/registry"), TOP / "out/debian"
+# Where a lock is kept that crates.io added to, once the committed text is put back.
+ADDED = TOP / "out/Cargo.lock"
+# Where cargo builds what is of the workspace.
+KEPT = TOP / "out/cargo"
 # How long cargo may build and test, in seconds, and the exit status of one that took longer, as of timeout(1).
 SECONDS, ENDED = 2400, 124
-REPLACED = f'[source.crates-io]\nreplace-with = "debian"\n[source.debian]\ndirectory = "{DEBIAN}"\n'
+CHECKSUM, NONE = ".cargo-checksum.json", '{"package": null, "files": {}}\n'
+# A line that cargo adds to the lock by crates.io.
+SUMMED = re.compile(r"(?m)^checksum = .*\n")
+LOCKED = re.compile(r'(?m)^name = "([^"]+)"\nversion = "([^"]+)"\nsource = ')
+# The variable that names the folder of the proved libraries.
+NAMED = "DURKENZO_LIB"
 
 
-def named(folder):
-    """The crates that the manifest of this folder names, but for our own."""
-    part = (folder / "Cargo.toml").read_text(encoding="utf-8").partition("[dependencies]")[2].partition("\n[")[0]
-    return [name for name, of in re.findall(r"(?m)^([\w-]+) = (.*)", part) if "path =" not in of]
+def committed():
+    """Returns the lock's text that is committed; none if git doesn't tell."""
+    words = ["git", "-C", str(TOP), "show", "HEAD:./Cargo.lock"]
+    ran = subprocess.run(words, capture_output=True, encoding="utf-8") if shutil.which("git") else None
+    return ran.stdout if ran and ran.returncode == 0 else None
 
 
-def is_debian(folder):
-    """Whether Debian's packages have all crates that the manifest names."""
-    return all(any(DEBIAN.glob(f"{it}-[0-9]*")) for it in named(folder))
+def lock():
+    """Returns the lock's text as it is before crates.io adds to it: the committed one if the file has checksums and the
+    committed one has none, and else the file's."""
+    text = LOCK.read_text("utf-8")
+    before = committed() if SUMMED.search(text) else None
+    return text if before is None or SUMMED.search(before) else before
 
 
-def target(folder):
-    """Where cargo builds what is of this folder."""
-    return pathlib.Path(os.environ.get("CARGO_TARGET_DIR") or TOP / "out" / folder.name / "target")
+def put_back():
+    """Puts back the lock's text as it is before crates.io adds to it, and keeps the other one."""
+    text = lock()
+    if text == LOCK.read_text("utf-8"):
+        return
+    ADDED.parent.mkdir(exist_ok=True)
+    shutil.copy2(LOCK, ADDED)
+    new = ADDED.with_name(f"Cargo.lock.{os.getpid()}")
+    new.write_text(text, encoding="utf-8")
+    new.replace(LOCK)
+    print(f"Cargo.lock is as committed again; what crates.io added is in {ADDED.relative_to(TOP)}", file=sys.stderr)
 
 
-def cargo(folder, *words):
-    """Runs cargo in this folder, with the crates that are there; returns the finished run."""
-    with tempfile.NamedTemporaryFile("w", suffix=".toml", encoding="utf-8") as replaced:
-        replaced.write(REPLACED)
-        replaced.flush()
-        crates = ["--config", replaced.name, "--offline"] if is_debian(folder) else []
-        env = {**os.environ, "CARGO_TARGET_DIR": str(target(folder))}
-        return cargo_ended(["cargo", words[0], *crates, *words[1:]], folder, env)
+def locked():
+    """Returns the folders in which Debian's packages put the crates that the lock names, in its versions."""
+    return [DEBIAN / f"{name}-{version}" for name, version in LOCKED.findall(lock())]
 
 
-def cargo_ended(command, folder, env):
-    """Runs this command of cargo in the folder; one that takes too long has failed, and what it wrote tells by which
-    tests."""
+def is_debian():
+    """Returns whether Debian's packages have all crates that the lock names, in its versions."""
+    return all(it.is_dir() for it in locked())
+
+
+def copy(crate, into):
+    """Copies the folder of a crate of Debian's, but for its checksum."""
+    shutil.copytree(crate, into, ignore=shutil.ignore_patterns(CHECKSUM))
+    (into / CHECKSUM).write_text(NONE, encoding="utf-8")
+
+
+def debian():
+    """Returns the file that has cargo take Debian's crates, once those that the lock names are copied as they now are,
+    and the lock has nothing of crates.io."""
+    put_back()
+    listed = "".join(f"{it} {it.stat().st_mtime_ns}\n" for it in locked())
+    listed, config = f"{COPIED}\n{listed}", COPIED / ".config.toml"
+    COPIED.mkdir(parents=True, exist_ok=True)
+    with telling.alone(COPIED):
+        is_listed = COPIED / ".listed"
+        if not is_listed.is_file() or is_listed.read_text("utf-8") != listed:
+            for old in COPIED.glob("*/"):
+                shutil.rmtree(old)
+            for it in locked():
+                copy(it, COPIED / it.name)
+            replaced = f'[source.crates-io]\nreplace-with = "debian"\n[source.debian]\ndirectory = "{COPIED}"\n'
+            config.write_text(replaced, encoding="utf-8")
+            is_listed.write_text(listed, encoding="utf-8")
+    return config
+
+
+def options():
+    """Returns what cargo is told of where the crates are, and where its own sources are."""
+    crates = ["--config", str(debian()), "--offline"] if is_debian() else []
+    # What is built tells the paths of its sources from the top on, and nothing of this machine.
+    return [*crates, "--config", f'build.rustflags = ["--remap-path-prefix={TOP}=."]']
+
+
+def target(folder=None):
+    """Returns the folder in which cargo builds: the one that a variable names, or this one, or that of all."""
+    return pathlib.Path(os.environ.get("CARGO_TARGET_DIR") or folder or KEPT)
+
+
+def environment(library=None, folder=None):
+    """Returns the variables with which cargo builds in that folder, over the libraries in another if one is given."""
+    named = {NAMED: str(library)} if library else {}
+    return {**os.environ, "CARGO_TARGET_DIR": str(target(folder)), **named}
+
+
+def command(word, *words):
+    """Returns what runs this command of cargo with the crates that are there; to lay out files takes none."""
+    return ["cargo", word, *([] if word == "fmt" else options()), *words]
+
+
+def cargo(*words, library=None, folder=None):
+    """Runs cargo at the top, and returns the finished run. A run that takes too long has failed, and what it wrote
+    tells by which tests."""
+    words = command(*words)
+    how = {"cwd": TOP, "env": environment(library, folder), "stdin": subprocess.DEVNULL, "text": True}
     try:
-        return limited.run(command, SECONDS, cwd=folder, env=env, stdin=subprocess.DEVNULL, text=True)
+        return limited.run(words, SECONDS, **how)
     except subprocess.TimeoutExpired as late:
-        complaint = f"{late.stderr or ''}\n{' '.join(command)} had not ended after {SECONDS} seconds\n"
-        return subprocess.CompletedProcess(command, ENDED, late.output or "", complaint)
+        complaint = f"{late.stderr or ''}\n{' '.join(words)} had not ended after {SECONDS} seconds\n"
+        return subprocess.CompletedProcess(words, ENDED, late.output or "", complaint)
 
 
-def has_crates(folder):
-    """Whether cargo has them: Debian's, or those that crates.io gives it now or gave it before."""
-    return is_debian(folder) or cargo(folder, "fetch").returncode == 0
+def has_crates():
+    """Returns whether cargo has them: Debian's, or those that crates.io gives it now or gave it before."""
+    return is_debian() or cargo("fetch").returncode == 0

@@ -67,6 +67,15 @@ def modules_of(crate):
                 )
 
 
+def constant(crate, name):
+    """Returns the value of a constant of the crate, or None if the crate has no such constant."""
+    for path in sorted((CRATES / crate / "src").rglob("*.rt")):
+        found = re.search(rf"\bconst {name}: \w+ = ([\d_() <-]+);", path.read_text(encoding="utf-8"))
+        if found:
+            return eval(found[1].replace("_", ""), {"__builtins__": {}})
+    return None
+
+
 def public_functions(crate):
     """Yields each public function of the crate: those of public modules, the methods of their types wherever these
     stand, and the methods of their traits."""

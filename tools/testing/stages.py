@@ -26,6 +26,7 @@ DOCS = (
     "doc-examples",
     "doc-figures",
     "doc-paths",
+    "doc-unsafe",
     "doc-words",
     "edits",
     "headline",
