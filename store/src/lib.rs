@@ -28,6 +28,7 @@
 //! # Ok(())
 //! # }
 //! ```
+#![forbid(unsafe_code)]
 #![warn(missing_docs)]
 
 mod embedded;
@@ -52,4 +53,4 @@ pub use revision::Revision;
 pub use room::Room;
 pub use store::{Done, Store};
 pub use transaction::{Compare, Outcome, Put, Transaction};
-pub use watch::{Change, Seen, Watch, Watcher};
+pub use watch::{KeyChange, Seen, Watch, Watcher};

@@ -3,7 +3,7 @@ use std::fmt;
 
 /// A key that was written or deleted.
 #[derive(Clone, Debug, PartialEq, Eq)]
-pub struct Change {
+pub struct KeyChange {
     /// The key.
     pub key: Vec<u8>,
     /// Its new value; none where it was deleted.
@@ -18,7 +18,7 @@ pub enum Seen {
     /// All keys that begin so, as they lay at a moment: first, and again where changes may have been missed.
     All(Reading),
     /// Changes after all that was told before, in the order of their revisions, up to this revision.
-    Changes(Revision, Vec<Change>),
+    Changes(Revision, Vec<KeyChange>),
 }
 
 /// Who is told what a watch sees, one call after another. It must not wait for the store.

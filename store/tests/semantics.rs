@@ -3,7 +3,7 @@ mod beside;
 
 use beside::{over_each, Chance};
 use durkenzo_store::{
-    Change, LeaseError, Outcome, Pair, Reading, Revision, Seen, Store, Transaction, WriteError,
+    KeyChange, LeaseError, Outcome, Pair, Reading, Revision, Seen, Store, Transaction, WriteError,
 };
 use std::collections::BTreeMap;
 use std::sync::mpsc;
@@ -195,12 +195,12 @@ fn tells_a_watch_all_changes_in_order() {
         let Seen::Changes(moment, changes) = next() else {
             panic!("nothing was missed")
         };
-        let deleted = Change {
+        let deleted = KeyChange {
             key: b"seen/1".to_vec(),
             value: None,
             revision: second,
         };
-        let written = Change {
+        let written = KeyChange {
             key: b"seen/2".to_vec(),
             value: Some(b"d".to_vec()),
             revision: second,

@@ -3,27 +3,27 @@ use crc32fast::Hasher;
 
 /// What the bytes of a row come to, by which changed ones are told: CRC-32 over its revision, its key and its value.
 #[derive(Clone, Copy, Debug, PartialEq, Eq)]
-pub(super) struct Checksum(u32);
+pub(super) struct RowChecksum(u32);
 
-impl Checksum {
+impl RowChecksum {
     /// That of this pair.
-    pub(super) fn of(pair: &Pair) -> Checksum {
-        Checksum::of_row(&pair.key, &pair.value, pair.revision)
+    pub(super) fn of(pair: &Pair) -> RowChecksum {
+        RowChecksum::of_row(&pair.key, &pair.value, pair.revision)
     }
 
     /// That of the moment's row, which has neither key nor value.
-    pub(super) fn of_moment(moment: Revision) -> Checksum {
-        Checksum::of_row(&[], &[], moment)
+    pub(super) fn of_moment(moment: Revision) -> RowChecksum {
+        RowChecksum::of_row(&[], &[], moment)
     }
 
-    fn of_row(key: &[u8], value: &[u8], revision: Revision) -> Checksum {
+    fn of_row(key: &[u8], value: &[u8], revision: Revision) -> RowChecksum {
         let mut sum = Hasher::new();
         sum.update(&revision.0.to_be_bytes());
         // Where the key ends is part of it.
         sum.update(&key.len().to_be_bytes());
         sum.update(key);
         sum.update(value);
-        Checksum(sum.finalize())
+        RowChecksum(sum.finalize())
     }
 
     /// As SQLite has it.
@@ -36,8 +36,8 @@ impl Checksum {
 mod tests {
     use super::*;
 
-    fn sum(key: &str, value: &str, revision: u64) -> Checksum {
-        Checksum::of(&Pair {
+    fn sum(key: &str, value: &str, revision: u64) -> RowChecksum {
+        RowChecksum::of(&Pair {
             key: key.into(),
             value: value.into(),
             revision: Revision(revision),
@@ -65,10 +65,10 @@ mod tests {
             value: vec![7; 300],
             revision: Revision(9),
         };
-        let whole = Checksum::of(&pair);
+        let whole = RowChecksum::of(&pair);
         for bit in 0..300 * 8 {
             pair.value[bit / 8] ^= 1 << (bit % 8);
-            assert_ne!(Checksum::of(&pair), whole, "bit {bit}");
+            assert_ne!(RowChecksum::of(&pair), whole, "bit {bit}");
             pair.value[bit / 8] ^= 1 << (bit % 8);
         }
     }

@@ -1,9 +1,9 @@
-use super::job::{Job, Ticket};
+use super::job::{Completion, Job};
 use super::leases::Leases;
-use super::tables::{Failure, Means, Tables};
+use super::tables::{Means, TableFailure, Tables};
 use super::watchers::Watchers;
 use crate::{
-    Change, CompactError, Outcome, Pair, ReadError, Reading, Revision, Room, Transaction,
+    CompactError, KeyChange, Outcome, Pair, ReadError, Reading, Revision, Room, Transaction,
     WriteError,
 };
 use std::sync::mpsc::{Receiver, RecvTimeoutError};
@@ -45,13 +45,13 @@ enum Trouble {
     Unknown(String),
 }
 
-impl From<Failure> for Trouble {
+impl From<TableFailure> for Trouble {
     /// Of a failure before the commit.
-    fn from(failure: Failure) -> Trouble {
+    fn from(failure: TableFailure) -> Trouble {
         match failure {
-            Failure::Full(reason) => Trouble::Full(reason),
-            Failure::Damaged(reason) => Trouble::Damaged(reason),
-            Failure::Broken(reason) => Trouble::NotMade(reason),
+            TableFailure::Full(reason) => Trouble::Full(reason),
+            TableFailure::Damaged(reason) => Trouble::Damaged(reason),
+            TableFailure::Broken(reason) => Trouble::NotMade(reason),
         }
     }
 }
@@ -144,7 +144,7 @@ impl<T: Tables> Engine<T> {
     }
 
     /// Makes these transactions and tells what became of them; where not all can be made, of each by itself.
-    fn make_and_tell(&mut self, transactions: &[Transaction], tickets: Vec<Ticket>) -> bool {
+    fn make_and_tell(&mut self, transactions: &[Transaction], tickets: Vec<Completion>) -> bool {
         match self.make(transactions) {
             Ok(outcomes) => tickets
                 .into_iter()
@@ -227,8 +227,8 @@ impl<T: Tables> Engine<T> {
     fn make_each(
         &mut self,
         transactions: &[Transaction],
-        changes: &mut Vec<Change>,
-    ) -> Result<Vec<Result<Outcome, WriteError>>, Failure> {
+        changes: &mut Vec<KeyChange>,
+    ) -> Result<Vec<Result<Outcome, WriteError>>, TableFailure> {
         let mut moment = self.tables.moment();
         let mut outcomes = Vec::with_capacity(transactions.len());
         for it in transactions {
@@ -245,8 +245,8 @@ impl<T: Tables> Engine<T> {
         &mut self,
         transaction: &Transaction,
         moment: Revision,
-        changes: &mut Vec<Change>,
-    ) -> Result<Result<Outcome, WriteError>, Failure> {
+        changes: &mut Vec<KeyChange>,
+    ) -> Result<Result<Outcome, WriteError>, TableFailure> {
         for it in &transaction.compares {
             if self.tables.revision_of(&it.key)? != it.revision {
                 return Ok(Ok(Outcome::Lost(self.reading(moment, &transaction.reads)?)));
@@ -270,11 +270,11 @@ impl<T: Tables> Engine<T> {
         &mut self,
         transaction: &Transaction,
         revision: Revision,
-        changes: &mut Vec<Change>,
-    ) -> Result<(), Failure> {
+        changes: &mut Vec<KeyChange>,
+    ) -> Result<(), TableFailure> {
         for key in &transaction.deletes {
             if self.tables.delete(key)? {
-                changes.push(Change {
+                changes.push(KeyChange {
                     key: key.clone(),
                     value: None,
                     revision,
@@ -288,7 +288,7 @@ impl<T: Tables> Engine<T> {
                 revision,
             };
             self.tables.put(&pair, it.lease)?;
-            changes.push(Change {
+            changes.push(KeyChange {
                 key: pair.key,
                 value: Some(pair.value),
                 revision,
@@ -301,8 +301,8 @@ impl<T: Tables> Engine<T> {
     fn commit(&mut self, moment: Revision) -> Result<(), Trouble> {
         match self.tables.commit(moment) {
             Ok(()) => Ok(()),
-            Err(Failure::Full(reason)) => Err(self.taken_back(Trouble::Full(reason))),
-            Err(Failure::Damaged(reason) | Failure::Broken(reason)) => {
+            Err(TableFailure::Full(reason)) => Err(self.taken_back(Trouble::Full(reason))),
+            Err(TableFailure::Damaged(reason) | TableFailure::Broken(reason)) => {
                 Err(Trouble::Unknown(reason))
             }
         }
@@ -312,13 +312,15 @@ impl<T: Tables> Engine<T> {
     fn taken_back(&mut self, trouble: Trouble) -> Trouble {
         match self.tables.rollback() {
             Ok(()) => trouble,
-            Err(Failure::Full(reason) | Failure::Damaged(reason) | Failure::Broken(reason)) => {
-                Trouble::NotMade(reason)
-            }
+            Err(
+                TableFailure::Full(reason)
+                | TableFailure::Damaged(reason)
+                | TableFailure::Broken(reason),
+            ) => Trouble::NotMade(reason),
         }
     }
 
-    fn reading(&self, moment: Revision, keys: &[Vec<u8>]) -> Result<Reading, Failure> {
+    fn reading(&self, moment: Revision, keys: &[Vec<u8>]) -> Result<Reading, TableFailure> {
         let found: Result<Vec<_>, _> = keys.iter().map(|it| self.tables.pair_of(it)).collect();
         Ok(Reading {
             revision: moment,
@@ -390,7 +392,7 @@ impl<T: Tables> Engine<T> {
             return true;
         }
         self.next_tick = now + TICK;
-        !matches!(self.tables.tick(), Err(Failure::Broken(_)))
+        !matches!(self.tables.tick(), Err(TableFailure::Broken(_)))
     }
 }
 
@@ -406,9 +408,9 @@ fn room_of(transactions: &[Transaction]) -> Room {
     }
 }
 
-fn unavailable(failure: Failure) -> ReadError {
+fn unavailable(failure: TableFailure) -> ReadError {
     match failure {
-        Failure::Full(reason) | Failure::Broken(reason) => ReadError::Unavailable(reason),
-        Failure::Damaged(reason) => ReadError::Damaged(reason),
+        TableFailure::Full(reason) | TableFailure::Broken(reason) => ReadError::Unavailable(reason),
+        TableFailure::Damaged(reason) => ReadError::Damaged(reason),
     }
 }

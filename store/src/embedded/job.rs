@@ -7,7 +7,7 @@ use std::time::Duration;
 
 /// What the store's thread is asked for.
 pub(super) enum Job {
-    Make(Transaction, Ticket),
+    Make(Transaction, Completion),
     Read(Vec<Vec<u8>>, Sender<Result<Reading, ReadError>>),
     ReadAll(Vec<u8>, Sender<Result<Reading, ReadError>>),
     /// The first keys from this one on and before that end, at most so many.
@@ -27,7 +27,7 @@ pub(super) enum Job {
 }
 
 /// Who is told what became of a transaction: once, also where its job is dropped.
-pub(super) struct Ticket(Option<Done>);
+pub(super) struct Completion(Option<Done>);
 
 impl Job {
     /// How many bytes it writes.
@@ -50,9 +50,9 @@ impl Job {
     }
 }
 
-impl Ticket {
-    pub(super) fn new(done: Done) -> Ticket {
-        Ticket(Some(done))
+impl Completion {
+    pub(super) fn new(done: Done) -> Completion {
+        Completion(Some(done))
     }
 
     pub(super) fn tell(mut self, outcome: Result<Outcome, WriteError>) {
@@ -62,7 +62,7 @@ impl Ticket {
     }
 }
 
-impl Drop for Ticket {
+impl Drop for Completion {
     fn drop(&mut self) {
         if let Some(done) = self.0.take() {
             done(Err(WriteError::Stopped));

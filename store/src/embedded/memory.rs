@@ -1,10 +1,10 @@
-use super::tables::{Failure, Tables};
+use super::tables::{TableFailure, Tables};
 use crate::{LeaseId, Pair, Revision, Room};
 use std::collections::BTreeMap;
 
 /// Tables in memory, where nothing fails.
 #[derive(Default)]
-pub(super) struct Memory {
+pub(super) struct MemoryTables {
     moment: Revision,
     entries: BTreeMap<Vec<u8>, (Vec<u8>, Revision)>,
 }
@@ -17,23 +17,23 @@ fn pair((key, (value, revision)): (&Vec<u8>, &(Vec<u8>, Revision))) -> Pair {
     }
 }
 
-impl Tables for Memory {
+impl Tables for MemoryTables {
     fn moment(&self) -> Revision {
         self.moment
     }
 
-    fn revision_of(&self, key: &[u8]) -> Result<Revision, Failure> {
+    fn revision_of(&self, key: &[u8]) -> Result<Revision, TableFailure> {
         Ok(self
             .entries
             .get(key)
             .map_or(Revision::NEVER, |(_, revision)| *revision))
     }
 
-    fn pair_of(&self, key: &[u8]) -> Result<Option<Pair>, Failure> {
+    fn pair_of(&self, key: &[u8]) -> Result<Option<Pair>, TableFailure> {
         Ok(self.entries.get_key_value(key).map(pair))
     }
 
-    fn pairs(&self, prefix: &[u8]) -> Result<Vec<Pair>, Failure> {
+    fn pairs(&self, prefix: &[u8]) -> Result<Vec<Pair>, TableFailure> {
         let from = self.entries.range(prefix.to_vec()..);
         Ok(from
             .take_while(|(key, _)| key.starts_with(prefix))
@@ -41,38 +41,38 @@ impl Tables for Memory {
             .collect())
     }
 
-    fn range(&self, from: &[u8], end: &[u8], most: usize) -> Result<Vec<Pair>, Failure> {
+    fn range(&self, from: &[u8], end: &[u8], most: usize) -> Result<Vec<Pair>, TableFailure> {
         let from = self.entries.range(from.to_vec()..);
         let before = from.take_while(|(key, _)| key.as_slice() < end);
         Ok(before.take(most).map(pair).collect())
     }
 
-    fn keys(&self, from: &[u8], end: &[u8]) -> Result<Vec<Vec<u8>>, Failure> {
+    fn keys(&self, from: &[u8], end: &[u8]) -> Result<Vec<Vec<u8>>, TableFailure> {
         let from = self.entries.range(from.to_vec()..);
         let before = from.take_while(|(key, _)| key.as_slice() < end);
         Ok(before.map(|(key, _)| key.clone()).collect())
     }
 
-    fn begin(&mut self, _room: Room) -> Result<(), Failure> {
+    fn begin(&mut self, _room: Room) -> Result<(), TableFailure> {
         Ok(())
     }
 
-    fn put(&mut self, pair: &Pair, _lease: Option<LeaseId>) -> Result<(), Failure> {
+    fn put(&mut self, pair: &Pair, _lease: Option<LeaseId>) -> Result<(), TableFailure> {
         self.entries
             .insert(pair.key.clone(), (pair.value.clone(), pair.revision));
         Ok(())
     }
 
-    fn delete(&mut self, key: &[u8]) -> Result<bool, Failure> {
+    fn delete(&mut self, key: &[u8]) -> Result<bool, TableFailure> {
         Ok(self.entries.remove(key).is_some())
     }
 
-    fn commit(&mut self, moment: Revision) -> Result<(), Failure> {
+    fn commit(&mut self, moment: Revision) -> Result<(), TableFailure> {
         self.moment = moment;
         Ok(())
     }
 
-    fn rollback(&mut self) -> Result<(), Failure> {
+    fn rollback(&mut self) -> Result<(), TableFailure> {
         // Nothing fails, so nothing is taken back but nothing.
         Ok(())
     }

@@ -19,8 +19,8 @@ use crate::{
     Watcher, WriteError,
 };
 use engine::Engine;
-use job::{Job, Ticket};
-use memory::Memory;
+use job::{Completion, Job};
+use memory::MemoryTables;
 use sqlite::Sqlite;
 use std::fmt;
 use std::path::Path;
@@ -43,7 +43,7 @@ impl Embedded {
     /// One in memory, which is empty, and gone with the process.
     pub fn in_memory() -> Embedded {
         let (jobs, asked) = mpsc::channel();
-        Embedded::over(Memory::default(), jobs, asked)
+        Embedded::over(MemoryTables::default(), jobs, asked)
     }
 
     /// One in this folder, which is made where it isn't there. Keys under a lease aren't there any more.
@@ -85,7 +85,9 @@ impl Store for Embedded {
         done: Box<dyn FnOnce(Result<Outcome, WriteError>) + Send>,
     ) {
         // Where the thread has ended, the ticket tells so.
-        let _ = self.jobs.send(Job::Make(transaction, Ticket::new(done)));
+        let _ = self
+            .jobs
+            .send(Job::Make(transaction, Completion::new(done)));
     }
 
     fn read(&self, keys: &[&[u8]]) -> Result<Reading, ReadError> {

@@ -1,6 +1,6 @@
-use super::checksum::Checksum;
+use super::checksum::RowChecksum;
 use super::reserve::{Kept, Reserve};
-use super::tables::{Failure, Means, Tables};
+use super::tables::{Means, TableFailure, Tables};
 use super::{OpenError, Sync};
 use crate::{LeaseId, Pair, Revision, Room};
 use rusqlite::{params, Connection, ErrorCode, OptionalExtension, Row};
@@ -59,15 +59,15 @@ impl Sqlite {
         fs::create_dir_all(folder).map_err(|error| OpenError::Folder(folder.to_owned(), error))?;
         let file = folder.join(FILE);
         opened(folder, &file, sync).map_err(|error| match error {
-            Refused::Sqlite(error) => open_error(folder, file, &error),
-            Refused::Form(error) => error(file),
-            Refused::Reserve(error) => OpenError::Folder(folder.to_owned(), error),
+            NotOpened::Sqlite(error) => open_error(folder, file, &error),
+            NotOpened::Form(error) => error(file),
+            NotOpened::Reserve(error) => OpenError::Folder(folder.to_owned(), error),
         })
     }
 }
 
 /// Why a file isn't opened.
-enum Refused {
+enum NotOpened {
     Sqlite(rusqlite::Error),
     Form(Box<dyn FnOnce(PathBuf) -> OpenError>),
     Reserve(io::Error),
@@ -82,13 +82,13 @@ enum Form {
     Summed,
 }
 
-impl From<rusqlite::Error> for Refused {
-    fn from(error: rusqlite::Error) -> Refused {
-        Refused::Sqlite(error)
+impl From<rusqlite::Error> for NotOpened {
+    fn from(error: rusqlite::Error) -> NotOpened {
+        NotOpened::Sqlite(error)
     }
 }
 
-fn opened(folder: &Path, file: &Path, sync: Sync) -> Result<Sqlite, Refused> {
+fn opened(folder: &Path, file: &Path, sync: Sync) -> Result<Sqlite, NotOpened> {
     let connection = Connection::open(file)?;
     connection.set_prepared_statement_cache_capacity(32);
     connection.pragma_update(None, "locking_mode", "EXCLUSIVE")?;
@@ -105,7 +105,7 @@ fn opened(folder: &Path, file: &Path, sync: Sync) -> Result<Sqlite, Refused> {
         connection.execute_batch(&bettered(&format!("{SCHEMA} {marks}")))?;
     }
     look_through(&connection)?;
-    let mut reserve = Reserve::open(folder).map_err(Refused::Reserve)?;
+    let mut reserve = Reserve::open(folder).map_err(NotOpened::Reserve)?;
     if form == Form::Unsummed {
         // A full disk may have room for it by what is kept back.
         reserve.lend(Kept::Nothing);
@@ -140,7 +140,7 @@ fn level(sync: Sync) -> &'static str {
 
 /// Refuses a file that is damaged. A quicker check doesn't see that an index has lost a key, which then couldn't be
 /// read.
-fn look_through(connection: &Connection) -> Result<(), Refused> {
+fn look_through(connection: &Connection) -> Result<(), NotOpened> {
     let check = "integrity_check";
     let found: String = connection.pragma_query_value(None, check, |row| row.get(0))?;
     match &*found {
@@ -149,8 +149,8 @@ fn look_through(connection: &Connection) -> Result<(), Refused> {
     }
 }
 
-fn damaged(why: String) -> Refused {
-    Refused::Form(Box::new(|file| OpenError::Damaged(file, why)))
+fn damaged(why: String) -> NotOpened {
+    NotOpened::Form(Box::new(|file| OpenError::Damaged(file, why)))
 }
 
 /// What gives the file this form of the schema, all at once.
@@ -164,7 +164,7 @@ fn count(connection: &Connection, name: &str) -> rusqlite::Result<u64> {
 }
 
 /// How the file is; refuses one that isn't ours, or of another version.
-fn form(connection: &Connection) -> Result<Form, Refused> {
+fn form(connection: &Connection) -> Result<Form, NotOpened> {
     let tables = "SELECT count(*) = 0 FROM sqlite_schema";
     let is_new = connection.query_row(tables, [], |row| row.get(0))?;
     let number = |name| connection.pragma_query_value(None, name, |row| row.get::<_, i64>(0));
@@ -173,16 +173,16 @@ fn form(connection: &Connection) -> Result<Form, Refused> {
     match application {
         APPLICATION if found == known => Ok(Form::Summed),
         APPLICATION if found == UNSUMMED => Ok(Form::Unsummed),
-        APPLICATION => Err(Refused::Form(Box::new(move |file| {
+        APPLICATION => Err(NotOpened::Form(Box::new(move |file| {
             OpenError::OtherVersion { file, found, known }
         }))),
         0 if is_new => Ok(Form::New),
-        _ => Err(Refused::Form(Box::new(OpenError::Foreign))),
+        _ => Err(NotOpened::Form(Box::new(OpenError::Foreign))),
     }
 }
 
 /// Deletes the keys under leases, and gives the moment after it.
-fn moment_without_leases(connection: &Connection) -> Result<Revision, Refused> {
+fn moment_without_leases(connection: &Connection) -> Result<Revision, NotOpened> {
     connection.execute_batch("BEGIN IMMEDIATE")?;
     let mut moment = moment(connection)?;
     if connection.execute("DELETE FROM pairs WHERE lease IS NOT NULL", [])? > 0 {
@@ -194,12 +194,12 @@ fn moment_without_leases(connection: &Connection) -> Result<Revision, Refused> {
 }
 
 /// The moment, if its row has what was written.
-fn moment(connection: &Connection) -> Result<Revision, Refused> {
+fn moment(connection: &Connection) -> Result<Revision, NotOpened> {
     let words = "SELECT revision, checksum FROM moment";
     let (moment, sum) = connection.query_row(words, [], |row| {
         Ok((row.get(0).map(revision)?, row.get::<_, Option<i64>>(1)?))
     })?;
-    match sum.is_none_or(|it| it == Checksum::of_moment(moment).number()) {
+    match sum.is_none_or(|it| it == RowChecksum::of_moment(moment).number()) {
         true => Ok(moment),
         false => Err(damaged(
             "the number of its last revision was changed".to_owned(),
@@ -208,7 +208,7 @@ fn moment(connection: &Connection) -> Result<Revision, Refused> {
 }
 
 fn write_moment(connection: &Connection, moment: Revision) -> rusqlite::Result<usize> {
-    let sum = Checksum::of_moment(moment).number();
+    let sum = RowChecksum::of_moment(moment).number();
     let words = "UPDATE moment SET revision = ?1, checksum = ?2";
     let mut update = connection.prepare_cached(words)?;
     update.execute([number(moment), sum])
@@ -226,13 +226,15 @@ fn open_error(folder: &Path, file: PathBuf, error: &rusqlite::Error) -> OpenErro
     }
 }
 
-impl From<rusqlite::Error> for Failure {
-    fn from(error: rusqlite::Error) -> Failure {
+impl From<rusqlite::Error> for TableFailure {
+    fn from(error: rusqlite::Error) -> TableFailure {
         match error.sqlite_error_code() {
-            Some(ErrorCode::DiskFull | ErrorCode::OutOfMemory) => Failure::Full(error.to_string()),
+            Some(ErrorCode::DiskFull | ErrorCode::OutOfMemory) => {
+                TableFailure::Full(error.to_string())
+            }
             // Of a row whose head was changed, or that holds another kind of value.
-            Some(ErrorCode::DatabaseCorrupt) | None => Failure::Damaged(error.to_string()),
-            _ => Failure::Broken(error.to_string()),
+            Some(ErrorCode::DatabaseCorrupt) | None => TableFailure::Damaged(error.to_string()),
+            _ => TableFailure::Broken(error.to_string()),
         }
     }
 }
@@ -247,16 +249,16 @@ fn revision(number: i64) -> Revision {
 }
 
 /// The pair of a row, if it has the bytes that were written.
-fn pair(row: &Row<'_>) -> Result<Pair, Failure> {
+fn pair(row: &Row<'_>) -> Result<Pair, TableFailure> {
     let pair = Pair {
         key: row.get(0)?,
         value: row.get(1)?,
         revision: row.get(2).map(revision)?,
     };
     let sum: Option<i64> = row.get(3)?;
-    match sum.is_none_or(|it| it == Checksum::of(&pair).number()) {
+    match sum.is_none_or(|it| it == RowChecksum::of(&pair).number()) {
         true => Ok(pair),
-        false => Err(Failure::Damaged(changed(&pair.key))),
+        false => Err(TableFailure::Damaged(changed(&pair.key))),
     }
 }
 
@@ -307,7 +309,7 @@ impl Tables for Sqlite {
         self.moment
     }
 
-    fn revision_of(&self, key: &[u8]) -> Result<Revision, Failure> {
+    fn revision_of(&self, key: &[u8]) -> Result<Revision, TableFailure> {
         let mut query = self
             .connection
             .prepare_cached("SELECT revision FROM pairs WHERE key = ?1")?;
@@ -317,7 +319,7 @@ impl Tables for Sqlite {
         Ok(found.unwrap_or(Revision::NEVER))
     }
 
-    fn pair_of(&self, key: &[u8]) -> Result<Option<Pair>, Failure> {
+    fn pair_of(&self, key: &[u8]) -> Result<Option<Pair>, TableFailure> {
         let mut query = self
             .connection
             .prepare_cached("SELECT key, value, revision, checksum FROM pairs WHERE key = ?1")?;
@@ -325,7 +327,7 @@ impl Tables for Sqlite {
         found.next().transpose()
     }
 
-    fn pairs(&self, prefix: &[u8]) -> Result<Vec<Pair>, Failure> {
+    fn pairs(&self, prefix: &[u8]) -> Result<Vec<Pair>, TableFailure> {
         let sql = "SELECT key, value, revision, checksum FROM pairs WHERE key >= ?1 ORDER BY key";
         let mut query = self.connection.prepare_cached(sql)?;
         let mut rows = query.query([prefix])?;
@@ -339,7 +341,7 @@ impl Tables for Sqlite {
         Ok(found)
     }
 
-    fn range(&self, from: &[u8], end: &[u8], most: usize) -> Result<Vec<Pair>, Failure> {
+    fn range(&self, from: &[u8], end: &[u8], most: usize) -> Result<Vec<Pair>, TableFailure> {
         let words = "
             SELECT key, value, revision, checksum FROM pairs WHERE key >= ?1 AND key < ?2 ORDER BY key LIMIT ?3
         ";
@@ -349,14 +351,14 @@ impl Tables for Sqlite {
         pairs.collect()
     }
 
-    fn keys(&self, from: &[u8], end: &[u8]) -> Result<Vec<Vec<u8>>, Failure> {
+    fn keys(&self, from: &[u8], end: &[u8]) -> Result<Vec<Vec<u8>>, TableFailure> {
         let words = "SELECT key FROM pairs WHERE key >= ?1 AND key < ?2 ORDER BY key";
         let mut found = self.connection.prepare_cached(words)?;
         let keys = found.query_map((from, end), |row| row.get(0))?;
         Ok(keys.collect::<Result<_, _>>()?)
     }
 
-    fn begin(&mut self, room: Room) -> Result<(), Failure> {
+    fn begin(&mut self, room: Room) -> Result<(), TableFailure> {
         if self.lent.is_none() {
             self.reserve.take_back();
         }
@@ -370,19 +372,19 @@ impl Tables for Sqlite {
         Ok(())
     }
 
-    fn put(&mut self, pair: &Pair, lease: Option<LeaseId>) -> Result<(), Failure> {
+    fn put(&mut self, pair: &Pair, lease: Option<LeaseId>) -> Result<(), TableFailure> {
         let mut put = self.connection.prepare_cached(PUT)?;
         put.execute(params![
             pair.key,
             pair.value,
             number(pair.revision),
             lease.map(|it| it.0),
-            Checksum::of(pair).number()
+            RowChecksum::of(pair).number()
         ])?;
         Ok(())
     }
 
-    fn delete(&mut self, key: &[u8]) -> Result<bool, Failure> {
+    fn delete(&mut self, key: &[u8]) -> Result<bool, TableFailure> {
         Ok(self
             .connection
             .prepare_cached("DELETE FROM pairs WHERE key = ?1")?
@@ -390,17 +392,17 @@ impl Tables for Sqlite {
             > 0)
     }
 
-    fn commit(&mut self, moment: Revision) -> Result<(), Failure> {
+    fn commit(&mut self, moment: Revision) -> Result<(), TableFailure> {
         write_moment(&self.connection, moment)?;
         if !self.leaves_what_is_kept()? {
-            return Err(Failure::Full(KEPT_BACK.to_owned()));
+            return Err(TableFailure::Full(KEPT_BACK.to_owned()));
         }
         self.connection.execute_batch("COMMIT")?;
         (self.moment, self.is_written) = (moment, true);
         Ok(())
     }
 
-    fn rollback(&mut self) -> Result<(), Failure> {
+    fn rollback(&mut self) -> Result<(), TableFailure> {
         // SQLite has taken it back by itself after some failures.
         match self.connection.is_autocommit() {
             true => Ok(()),
@@ -438,22 +440,22 @@ impl Tables for Sqlite {
         Some(self.reserve.free() + within + lends)
     }
 
-    fn compact(&mut self) -> Result<(), Failure> {
-        if let Err(Failure::Full(_)) = self.tidy().map_err(Failure::from) {
+    fn compact(&mut self) -> Result<(), TableFailure> {
+        if let Err(TableFailure::Full(_)) = self.tidy().map_err(TableFailure::from) {
             return Ok(());
         }
         self.reserve.lend(Kept::Nothing);
         let vacuumed = self.connection.execute_batch("VACUUM");
         let tidied = self.tidy();
-        match vacuumed.and(tidied).map_err(Failure::from) {
+        match vacuumed.and(tidied).map_err(TableFailure::from) {
             // What was deleted stays free within the file, for what is written next.
-            Err(Failure::Full(_)) => Ok(()),
+            Err(TableFailure::Full(_)) => Ok(()),
             told => told,
         }
     }
 
     /// Writes to the disk what was committed since: the log of SQLite first, then its tables.
-    fn tick(&mut self) -> Result<(), Failure> {
+    fn tick(&mut self) -> Result<(), TableFailure> {
         self.reserve.take_back();
         if self.sync == Sync::Second && self.is_written {
             self.connection

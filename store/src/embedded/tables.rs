@@ -1,7 +1,7 @@
 use crate::{LeaseId, Pair, Revision, Room};
 
 /// Why tables do nothing.
-pub(super) enum Failure {
+pub(super) enum TableFailure {
     /// The disk is full; after a rollback all is as before.
     Full(String),
     /// What is to be read isn't what was written there; all else can be read.
@@ -31,35 +31,35 @@ pub(super) trait Tables {
     fn moment(&self) -> Revision;
 
     /// The revision of a key; [`Revision::NEVER`] where it lies nowhere.
-    fn revision_of(&self, key: &[u8]) -> Result<Revision, Failure>;
+    fn revision_of(&self, key: &[u8]) -> Result<Revision, TableFailure>;
 
     /// The pair of a key.
-    fn pair_of(&self, key: &[u8]) -> Result<Option<Pair>, Failure>;
+    fn pair_of(&self, key: &[u8]) -> Result<Option<Pair>, TableFailure>;
 
     /// All pairs whose keys begin so, in their order.
-    fn pairs(&self, prefix: &[u8]) -> Result<Vec<Pair>, Failure>;
+    fn pairs(&self, prefix: &[u8]) -> Result<Vec<Pair>, TableFailure>;
 
     /// The first pairs from this key on and before that end, in their order, at most so many.
-    fn range(&self, from: &[u8], end: &[u8], most: usize) -> Result<Vec<Pair>, Failure>;
+    fn range(&self, from: &[u8], end: &[u8], most: usize) -> Result<Vec<Pair>, TableFailure>;
 
     /// The keys from this one on and before that end, in their order.
-    fn keys(&self, from: &[u8], end: &[u8]) -> Result<Vec<Vec<u8>>, Failure>;
+    fn keys(&self, from: &[u8], end: &[u8]) -> Result<Vec<Vec<u8>>, TableFailure>;
 
     /// Begins writing, with this room.
-    fn begin(&mut self, room: Room) -> Result<(), Failure>;
+    fn begin(&mut self, room: Room) -> Result<(), TableFailure>;
 
     /// Writes a pair, which a lease's end will delete.
-    fn put(&mut self, pair: &Pair, lease: Option<LeaseId>) -> Result<(), Failure>;
+    fn put(&mut self, pair: &Pair, lease: Option<LeaseId>) -> Result<(), TableFailure>;
 
     /// Deletes a key, and says whether it lay there.
-    fn delete(&mut self, key: &[u8]) -> Result<bool, Failure>;
+    fn delete(&mut self, key: &[u8]) -> Result<bool, TableFailure>;
 
     /// Ends writing, at this moment, as durably as was asked for. After `Full` nothing was written, if a rollback
     /// follows; after `Broken` that isn't known.
-    fn commit(&mut self, moment: Revision) -> Result<(), Failure>;
+    fn commit(&mut self, moment: Revision) -> Result<(), TableFailure>;
 
     /// Takes back all since writing began.
-    fn rollback(&mut self) -> Result<(), Failure>;
+    fn rollback(&mut self) -> Result<(), TableFailure>;
 
     /// Makes room for what was refused, by these means, until it is taken back; returns whether there may be some.
     fn make_room(&mut self, _means: Means) -> bool {
@@ -75,12 +75,12 @@ pub(super) trait Tables {
     }
 
     /// Gives back the room of what was deleted or written over.
-    fn compact(&mut self) -> Result<(), Failure> {
+    fn compact(&mut self) -> Result<(), TableFailure> {
         Ok(())
     }
 
     /// Does what has to be done once a second.
-    fn tick(&mut self) -> Result<(), Failure> {
+    fn tick(&mut self) -> Result<(), TableFailure> {
         Ok(())
     }
 }

@@ -1,4 +1,4 @@
-use crate::{Change, Reading, Revision, Seen, Watcher};
+use crate::{KeyChange, Reading, Revision, Seen, Watcher};
 
 /// Those who watch an embedded store.
 #[derive(Default)]
@@ -23,7 +23,7 @@ impl Watchers {
     }
 
     /// Tells each what changed of its keys.
-    pub(super) fn tell(&mut self, moment: Revision, changes: &[Change]) {
+    pub(super) fn tell(&mut self, moment: Revision, changes: &[KeyChange]) {
         for (_, prefix, watcher) in &mut self.0 {
             let of_it: Vec<_> = changes
                 .iter()

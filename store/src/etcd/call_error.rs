@@ -9,19 +9,19 @@ pub(super) enum CallError {
     /// A member may have done it.
     Unknown(String),
     /// A member refused it.
-    Refused(Refusal),
+    Refused(GrpcStatus),
 }
 
 /// What a member says where it refuses a call.
 #[derive(Clone, Debug, Default, Deserialize)]
 #[serde(default)]
-pub(super) struct Refusal {
+pub(super) struct GrpcStatus {
     /// A code of gRPC.
     code: u32,
     message: String,
 }
 
-impl Refusal {
+impl GrpcStatus {
     const INVALID: u32 = 3;
     const NOT_FOUND: u32 = 5;
     const EXISTS: u32 = 6;
@@ -31,13 +31,13 @@ impl Refusal {
     const UNAUTHENTICATED: u32 = 16;
     /// Those by which any member would refuse the call.
     const OF_CALL: [u32; 7] = [
-        Refusal::INVALID,
-        Refusal::NOT_FOUND,
-        Refusal::EXISTS,
-        Refusal::DENIED,
-        Refusal::EXHAUSTED,
-        Refusal::OUT_OF_RANGE,
-        Refusal::UNAUTHENTICATED,
+        GrpcStatus::INVALID,
+        GrpcStatus::NOT_FOUND,
+        GrpcStatus::EXISTS,
+        GrpcStatus::DENIED,
+        GrpcStatus::EXHAUSTED,
+        GrpcStatus::OUT_OF_RANGE,
+        GrpcStatus::UNAUTHENTICATED,
     ];
 
     /// Whether it says why. What comes in place of a stream doesn't, in words of its own.
@@ -48,12 +48,12 @@ impl Refusal {
     /// Whether another member may do what this one refused, as it is neither for what is asked nor for who asks: it
     /// reaches none that leads, is a learner, or its gateway doesn't reach it.
     fn is_of_member(&self) -> bool {
-        !Refusal::OF_CALL.contains(&self.code) && !self.is_of_user()
+        !GrpcStatus::OF_CALL.contains(&self.code) && !self.is_of_user()
     }
 
     /// Whether there is no token of a user, or it has ended.
     pub(super) fn is_of_token(&self) -> bool {
-        self.code == Refusal::UNAUTHENTICATED || self.message.contains("user name is empty")
+        self.code == GrpcStatus::UNAUTHENTICATED || self.message.contains("user name is empty")
     }
 
     /// Whether what is asked for was let go already.
@@ -69,7 +69,7 @@ impl Refusal {
 
     /// Whether it is refused for who asks, or who doesn't say it.
     pub(super) fn is_of_user(&self) -> bool {
-        matches!(self.code, Refusal::DENIED | Refusal::UNAUTHENTICATED)
+        matches!(self.code, GrpcStatus::DENIED | GrpcStatus::UNAUTHENTICATED)
             || self.message.contains("authentication")
             || self.message.contains("user name is empty")
     }
@@ -103,11 +103,11 @@ impl CallError {
             CallError::Refused(it) if it.is_of_user() => WriteError::Denied(it.message),
             CallError::Refused(it) if it.is_of_size() => WriteError::TooLarge(it.message),
             CallError::Refused(it) => match it.code {
-                Refusal::EXHAUSTED if it.message.contains("space exceeded") => {
+                GrpcStatus::EXHAUSTED if it.message.contains("space exceeded") => {
                     WriteError::Full(it.message)
                 }
-                Refusal::EXHAUSTED | Refusal::INVALID => WriteError::Unavailable(it.message),
-                Refusal::NOT_FOUND => WriteError::LeaseEnded,
+                GrpcStatus::EXHAUSTED | GrpcStatus::INVALID => WriteError::Unavailable(it.message),
+                GrpcStatus::NOT_FOUND => WriteError::LeaseEnded,
                 _ => WriteError::Unknown(it.message),
             },
         }
@@ -141,7 +141,7 @@ impl CallError {
             CallError::Unreachable(reason) | CallError::Unknown(reason) => {
                 LeaseError::Unavailable(reason)
             }
-            CallError::Refused(it) if it.code == Refusal::NOT_FOUND => LeaseError::Ended(lease),
+            CallError::Refused(it) if it.code == GrpcStatus::NOT_FOUND => LeaseError::Ended(lease),
             CallError::Refused(it) => LeaseError::Unavailable(it.message),
         }
     }

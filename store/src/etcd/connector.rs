@@ -1,4 +1,4 @@
-use super::link::Link;
+use super::member_connection::MemberConnection;
 use super::tls::Tls;
 use hyper::client::HttpConnector;
 use hyper::http::uri::Scheme;
@@ -43,9 +43,9 @@ impl Connector {
 }
 
 impl Service<Uri> for Connector {
-    type Response = Link;
+    type Response = MemberConnection;
     type Error = Unreached;
-    type Future = Pin<Box<dyn Future<Output = Result<Link, Unreached>> + Send>>;
+    type Future = Pin<Box<dyn Future<Output = Result<MemberConnection, Unreached>> + Send>>;
 
     fn poll_ready(&mut self, context: &mut Context<'_>) -> Poll<Result<(), Unreached>> {
         self.plain.poll_ready(context).map_err(Into::into)
@@ -57,7 +57,7 @@ impl Service<Uri> for Connector {
         Box::pin(async move {
             let socket = reaching.await?;
             if member.scheme() != Some(&Scheme::HTTPS) {
-                return Ok(Link::Plain(socket));
+                return Ok(MemberConnection::Plain(socket));
             }
             let tls = tls.ok_or("no TLS is spoken here")?;
             let host = member.host().unwrap_or_default();
@@ -67,8 +67,8 @@ impl Service<Uri> for Connector {
 }
 
 /// Does the handshake with the member of this name or address.
-async fn met(tls: &Tls, host: &str, socket: TcpStream) -> Result<Link, Unreached> {
+async fn met(tls: &Tls, host: &str, socket: TcpStream) -> Result<MemberConnection, Unreached> {
     let mut stream = SslStream::new(tls.session(host)?, socket)?;
     Pin::new(&mut stream).connect().await?;
-    Ok(Link::Tls(Box::new(stream)))
+    Ok(MemberConnection::Tls(Box::new(stream)))
 }

@@ -1,8 +1,8 @@
-use super::call_error::{CallError, Refusal};
+use super::call_error::{CallError, GrpcStatus};
 use super::connector::Connector;
+use super::line_stream::{LineStream, LONGEST};
 use super::pulse::Pulse;
-use super::stream::{Stream, LONGEST};
-use super::wire::{Range, Streamed};
+use super::wire::{RangeRequest, Streamed};
 use super::{Access, StartError};
 use hyper::body::HttpBody;
 use hyper::{header, Body, Client, Request, Response};
@@ -113,7 +113,7 @@ impl Gateway {
     ) -> Result<T, CallError> {
         let call = |member| async move {
             let found = self.send(member, path, asked).await?;
-            let told: Streamed<T> = Stream::new(found.into_body()).next().await?;
+            let told: Streamed<T> = LineStream::new(found.into_body()).next().await?;
             let error = || CallError::Unknown("a member's stream begins with an error".to_owned());
             told.result.ok_or_else(error)
         };
@@ -129,16 +129,16 @@ impl Gateway {
         &self,
         member: usize,
         asked: &impl Serialize,
-    ) -> Result<Stream, CallError> {
+    ) -> Result<LineStream, CallError> {
         let found = within(SHORT, self.send(member, WATCH, asked)).await?;
-        Ok(Stream::new(found.into_body()))
+        Ok(LineStream::new(found.into_body()))
     }
 
     /// Whether this member, and no other for it, answers the next question after a key: it has to ask most members, so
     /// one that reaches no leader, or whose disk hangs, is found too.
     pub(super) async fn is_well(&self, member: usize, key: &[u8]) -> bool {
         let question = async {
-            let asked = Range::counting(key);
+            let asked = RangeRequest::counting(key);
             match within(SHORT, self.ask::<IgnoredAny>(member, RANGE, &asked)).await {
                 Ok(_) => true,
                 // To whom it isn't shown it is refused after the others were asked.
@@ -319,8 +319,8 @@ async fn refusal(found: Response<Body>) -> CallError {
     match whole(found)
         .await
         .ok()
-        .and_then(|it| serde_json::from_slice::<Refusal>(&it).ok())
-        .filter(Refusal::is_told)
+        .and_then(|it| serde_json::from_slice::<GrpcStatus>(&it).ok())
+        .filter(GrpcStatus::is_told)
     {
         Some(refusal) => CallError::Refused(refusal),
         None => CallError::Unknown(format!("etcd answered {status}")),

@@ -1,14 +1,14 @@
 //! A store on the members of a cluster of etcd, reached by their JSON gateway.
 mod access;
 mod call_error;
-mod caller;
 mod connector;
 mod gateway;
-mod link;
+mod line_stream;
+mod member_caller;
+mod member_connection;
 mod pulse;
-mod stream;
 mod tls;
-mod watching;
+mod watch_loop;
 mod wire;
 
 pub use access::{Access, StartError};
@@ -18,15 +18,15 @@ use crate::{
     Transaction, Watch, Watcher, WriteError,
 };
 use call_error::CallError;
-use caller::Caller;
 use gateway::{Gateway, RANGE};
+use member_caller::MemberCaller;
 use serde::de::IgnoredAny;
 use std::fmt;
 use std::time::Duration;
-use watching::watch;
+use watch_loop::watch;
 use wire::{
-    AlarmRequest, Alarms, Compaction, Granted, Kept, Lease, Nothing, Range, RangeResult,
-    TransactionRequest, TransactionResult,
+    AlarmRequest, Alarms, Compaction, Granted, KeepAliveResponse, LeaseRequest, Nothing,
+    RangeRequest, RangeResult, TransactionRequest, TransactionResult,
 };
 
 /// How many keys etcd reads by one transaction.
@@ -42,10 +42,10 @@ const KEYS: usize = 8_192;
 /// A member that can't be reached, or refuses a call for itself, is passed over for the next one. A transaction that a
 /// member may have got is never sent again: its outcome is then [`WriteError::Unknown`](crate::WriteError::Unknown).
 pub struct Etcd {
-    caller: Caller,
+    caller: MemberCaller,
     /// Who grants, keeps and ends leases: whoever is told of something by the other one may hold that one up for longer
     /// than a lease.
-    keeper: Caller,
+    keeper: MemberCaller,
 }
 
 impl Etcd {
@@ -55,8 +55,8 @@ impl Etcd {
     ///
     /// Where an address can't be read, a file of certificates can't be used, or the system gives no thread.
     pub fn new(access: Access) -> Result<Etcd, StartError> {
-        let keeper = Caller::new("leases", access.clone())?;
-        let caller = Caller::new("etcd", access)?;
+        let keeper = MemberCaller::new("leases", access.clone())?;
+        let caller = MemberCaller::new("etcd", access)?;
         Ok(Etcd { caller, keeper })
     }
 }
@@ -97,7 +97,7 @@ impl Store for Etcd {
     }
 
     fn read_range(&self, from: &[u8], end: &[u8], most: usize) -> Result<Reading, ReadError> {
-        let (gateway, asked) = (self.caller.gateway(), Range::part(from, end, most));
+        let (gateway, asked) = (self.caller.gateway(), RangeRequest::part(from, end, most));
         self.caller
             .wait_for(async move { read_range(&gateway, &asked).await })
             .unwrap_or(Err(ReadError::Stopped))
@@ -119,7 +119,7 @@ impl Store for Etcd {
     }
 
     fn grant(&self, length: Duration) -> Result<LeaseId, LeaseError> {
-        let (gateway, asked) = (self.keeper.gateway(), Lease::of_length(length));
+        let (gateway, asked) = (self.keeper.gateway(), LeaseRequest::of_length(length));
         self.keeper
             .wait_for(async move { gateway.again::<Granted>("/v3/lease/grant", &asked).await })
             .ok_or(LeaseError::Stopped)?
@@ -128,10 +128,14 @@ impl Store for Etcd {
     }
 
     fn keep(&self, lease: LeaseId) -> Result<(), LeaseError> {
-        let (gateway, asked) = (self.keeper.gateway(), Lease::of(lease));
+        let (gateway, asked) = (self.keeper.gateway(), LeaseRequest::of(lease));
         let found = self
             .keeper
-            .wait_for(async move { gateway.first::<Kept>("/v3/lease/keepalive", &asked).await })
+            .wait_for(async move {
+                gateway
+                    .first::<KeepAliveResponse>("/v3/lease/keepalive", &asked)
+                    .await
+            })
             .ok_or(LeaseError::Stopped)?
             .map_err(|error| error.of_lease(lease))?;
         match found.length > 0 {
@@ -141,7 +145,7 @@ impl Store for Etcd {
     }
 
     fn revoke(&self, lease: LeaseId) -> Result<(), LeaseError> {
-        let (gateway, asked) = (self.keeper.gateway(), Lease::of(lease));
+        let (gateway, asked) = (self.keeper.gateway(), LeaseRequest::of(lease));
         self.keeper
             .wait_for(async move {
                 gateway
@@ -207,7 +211,7 @@ async fn read_all(gateway: &Gateway, prefix: &[u8]) -> Result<Reading, ReadError
     let mut found = Reading::default();
     let mut from = prefix.to_vec();
     loop {
-        let asked = Range::page(&from, prefix, PAGE, found.revision);
+        let asked = RangeRequest::page(&from, prefix, PAGE, found.revision);
         let page = gateway
             .again::<RangeResult>(RANGE, &asked)
             .await
@@ -225,7 +229,7 @@ async fn read_all(gateway: &Gateway, prefix: &[u8]) -> Result<Reading, ReadError
 }
 
 /// Reads this range at the present.
-async fn read_range(gateway: &Gateway, asked: &Range) -> Result<Reading, ReadError> {
+async fn read_range(gateway: &Gateway, asked: &RangeRequest) -> Result<Reading, ReadError> {
     let found = gateway.again::<RangeResult>(RANGE, asked).await;
     let found = found.map_err(CallError::of_read)?;
     Ok(Reading {
@@ -242,7 +246,7 @@ async fn read_keys(
 ) -> Result<Vec<Vec<u8>>, ReadError> {
     let mut keys = Vec::new();
     loop {
-        let asked = Range::keys(&from, end, KEYS);
+        let asked = RangeRequest::keys(&from, end, KEYS);
         let page = gateway
             .again::<RangeResult>(RANGE, &asked)
             .await

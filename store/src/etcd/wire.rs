@@ -55,7 +55,7 @@ struct Compared {
 #[derive(Serialize)]
 enum Operation {
     #[serde(rename = "request_range")]
-    Read(Range),
+    Read(RangeRequest),
     #[serde(rename = "request_put")]
     Put {
         #[serde(with = "bytes")]
@@ -75,22 +75,22 @@ enum Operation {
 impl Operation {
     /// Reads a key at this moment; at the present where it is `NEVER`.
     fn read(key: &[u8], moment: Revision) -> Operation {
-        Operation::Read(Range {
+        Operation::Read(RangeRequest {
             revision: moment.0,
-            ..Range::part(key, &[], 0)
+            ..RangeRequest::part(key, &[], 0)
         })
     }
 
     /// Has a member ask who leads before it answers: it answers a transaction that only compares by what it has itself,
     /// which may be behind what others were told.
     fn ask(key: &[u8]) -> Operation {
-        Operation::Read(Range::counting(key))
+        Operation::Read(RangeRequest::counting(key))
     }
 }
 
 /// A range of keys: one, or all up to an end.
 #[derive(Default, Serialize)]
-pub(super) struct Range {
+pub(super) struct RangeRequest {
     #[serde(with = "bytes")]
     key: Vec<u8>,
     #[serde(with = "bytes", skip_serializing_if = "Vec::is_empty")]
@@ -105,42 +105,42 @@ pub(super) struct Range {
     count_only: bool,
 }
 
-impl Range {
+impl RangeRequest {
     /// Whether this key is there, at the present.
-    pub(super) fn counting(key: &[u8]) -> Range {
-        Range {
+    pub(super) fn counting(key: &[u8]) -> RangeRequest {
+        RangeRequest {
             count_only: true,
-            ..Range::part(key, &[], 0)
+            ..RangeRequest::part(key, &[], 0)
         }
     }
 
     /// The first keys from this one on and before that end, at the present, and not what lies there.
-    pub(super) fn keys(from: &[u8], end: &[u8], limit: usize) -> Range {
-        Range {
+    pub(super) fn keys(from: &[u8], end: &[u8], limit: usize) -> RangeRequest {
+        RangeRequest {
             keys_only: true,
-            ..Range::part(from, end, limit)
+            ..RangeRequest::part(from, end, limit)
         }
     }
 
     /// The first keys from this one on and before that end, at the present.
-    pub(super) fn part(from: &[u8], end: &[u8], limit: usize) -> Range {
-        Range {
+    pub(super) fn part(from: &[u8], end: &[u8], limit: usize) -> RangeRequest {
+        RangeRequest {
             key: from.to_vec(),
             range_end: end.to_vec(),
             limit,
             revision: Revision::NEVER.0,
-            ..Range::default()
+            ..RangeRequest::default()
         }
     }
 
     /// Keys from this one on that begin so.
-    pub(super) fn page(from: &[u8], prefix: &[u8], limit: usize, moment: Revision) -> Range {
-        Range {
+    pub(super) fn page(from: &[u8], prefix: &[u8], limit: usize, moment: Revision) -> RangeRequest {
+        RangeRequest {
             key: from.to_vec(),
             range_end: end_of(prefix),
             limit,
             revision: moment.0,
-            ..Range::default()
+            ..RangeRequest::default()
         }
     }
 }
@@ -299,23 +299,23 @@ impl TransactionResult {
 
 /// A lease that is asked for, or named.
 #[derive(Default, Serialize)]
-pub(super) struct Lease {
+pub(super) struct LeaseRequest {
     #[serde(rename = "TTL", with = "number")]
     length: u64,
     #[serde(rename = "ID", with = "number")]
     id: i64,
 }
 
-impl Lease {
-    pub(super) fn of_length(length: Duration) -> Lease {
-        Lease {
+impl LeaseRequest {
+    pub(super) fn of_length(length: Duration) -> LeaseRequest {
+        LeaseRequest {
             length: length.as_secs().max(1),
             id: 0,
         }
     }
 
-    pub(super) fn of(lease: LeaseId) -> Lease {
-        Lease {
+    pub(super) fn of(lease: LeaseId) -> LeaseRequest {
+        LeaseRequest {
             length: 0,
             id: lease.0,
         }
@@ -335,7 +335,7 @@ pub(super) struct Streamed<T> {
 }
 
 #[derive(Deserialize)]
-pub(super) struct Kept {
+pub(super) struct KeepAliveResponse {
     #[serde(rename = "TTL", default, deserialize_with = "number::deserialize")]
     pub(super) length: i64,
 }
@@ -387,11 +387,11 @@ pub(super) struct WatchEvent {
     kv: Stored,
 }
 
-impl From<WatchEvent> for crate::Change {
-    fn from(it: WatchEvent) -> crate::Change {
+impl From<WatchEvent> for crate::KeyChange {
+    fn from(it: WatchEvent) -> crate::KeyChange {
         let pair = Pair::from(it.kv);
         let value = (it.kind != "DELETE").then_some(pair.value);
-        crate::Change {
+        crate::KeyChange {
             key: pair.key,
             value,
             revision: pair.revision,

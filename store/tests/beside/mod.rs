@@ -9,11 +9,13 @@ use std::path::{Path, PathBuf};
 use std::process::{Child, Command, Stdio};
 use std::sync::atomic::{AtomicU32, Ordering};
 use std::thread;
-use std::time::{Duration, Instant};
+use std::time::{Duration, Instant, SystemTime, UNIX_EPOCH};
 
 pub mod plain;
 pub mod relay;
 
+/// How often etcd is begun, if it ends at once.
+const TRIES: u32 = 10;
 /// How long an answer is waited for, on a machine that may be busy.
 pub const PATIENCE: Duration = Duration::from_secs(30);
 
@@ -60,7 +62,7 @@ pub struct Member {
 impl Member {
     /// One, where etcd is installed.
     pub fn start(options: &[&str]) -> Option<Member> {
-        let member = Member::begin(address(), address(), options)?;
+        let member = Member::begin_alone("http://127.0.0.1", options)?;
         member.wait_until_up();
         Some(member)
     }
@@ -79,13 +81,36 @@ impl Member {
         members.inspect(|it| it.iter().for_each(Member::wait_until_up))
     }
 
-    /// One that speaks TLS by these options; it may not be up yet.
+    /// One that speaks TLS by these options; it listens, and may not be up yet.
     pub fn start_with_tls(options: &[&str]) -> Option<Member> {
-        Member::begin(
-            format!("https://localhost:{}", free_port()),
-            address(),
-            options,
-        )
+        Member::begin_alone("https://localhost", options)
+    }
+
+    /// One that listens at a port of this host. It ends if another program takes a port of its own, so it is begun anew
+    /// at others.
+    fn begin_alone(host: &str, options: &[&str]) -> Option<Member> {
+        for _ in 0..TRIES {
+            let endpoint = format!("{host}:{}", free_port());
+            let mut member = Member::begin(endpoint, address(), options)?;
+            if member.listens() {
+                return Some(member);
+            }
+        }
+        panic!("etcd ends as soon as it begins");
+    }
+
+    /// Waits until it listens; false if it ended before.
+    fn listens(&mut self) -> bool {
+        let end = Instant::now() + Duration::from_secs(60);
+        let (_, authority) = self.endpoint.split_once("//").expect("a scheme");
+        while TcpStream::connect(authority).is_err() {
+            assert!(Instant::now() < end, "etcd doesn't begin");
+            if self.process.try_wait().expect("its state").is_some() {
+                return false;
+            }
+            thread::sleep(Duration::from_millis(20));
+        }
+        true
     }
 
     fn begin(endpoint: String, peer: String, options: &[&str]) -> Option<Member> {
@@ -206,9 +231,16 @@ fn address() -> String {
     format!("http://127.0.0.1:{}", free_port())
 }
 
+/// A port at which nobody listens, of those that the system gives to no connection of its own.
 pub fn free_port() -> u16 {
-    let listener = TcpListener::bind(("127.0.0.1", 0)).expect("a port");
-    listener.local_addr().expect("its address").port()
+    let since = SystemTime::now().duration_since(UNIX_EPOCH);
+    let mut chance = Chance(since.expect("a time after 1970").as_nanos() as u64);
+    loop {
+        let port = 12_000 + chance.below(20_000) as u16;
+        if TcpListener::bind(("127.0.0.1", port)).is_ok() {
+            return port;
+        }
+    }
 }
 
 /// A stream of numbers that a seed gives.

@@ -1,7 +1,7 @@
 //! A store that is implemented outside of the crate, as a user's would be: in memory, by a thread that does all.
 use durkenzo_store::{
-    Change, CompactError, Done, LeaseError, LeaseId, Outcome, Pair, ReadError, Reading, Revision,
-    Seen, Store, Transaction, Watch, Watcher, WriteError,
+    CompactError, Done, KeyChange, LeaseError, LeaseId, Outcome, Pair, ReadError, Reading,
+    Revision, Seen, Store, Transaction, Watch, Watcher, WriteError,
 };
 use std::collections::BTreeMap;
 use std::sync::atomic::{AtomicU64, Ordering};
@@ -109,7 +109,7 @@ impl Kept {
                 None => self.pairs.remove(&key),
             };
             if value.is_some() || before.is_some() {
-                made.push(Change {
+                made.push(KeyChange {
                     key,
                     value,
                     revision,
@@ -123,7 +123,7 @@ impl Kept {
         self.revision
     }
 
-    fn tell(&mut self, made: &[Change]) {
+    fn tell(&mut self, made: &[KeyChange]) {
         for (prefix, watcher) in self.watchers.values_mut() {
             let changes = made.iter().filter(|it| it.key.starts_with(prefix)).cloned();
             let changes: Vec<_> = changes.collect();

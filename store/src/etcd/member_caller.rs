@@ -7,15 +7,15 @@ use tokio::runtime::{Builder, Handle, Runtime};
 use tokio::task::JoinHandle;
 
 /// Who calls members: a thread, and connections that it has alone.
-pub(super) struct Caller {
+pub(super) struct MemberCaller {
     gateway: Arc<Gateway>,
     handle: Handle,
     /// There until the end.
     runtime: Option<Runtime>,
 }
 
-impl Caller {
-    pub(super) fn new(thread: &str, access: Access) -> Result<Caller, StartError> {
+impl MemberCaller {
+    pub(super) fn new(thread: &str, access: Access) -> Result<MemberCaller, StartError> {
         let gateway = Arc::new(Gateway::new(access)?);
         // A second thread would be woken for each call, and find nothing to do.
         let runtime = Builder::new_multi_thread()
@@ -23,7 +23,7 @@ impl Caller {
             .thread_name(thread)
             .enable_all()
             .build()?;
-        Ok(Caller {
+        Ok(MemberCaller {
             gateway,
             handle: runtime.handle().clone(),
             runtime: Some(runtime),
@@ -53,7 +53,7 @@ impl Caller {
     }
 }
 
-impl Drop for Caller {
+impl Drop for MemberCaller {
     fn drop(&mut self) {
         // What the thread tells may have the store last, and a thread can't wait for itself.
         if let Some(runtime) = self.runtime.take() {

@@ -2,7 +2,7 @@ use super::gateway::Gateway;
 use super::pulse::QUIET;
 use super::read_all;
 use super::wire::{Streamed, WatchRequest, WatchResult};
-use crate::{Change, Reading, Revision, Seen, Watcher};
+use crate::{KeyChange, Reading, Revision, Seen, Watcher};
 use std::future::{poll_fn, Future};
 use std::pin::pin;
 use std::sync::Arc;
@@ -68,7 +68,7 @@ async fn follow(
         if found.canceled {
             return Ended::Forgotten;
         }
-        let changes: Vec<Change> = found.events.into_iter().map(Change::from).collect();
+        let changes: Vec<KeyChange> = found.events.into_iter().map(KeyChange::from).collect();
         if let Some(last) = changes.last() {
             *moment = last.revision.max(*moment);
             watcher(Seen::Changes(*moment, changes));

@@ -8,16 +8,16 @@ use serde::de::DeserializeOwned;
 pub(super) const LONGEST: usize = 1 << 31;
 
 /// What a member answers bit by bit, a line each.
-pub(super) struct Stream {
+pub(super) struct LineStream {
     body: Body,
     held: Vec<u8>,
     /// How many of them are of no line's end.
     seen: usize,
 }
 
-impl Stream {
-    pub(super) fn new(body: Body) -> Stream {
-        Stream {
+impl LineStream {
+    pub(super) fn new(body: Body) -> LineStream {
+        LineStream {
             body,
             held: Vec::new(),
             seen: 0,
