@@ -1,6 +1,12 @@
+use durkenzo::{Change, RestartStep};
+use durkenzo_store_sys::DirectorStep;
+
+/// The steps of restarts have the numbers after those of the changes.
+const CHANGES: u8 = DirectorStep::REASSIGN;
+
 /// What the control is asked for: the nine changes of a shard, and the five steps of a server's restart.
 #[derive(Clone, Copy, Debug, PartialEq, Eq)]
-pub enum Command {
+pub enum ControlCommand {
     /// The vacant shard gets this owner.
     Assign(u16, u16),
     /// A migration of the shard to this server begins.
@@ -31,46 +37,110 @@ pub enum Command {
     Fail(u16),
 }
 
-impl Command {
-    /// Its kind, its shard and its server, as the library has them.
-    pub(crate) fn parts(self) -> (u8, u16, u16) {
-        match self {
-            Command::Assign(shard, server) => (1, shard, server),
-            Command::PrepareAddShard(shard, server) => (2, shard, server),
-            Command::PrepareDropShard(shard) => (3, shard, 0),
-            Command::AddShard(shard) => (4, shard, 0),
-            Command::DropShard(shard) => (5, shard, 0),
-            Command::Cancel(shard) => (6, shard, 0),
-            Command::Pause(shard) => (7, shard, 0),
-            Command::Resume(shard) => (8, shard, 0),
-            Command::Reassign(shard, server) => (9, shard, server),
-            Command::Ask(server) => (10, 0, server),
-            Command::Approve(server) => (11, 0, server),
-            Command::Stopped(server) => (12, 0, server),
-            Command::Back(server) => (13, 0, server),
-            Command::Fail(server) => (14, 0, server),
+/// What a command changes.
+#[derive(Clone, Copy, Debug, PartialEq, Eq)]
+pub enum Subject {
+    /// The record of this shard.
+    Shard(u16),
+    /// The state of this server.
+    Server(u16),
+}
+
+/// A command by what it is given to.
+enum Given {
+    Shard(u16, Change),
+    Server(u16, RestartStep),
+}
+
+impl ControlCommand {
+    /// Returns the command for this change of the shard.
+    pub fn of_shard(shard: u16, change: Change) -> ControlCommand {
+        match change {
+            Change::Assign(server) => ControlCommand::Assign(shard, server),
+            Change::PrepareAddShard(server) => ControlCommand::PrepareAddShard(shard, server),
+            Change::PrepareDropShard => ControlCommand::PrepareDropShard(shard),
+            Change::AddShard => ControlCommand::AddShard(shard),
+            Change::DropShard => ControlCommand::DropShard(shard),
+            Change::Cancel => ControlCommand::Cancel(shard),
+            Change::Pause => ControlCommand::Pause(shard),
+            Change::Resume => ControlCommand::Resume(shard),
+            Change::Reassign(server) => ControlCommand::Reassign(shard, server),
         }
     }
 
-    /// The command of these parts, if there is one.
-    fn of(kind: u8, shard: u16, server: u16) -> Option<Command> {
-        Some(match kind {
-            1 => Command::Assign(shard, server),
-            2 => Command::PrepareAddShard(shard, server),
-            3 => Command::PrepareDropShard(shard),
-            4 => Command::AddShard(shard),
-            5 => Command::DropShard(shard),
-            6 => Command::Cancel(shard),
-            7 => Command::Pause(shard),
-            8 => Command::Resume(shard),
-            9 => Command::Reassign(shard, server),
-            10 => Command::Ask(server),
-            11 => Command::Approve(server),
-            12 => Command::Stopped(server),
-            13 => Command::Back(server),
-            14 => Command::Fail(server),
-            _ => return None,
-        })
+    /// Returns the command for this step of the server's restart.
+    pub fn of_server(server: u16, step: RestartStep) -> ControlCommand {
+        match step {
+            RestartStep::Ask => ControlCommand::Ask(server),
+            RestartStep::Approve => ControlCommand::Approve(server),
+            RestartStep::Stopped => ControlCommand::Stopped(server),
+            RestartStep::Back => ControlCommand::Back(server),
+            RestartStep::Fail => ControlCommand::Fail(server),
+        }
+    }
+
+    fn given(self) -> Given {
+        match self {
+            ControlCommand::Assign(shard, server) => Given::Shard(shard, Change::Assign(server)),
+            ControlCommand::PrepareAddShard(shard, server) => {
+                Given::Shard(shard, Change::PrepareAddShard(server))
+            }
+            ControlCommand::PrepareDropShard(shard) => {
+                Given::Shard(shard, Change::PrepareDropShard)
+            }
+            ControlCommand::AddShard(shard) => Given::Shard(shard, Change::AddShard),
+            ControlCommand::DropShard(shard) => Given::Shard(shard, Change::DropShard),
+            ControlCommand::Cancel(shard) => Given::Shard(shard, Change::Cancel),
+            ControlCommand::Pause(shard) => Given::Shard(shard, Change::Pause),
+            ControlCommand::Resume(shard) => Given::Shard(shard, Change::Resume),
+            ControlCommand::Reassign(shard, server) => {
+                Given::Shard(shard, Change::Reassign(server))
+            }
+            ControlCommand::Ask(server) => Given::Server(server, RestartStep::Ask),
+            ControlCommand::Approve(server) => Given::Server(server, RestartStep::Approve),
+            ControlCommand::Stopped(server) => Given::Server(server, RestartStep::Stopped),
+            ControlCommand::Back(server) => Given::Server(server, RestartStep::Back),
+            ControlCommand::Fail(server) => Given::Server(server, RestartStep::Fail),
+        }
+    }
+
+    /// Returns what it changes.
+    pub fn subject(self) -> Subject {
+        match self.given() {
+            Given::Shard(shard, _) => Subject::Shard(shard),
+            Given::Server(server, _) => Subject::Server(server),
+        }
+    }
+
+    /// Returns the server that it newly has a shard go to, if it names one.
+    pub fn taker(self) -> Option<u16> {
+        match self.given() {
+            Given::Shard(_, change) => change.server(),
+            Given::Server(..) => None,
+        }
+    }
+
+    /// Returns the word that scripts, operators and metrics have for it.
+    pub fn word(self) -> &'static str {
+        match self.given() {
+            Given::Shard(_, change) => change.word(),
+            Given::Server(_, step) => step.word(),
+        }
+    }
+
+    /// Returns its kind, its shard and its server, as the library has them: 0 for what it doesn't name.
+    pub(crate) fn parts(self) -> (u8, u16, u16) {
+        match self.given() {
+            Given::Shard(shard, change) => (change.number(), shard, change.server().unwrap_or(0)),
+            Given::Server(server, step) => (CHANGES + step.number(), 0, server),
+        }
+    }
+
+    /// Returns the command of these parts, if there is one.
+    fn of(kind: u8, shard: u16, server: u16) -> Option<ControlCommand> {
+        let change = Change::of_number(kind, server).map(|it| ControlCommand::of_shard(shard, it));
+        let step = || RestartStep::of_number(kind.checked_sub(CHANGES)?);
+        change.or_else(|| step().map(|it| ControlCommand::of_server(server, it)))
     }
 }
 
@@ -80,7 +150,7 @@ pub enum Next {
     /// Nothing is under way.
     Nothing,
     /// This command.
-    Command(Command),
+    Command(ControlCommand),
     /// It goes on once others have read further, or the command is allowed.
     Waits,
 }
@@ -89,9 +159,49 @@ impl Next {
     /// That of these parts, if there is one.
     pub(crate) fn of(kind: u8, shard: u16, server: u16) -> Option<Next> {
         match kind {
-            0 => Some(Next::Nothing),
-            15 => Some(Next::Waits),
-            kind => Command::of(kind, shard, server).map(Next::Command),
+            DirectorStep::NOTHING => Some(Next::Nothing),
+            DirectorStep::WAITS => Some(Next::Waits),
+            kind => ControlCommand::of(kind, shard, server).map(Next::Command),
         }
+    }
+}
+
+#[cfg(test)]
+mod tests {
+    use super::*;
+
+    #[test]
+    fn a_command_has_the_number_that_the_library_has_for_it() {
+        for (kind, command) in [
+            (DirectorStep::ASSIGN, ControlCommand::Assign(3, 2)),
+            (
+                DirectorStep::PREPARE_ADD_SHARD,
+                ControlCommand::PrepareAddShard(3, 2),
+            ),
+            (
+                DirectorStep::PREPARE_DROP_SHARD,
+                ControlCommand::PrepareDropShard(3),
+            ),
+            (DirectorStep::ADD_SHARD, ControlCommand::AddShard(3)),
+            (DirectorStep::DROP_SHARD, ControlCommand::DropShard(3)),
+            (DirectorStep::CANCEL, ControlCommand::Cancel(3)),
+            (DirectorStep::PAUSE, ControlCommand::Pause(3)),
+            (DirectorStep::RESUME, ControlCommand::Resume(3)),
+            (DirectorStep::REASSIGN, ControlCommand::Reassign(3, 2)),
+            (DirectorStep::ASK, ControlCommand::Ask(2)),
+            (DirectorStep::APPROVE, ControlCommand::Approve(2)),
+            (DirectorStep::STOPPED, ControlCommand::Stopped(2)),
+            (DirectorStep::BACK, ControlCommand::Back(2)),
+            (DirectorStep::FAIL, ControlCommand::Fail(2)),
+        ] {
+            let (number, shard, server) = command.parts();
+            assert_eq!(number, kind);
+            assert_eq!(Next::of(kind, shard, server), Some(Next::Command(command)));
+        }
+        assert_eq!(Next::of(DirectorStep::NOTHING, 0, 0), Some(Next::Nothing));
+        assert_eq!(
+            (Next::of(DirectorStep::WAITS, 0, 0), Next::of(16, 0, 0)),
+            (Some(Next::Waits), None)
+        );
     }
 }

@@ -1,4 +1,5 @@
 //! Why the proved control refuses a command.
+use durkenzo::{ChangeFault, RestartFault};
 use std::error::Error;
 use std::fmt;
 
@@ -23,11 +24,11 @@ pub enum CommandFault {
     Leaving,
     /// The server has no room.
     NoCapacity,
-    /// The server's domain has its share of the group.
+    /// The server's domain has as many shards of the group as its limit allows.
     DomainLimit,
     /// The server isn't up.
     NotUp,
-    /// The restart wasn't asked for.
+    /// No restart of the server is asked for.
     NotAsked,
     /// Too many servers would be leaving.
     GlobalCap,
@@ -37,7 +38,7 @@ pub enum CommandFault {
     GroupCap,
     /// Too many servers of a domain would be down.
     DomainCap,
-    /// The restart isn't approved.
+    /// The server's restart isn't approved.
     NotApproved,
     /// A shard that names the server isn't paused.
     StillServing,
@@ -93,14 +94,16 @@ impl fmt::Display for CommandFault {
             CommandFault::UnknownServer => "there is no such server",
             CommandFault::Leaving => "the server is leaving",
             CommandFault::NoCapacity => "the server has no room",
-            CommandFault::DomainLimit => "the server's domain has its share of the group",
+            CommandFault::DomainLimit => {
+                "the server's domain has as many shards of the group as its limit allows"
+            }
             CommandFault::NotUp => "the server isn't up",
-            CommandFault::NotAsked => "the restart wasn't asked for",
+            CommandFault::NotAsked => "no restart of the server is asked for",
             CommandFault::GlobalCap => "too many servers would be leaving",
             CommandFault::ShardCap => "a shard may not be down",
             CommandFault::GroupCap => "too many shards of a group would be down",
             CommandFault::DomainCap => "too many servers of a domain would be down",
-            CommandFault::NotApproved => "the restart isn't approved",
+            CommandFault::NotApproved => "the server's restart isn't approved",
             CommandFault::StillServing => "a shard that names the server isn't paused",
             CommandFault::AlreadyUp => "the server is up already",
             CommandFault::AlreadyFailed => "the server has failed already",
@@ -111,4 +114,60 @@ impl fmt::Display for CommandFault {
 }
 
 impl Error for CommandFault {}
+
+impl CommandFault {
+    /// Returns the fault of a change for the same reason, if that fault has no record.
+    pub fn as_change(self) -> Option<ChangeFault> {
+        Some(match self {
+            CommandFault::UnknownShard => ChangeFault::UnknownShard,
+            CommandFault::WrongPhase => ChangeFault::WrongPhase,
+            CommandFault::SameServer => ChangeFault::SameServer,
+            CommandFault::UnknownServer => ChangeFault::UnknownServer,
+            CommandFault::Leaving => ChangeFault::Leaving,
+            CommandFault::NoCapacity => ChangeFault::NoCapacity,
+            CommandFault::DomainLimit => ChangeFault::DomainLimit,
+            CommandFault::ChangeSpent
+            | CommandFault::Busy
+            | CommandFault::NotUp
+            | CommandFault::NotAsked
+            | CommandFault::GlobalCap
+            | CommandFault::ShardCap
+            | CommandFault::GroupCap
+            | CommandFault::DomainCap
+            | CommandFault::NotApproved
+            | CommandFault::StillServing
+            | CommandFault::AlreadyUp
+            | CommandFault::AlreadyFailed
+            | CommandFault::NotFollowed
+            | CommandFault::Other(_) => return None,
+        })
+    }
+
+    /// Returns the fault of a step of a restart for the same reason, if that fault has no record.
+    pub fn as_restart(self) -> Option<RestartFault> {
+        Some(match self {
+            CommandFault::UnknownServer => RestartFault::UnknownServer,
+            CommandFault::NotUp => RestartFault::NotUp,
+            CommandFault::NotAsked => RestartFault::NotAsked,
+            CommandFault::GlobalCap => RestartFault::GlobalCap,
+            CommandFault::ShardCap => RestartFault::ShardCap,
+            CommandFault::GroupCap => RestartFault::GroupCap,
+            CommandFault::DomainCap => RestartFault::DomainCap,
+            CommandFault::NotApproved => RestartFault::NotApproved,
+            CommandFault::StillServing => RestartFault::StillServing,
+            CommandFault::AlreadyUp => RestartFault::AlreadyUp,
+            CommandFault::AlreadyFailed => RestartFault::AlreadyFailed,
+            CommandFault::UnknownShard
+            | CommandFault::WrongPhase
+            | CommandFault::SameServer
+            | CommandFault::ChangeSpent
+            | CommandFault::Busy
+            | CommandFault::Leaving
+            | CommandFault::NoCapacity
+            | CommandFault::DomainLimit
+            | CommandFault::NotFollowed
+            | CommandFault::Other(_) => return None,
+        })
+    }
+}
 // End of them.

@@ -1,4 +1,4 @@
-use crate::Reply;
+use crate::MapReply;
 use durkenzo_store::Revision;
 
 pub(crate) use durkenzo_store_sys::{Base, Passing};
@@ -7,7 +7,7 @@ pub(crate) use durkenzo_store_sys::{Base, Passing};
 #[derive(Debug)]
 pub(crate) enum Decision {
     /// It is made, and this is its reply.
-    Replied(Reply),
+    Replied(MapReply),
     /// It waits for the next transaction.
     Waits,
     /// This server executes it, to which it was then forwarded so often.
@@ -28,7 +28,7 @@ pub(crate) enum Decision {
 
 /// What a server's transaction compares and writes.
 #[derive(Debug)]
-pub(crate) struct Sent {
+pub(crate) struct ServerTransaction {
     pub(crate) stood: Revision,
     pub(crate) logged: Revision,
     /// The number of the batch; 0 for none.
@@ -39,8 +39,8 @@ pub(crate) struct Sent {
 
 /// An answer to a request that was made, or to a read.
 #[derive(Debug)]
-pub(crate) struct Answer {
+pub(crate) struct ClientReply {
     pub(crate) client: u64,
     pub(crate) number: u64,
-    pub(crate) reply: Reply,
+    pub(crate) reply: MapReply,
 }

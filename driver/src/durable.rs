@@ -1,11 +1,11 @@
 use crate::base_parts::BaseParts;
-use crate::shard::{Deed, Shard, Ticket};
+use crate::clock::Clock;
+use crate::shard::{Action, Shard, Ticket};
 use crate::{
-    keys, process, reading, Came, Elsewhere, Member, NotDone, OpenFault, Own, Standing, Step,
+    keys, process, recovery, Came, Chores, CompactFault, Elsewhere, Member, NotDone, OpenFault,
+    Own, StoredRecord, WorkStep,
 };
-use durkenzo_store::{
-    CompactError, Outcome, Revision, Room, Seen, Store, Transaction, Watch, WriteError,
-};
+use durkenzo_store::{Outcome, Pair, Revision, Room, Seen, Store, Transaction, Watch, WriteError};
 use std::collections::BTreeSet;
 use std::fmt;
 use std::sync::atomic::{AtomicBool, AtomicU64, AtomicUsize, Ordering};
@@ -35,7 +35,7 @@ const STOP: Duration = Duration::from_secs(10);
 /// Whoever gives work isn't kept waiting, and no lock is held while the store is waited for: a shard that waits stops
 /// its own work alone.
 pub struct Durable {
-    inner: Arc<Inner>,
+    inner: Arc<DurableInner>,
     threads: Vec<JoinHandle<()>>,
     /// They end with this value.
     watches: Mutex<Vec<Watch>>,
@@ -74,27 +74,31 @@ impl Default for Tuning {
     }
 }
 
-/// A reading that was asked for.
-enum Wanted {
-    /// Of this shard, for a server.
+/// What a thread of the readers does, as it waits for the store.
+pub(crate) enum ReaderJob {
+    /// Recovers this shard for a server.
     Shard(u16, Ticket),
-    /// Of what may be behind the base of this shard, for this server.
+    /// Looks for what may be behind the base of this shard, for this server.
     Passing(u16, u16),
-    /// Of this shard's record.
+    /// Reads this shard's record.
     Record(u16),
-    /// Of the number of a process, for this shard.
+    /// Takes another number of a process, for this shard.
     Process(u16),
-    /// Of the number of a process, for all shards.
+    /// Takes another number of a process, for all shards.
     ProcessOfAll,
-    /// Of the room that there is for a base of this shard, which is then written.
+    /// Looks whether there is room for a base of this shard, and then writes the base.
     Room(u16, Ticket, Parts),
 }
 
 /// The parts of a base, each with its key.
 type Parts = Vec<(Vec<u8>, Vec<u8>)>;
 
-struct Inner {
+/// Tells a shard what was read for it, which may be later than it was read.
+pub(crate) type ReadBack = Box<dyn FnOnce() + Send>;
+
+pub(crate) struct DurableInner {
     store: Arc<dyn Store>,
+    clock: Clock,
     shards: Box<[Mutex<Shard>]>,
     /// Of which shards something may wait, or become due.
     stirred: Box<[AtomicBool]>,
@@ -108,7 +112,7 @@ struct Inner {
     tuning: Tuning,
     /// Servers that no request reaches.
     away: Mutex<BTreeSet<u16>>,
-    readings: Mutex<Option<Sender<Wanted>>>,
+    jobs: Mutex<Option<Sender<ReaderJob>>>,
     under_way: AtomicUsize,
     /// Whether the store keeps room back for bases: where it doesn't, none can be made once it is full.
     keeps_room: bool,
@@ -161,18 +165,55 @@ impl Durable {
         store: Arc<dyn Store>,
         shards: u16,
         tuning: Tuning,
-        (process, own): (u64, Option<Own>),
+        own: (u64, Option<Own>),
         on_change: Box<dyn Fn() + Send + Sync>,
     ) -> Result<Durable, OpenFault> {
-        let (readings, wanted) = mpsc::channel();
+        let clock = Clock::default();
+        let (mut durable, handed) = Durable::idle(store, shards, tuning, own, (clock, on_change))?;
+        durable.threads = threads(&durable.inner, handed)?;
+        Ok(durable)
+    }
+
+    /// Opens the shards of a process as [`Durable::open_one`] does, but starts no thread. The caller does what the
+    /// threads would do, by the [`Chores`], and `now` tells the time. Such a process can be simulated: it does nothing
+    /// by itself. [`Durable::change`] doesn't wait for transactions under way, and to drop it is a crash.
+    ///
+    /// # Errors
+    ///
+    /// Where the store can't be read.
+    pub fn open_without_threads(
+        store: Arc<dyn Store>,
+        shards: u16,
+        tuning: Tuning,
+        own: Own,
+        now: impl Fn() -> Instant + Send + Sync + 'static,
+    ) -> Result<(Durable, Chores), OpenFault> {
+        let own = (own.member.process(), Some(own));
+        let on_change = Box::new(|| {});
+        let by = (Clock::new(now), on_change as Box<_>);
+        let (durable, handed) = Durable::idle(store, shards, tuning, own, by)?;
+        let chores = Chores::new(durable.inner.clone(), handed);
+        Ok((durable, chores))
+    }
+
+    /// The shards, with no thread yet, and what these are to read.
+    fn idle(
+        store: Arc<dyn Store>,
+        shards: u16,
+        tuning: Tuning,
+        (process, own): (u64, Option<Own>),
+        (clock, on_change): (Clock, Box<dyn Fn() + Send + Sync>),
+    ) -> Result<(Durable, Receiver<ReaderJob>), OpenFault> {
+        let (jobs, handed) = mpsc::channel();
         let member = own.as_ref().map(|it| it.member.clone());
         let each = |it| {
             let shard = Shard::new(it, process, member.clone(), tuning);
             Mutex::new(shard)
         };
         let keeps_room = store.left().is_some();
-        let inner = Arc::new(Inner {
+        let inner = Arc::new(DurableInner {
             store,
+            clock,
             shards: (0..shards).map(each).collect(),
             stirred: (0..shards).map(|_| AtomicBool::new(true)).collect(),
             process,
@@ -180,7 +221,7 @@ impl Durable {
             is_numbering: AtomicBool::new(false),
             own,
             tuning,
-            readings: Mutex::new(Some(readings)),
+            jobs: Mutex::new(Some(jobs)),
             away: Mutex::default(),
             under_way: AtomicUsize::new(0),
             keeps_room,
@@ -190,13 +231,16 @@ impl Durable {
             ended: OnceLock::new(),
             on_change,
         });
-        let watches = watches(&inner)?;
-        let threads = threads(&inner, wanted)?;
-        Ok(Durable {
-            inner,
-            threads,
-            watches: Mutex::new(watches),
-        })
+        let watches = Mutex::new(watches(&inner)?);
+        let threads = Vec::new();
+        Ok((
+            Durable {
+                inner,
+                threads,
+                watches,
+            },
+            handed,
+        ))
     }
 
     /// How many processes had begun here with this one.
@@ -221,39 +265,40 @@ impl Durable {
     }
 
     /// Has the shard do these steps of one client, in their order. Of a shard that there isn't nothing is done.
-    pub fn submit(&self, shard: u16, steps: Vec<Step>) {
+    pub fn submit(&self, shard: u16, steps: Vec<WorkStep>) {
         let Some(steps) = self.taken(steps) else {
             return;
         };
-        self.inner
-            .with(shard, |it, deeds| it.take(steps, Instant::now(), deeds));
+        self.inner.with(shard, |it, actions| {
+            it.take(steps, self.inner.now(), actions)
+        });
     }
 
     /// Has the shard do what came from another process so, where it has waited since then, once the record was seen of
     /// its revision. Where this process's server isn't who executes it, it ends with [`NotDone::Moved`].
-    pub fn submit_from(&self, shard: u16, steps: Vec<Step>, came: Came, since: Instant) {
+    pub fn submit_from(&self, shard: u16, steps: Vec<WorkStep>, came: Came, since: Instant) {
         let Some(steps) = self.taken(steps) else {
             return;
         };
-        self.inner.with(shard, |it, deeds| {
-            it.take_from(steps, came, since, Instant::now(), deeds);
+        self.inner.with(shard, |it, actions| {
+            it.take_from(steps, came, since, self.inner.now(), actions);
         });
     }
 
     /// Takes back what was to go there, of which nothing was made there: as the server didn't get it, or has answered
     /// [`NotDone::Moved`] with this revision, up to which the record is seen first. It is judged again, within the time
     /// that work waits.
-    pub fn submit_again(&self, elsewhere: Elsewhere, steps: Vec<Step>, revision: Revision) {
+    pub fn submit_again(&self, elsewhere: Elsewhere, steps: Vec<WorkStep>, revision: Revision) {
         let Some(steps) = self.taken(steps) else {
             return;
         };
         self.inner.with(elsewhere.shard, |it, _| {
-            it.take_back(steps, &elsewhere, revision, Instant::now());
+            it.take_back(steps, &elsewhere, revision, self.inner.now());
         });
     }
 
     /// The steps that may be done; the others come to their end. None where the process or the store has ended.
-    fn taken(&self, steps: Vec<Step>) -> Option<Vec<Step>> {
+    fn taken(&self, steps: Vec<WorkStep>) -> Option<Vec<WorkStep>> {
         let is_over = self.inner.is_stopping.load(Ordering::Acquire);
         if is_over || self.inner.ended.get().is_some() {
             for step in steps {
@@ -272,9 +317,9 @@ impl Durable {
     }
 
     /// The shard's record, as it was seen last.
-    pub fn standing(&self, shard: u16) -> Option<Standing> {
+    pub fn standing(&self, shard: u16) -> Option<StoredRecord> {
         let shard = self.inner.shards.get(usize::from(shard))?;
-        Some(locked(shard).standing().clone())
+        Some(locked(shard).stored().clone())
     }
 
     /// Makes a transaction on the shard's record while none of its servers has one under way, so that none is lost by
@@ -290,12 +335,14 @@ impl Durable {
             let _ = tell.send(());
         };
         self.inner
-            .with(shard, |it, deeds| it.hold(Box::new(holder), deeds));
-        let _ = told.recv();
+            .with(shard, |it, actions| it.hold(Box::new(holder), actions));
+        if !self.threads.is_empty() {
+            let _ = told.recv();
+        }
         let outcome = self.inner.store.make(transaction);
         // The watch told of it before the outcome was; other stores tell it soon.
         self.inner
-            .with(shard, |it, deeds| it.release(Instant::now(), deeds));
+            .with(shard, |it, actions| it.release(self.inner.now(), actions));
         outcome
     }
 
@@ -316,28 +363,32 @@ impl Durable {
     ///
     /// # Errors
     ///
-    /// As the store says.
-    pub fn compact(&self) -> Result<(), CompactError> {
+    /// As the store says; `NoBase` if shards got none in the end, after what could be given back was.
+    pub fn compact(&self) -> Result<(), CompactFault> {
         self.inner.store.compact()?;
         let mut left: Vec<u16> = (0..self.shards()).collect();
         let end = Instant::now() + STOP;
         loop {
             let before = left.len();
             self.make_bases(&left, end);
-            left.retain(|it| locked(&self.inner.shards[usize::from(*it)]).failed_base());
+            left.retain(|it| locked(&self.inner.shards[usize::from(*it)]).lacks_base());
             if left.is_empty() || left.len() == before || Instant::now() >= end {
                 break;
             }
         }
-        self.inner.store.compact()
+        self.inner.store.compact()?;
+        match left.len() {
+            0 => Ok(()),
+            left => Err(CompactFault::NoBase(left)),
+        }
     }
 
     /// Has these shards get a base, and waits for it until that time.
     fn make_bases(&self, shards: &[u16], end: Instant) {
         for shard in shards {
             let is_full = self.inner.is_full.load(Ordering::Acquire);
-            self.inner.with(*shard, |it, deeds| {
-                it.want_base(is_full, Instant::now(), deeds);
+            self.inner.with(*shard, |it, actions| {
+                it.want_base(is_full, self.inner.now(), actions);
             });
         }
         let makes_base = |it: &u16| locked(&self.inner.shards[usize::from(*it)]).makes_base();
@@ -352,7 +403,8 @@ impl Durable {
         shards.map(|it| locked(it).read_by_lease()).sum()
     }
 
-    /// Of how many clients the last request is kept, by the shard that keeps most, as far as this process has read them.
+    /// Of how many clients the last request is kept, by the shard that keeps most, as far as this process has read
+    /// them.
     pub fn clients_kept(&self) -> usize {
         let shards = self.inner.shards.iter();
         shards.map(|it| locked(it).clients()).max().unwrap_or(0)
@@ -371,7 +423,10 @@ impl Durable {
 
 impl Drop for Durable {
     fn drop(&mut self) {
-        self.inner.stop();
+        // Without threads nobody would answer what is under way.
+        if !self.threads.is_empty() {
+            self.inner.stop();
+        }
         self.watches
             .lock()
             .unwrap_or_else(PoisonError::into_inner)
@@ -392,54 +447,61 @@ impl fmt::Debug for Durable {
     }
 }
 
-impl Inner {
+impl DurableInner {
+    /// This moment, by the clock of the process.
+    fn now(&self) -> Instant {
+        self.clock.now()
+    }
+
     /// Does something with the shard, and then what comes of it, with no lock.
-    fn with(self: &Arc<Inner>, shard: u16, work: impl FnOnce(&mut Shard, &mut Vec<Deed>)) {
+    fn with(self: &Arc<DurableInner>, shard: u16, work: impl FnOnce(&mut Shard, &mut Vec<Action>)) {
         let Some(place) = self.shards.get(usize::from(shard)) else {
             return;
         };
-        let (mut deeds, mut held) = (Vec::new(), locked(place));
-        work(&mut held, &mut deeds);
+        let (mut actions, mut held) = (Vec::new(), locked(place));
+        work(&mut held, &mut actions);
         self.stirred[usize::from(shard)].store(true, Ordering::Release);
         drop(held);
         // What the store is to make is on its way before those are told who waited for what it has made.
-        deeds.sort_by_key(|it| !matches!(it, Deed::Submit(..)));
-        deeds.into_iter().for_each(|it| self.perform(shard, it));
+        actions.sort_by_key(|it| !matches!(it, Action::Submit(..)));
+        actions.into_iter().for_each(|it| self.perform(shard, it));
     }
 
-    fn perform(self: &Arc<Inner>, shard: u16, deed: Deed) {
-        match deed {
-            Deed::Submit(ticket, transaction) => self.send(shard, ticket, transaction),
-            Deed::Read(ticket) => self.want(Wanted::Shard(shard, ticket)),
-            Deed::Sweep(server) => self.want(Wanted::Passing(shard, server)),
-            Deed::WriteBase(ticket, parts) => self.want(Wanted::Room(shard, ticket, parts)),
-            Deed::Delete(keys) => self.delete(&keys),
-            Deed::Tell(work, outcome) => work.end(outcome),
-            Deed::HandOver(elsewhere, steps) => match &self.own {
+    fn perform(self: &Arc<DurableInner>, shard: u16, action: Action) {
+        match action {
+            Action::Submit(ticket, transaction) => self.send(shard, ticket, transaction),
+            Action::Read(ticket) => self.hand_to_reader(ReaderJob::Shard(shard, ticket)),
+            Action::Sweep(server) => self.hand_to_reader(ReaderJob::Passing(shard, server)),
+            Action::WriteBase(ticket, parts) => {
+                self.hand_to_reader(ReaderJob::Room(shard, ticket, parts))
+            }
+            Action::Delete(keys) => self.delete(&keys),
+            Action::Tell(work, outcome) => work.end(outcome),
+            Action::HandOver(elsewhere, steps) => match &self.own {
                 Some(own) => (own.elsewhere)(elsewhere, steps),
                 None => steps
                     .into_iter()
                     .for_each(|it| it.work.end(Err(NotDone::Busy))),
             },
-            Deed::Look => self.want(Wanted::Record(shard)),
-            Deed::Renew => self.want(Wanted::Process(shard)),
-            Deed::Hold(holder) => holder(),
-            Deed::StoreEnded(why) => {
+            Action::Look => self.hand_to_reader(ReaderJob::Record(shard)),
+            Action::Renew => self.hand_to_reader(ReaderJob::Process(shard)),
+            Action::Hold(holder) => holder(),
+            Action::StoreEnded(why) => {
                 let _ = self.ended.set(why);
                 (self.on_change)();
             }
         }
     }
 
-    fn want(&self, wanted: Wanted) {
-        let readings = self.readings.lock().unwrap_or_else(PoisonError::into_inner);
+    fn hand_to_reader(&self, job: ReaderJob) {
+        let jobs = self.jobs.lock().unwrap_or_else(PoisonError::into_inner);
         // Where there is none the process ends.
-        let _ = readings.as_ref().map(|it| it.send(wanted));
+        let _ = jobs.as_ref().map(|it| it.send(job));
     }
 
     /// Writes the parts of a base, some at once and each by itself, and tells whether all were. If the store hasn't
     /// room for all of them, none is written: no part could be deleted before a later base is named.
-    fn write_base(self: &Arc<Inner>, shard: u16, ticket: Ticket, parts: Parts) {
+    fn write_base(self: &Arc<DurableInner>, shard: u16, ticket: Ticket, parts: Parts) {
         let bytes = parts.iter().map(|it| it.1.len() as u64).sum::<u64>();
         let others = self.basing.fetch_add(bytes, Ordering::AcqRel);
         let needed = (others + bytes) * BASE_ROOM.0 / BASE_ROOM.1 + BASE_SLACK;
@@ -452,16 +514,22 @@ impl Inner {
     }
 
     /// Says that the base of so many bytes is written, or isn't.
-    fn end_base(self: &Arc<Inner>, shard: u16, ticket: Ticket, bytes: u64, is_written: bool) {
+    fn end_base(
+        self: &Arc<DurableInner>,
+        shard: u16,
+        ticket: Ticket,
+        bytes: u64,
+        is_written: bool,
+    ) {
         self.basing.fetch_sub(bytes, Ordering::AcqRel);
-        self.with(shard, |it, deeds| {
-            it.on_base(ticket, is_written, Instant::now(), deeds);
+        self.with(shard, |it, actions| {
+            it.on_base(ticket, is_written, self.now(), actions);
         });
     }
 
     /// Writes the next part of a base of so many bytes, if there is one, and then those that follow.
     fn write_part(
-        self: &Arc<Inner>,
+        self: &Arc<DurableInner>,
         shard: u16,
         (ticket, size): (Ticket, u64),
         parts: &Arc<Mutex<BaseParts>>,
@@ -493,7 +561,7 @@ impl Inner {
         }
     }
 
-    fn send(self: &Arc<Inner>, shard: u16, ticket: Ticket, transaction: Transaction) {
+    fn send(self: &Arc<DurableInner>, shard: u16, ticket: Ticket, transaction: Transaction) {
         self.under_way.fetch_add(1, Ordering::AcqRel);
         let inner = Arc::downgrade(self);
         let grows = transaction.writes() && transaction.room() == Room::Free;
@@ -502,8 +570,8 @@ impl Inner {
                 if grows {
                     inner.note_room(&outcome);
                 }
-                inner.with(shard, |it, deeds| {
-                    it.on_outcome(ticket, outcome, Instant::now(), deeds)
+                inner.with(shard, |it, actions| {
+                    it.on_outcome(ticket, outcome, inner.now(), actions)
                 });
                 inner.under_way.fetch_sub(1, Ordering::AcqRel);
             }
@@ -540,7 +608,7 @@ impl Inner {
         self.away.lock().unwrap_or_else(PoisonError::into_inner)
     }
 
-    fn set_away(self: &Arc<Inner>, server: u16, is_away: bool) {
+    fn set_away(self: &Arc<DurableInner>, server: u16, is_away: bool) {
         let is_new = match is_away {
             true => self.away().insert(server),
             false => self.away().remove(&server),
@@ -549,21 +617,21 @@ impl Inner {
             return;
         }
         for shard in 0..self.shards.len() as u16 {
-            self.with(shard, |it, deeds| {
-                it.set_away(server, is_away, Instant::now(), deeds);
+            self.with(shard, |it, actions| {
+                it.set_away(server, is_away, self.now(), actions);
             });
         }
     }
 
     /// Sees what the watch tells of records.
-    fn see(self: &Arc<Inner>, seen: Seen) {
-        let (moment, records) = told(seen);
+    fn see(self: &Arc<DurableInner>, seen: Seen) {
+        let (moment, records) = written(seen);
         let (is_change, mut is_awaited) = (!records.is_empty(), false);
-        for (key, value, revision) in records {
-            if let Some(shard) = keys::shard_of_record(&key) {
-                let standing = Standing::new(value, revision);
-                is_awaited |= standing.is_awaited();
-                self.with(shard, |it, deeds| it.see(standing, Instant::now(), deeds));
+        for it in records {
+            if let Some(shard) = keys::shard_of_record(&it.key) {
+                let stored = StoredRecord::new(it.value, it.revision);
+                is_awaited |= stored.is_awaited();
+                self.with(shard, |it, actions| it.see(stored, self.now(), actions));
             }
         }
         if let Some(own) = self.own.as_ref().filter(|_| is_change) {
@@ -573,39 +641,28 @@ impl Inner {
     }
 
     /// Sees what the watch tells of states.
-    fn see_states(self: &Arc<Inner>, seen: Seen) {
-        for (key, value, _) in told(seen).1 {
-            if let Some(server) = keys::server_of_state(&key) {
-                self.set_away(server, !keys::is_reached(&value));
+    fn see_states(self: &Arc<DurableInner>, seen: Seen) {
+        for it in written(seen).1 {
+            if let Some(server) = keys::server_of_state(&it.key) {
+                self.set_away(server, !keys::is_reached(&it.value));
             }
         }
         (self.on_change)();
     }
 
-    /// Reads the shard's record, as somebody has seen a later one.
-    fn read_record(self: &Arc<Inner>, shard: u16) {
+    /// Reads the shard's record, as somebody has seen a later one. If that can't be read it is tried again.
+    fn read_record(&self, shard: u16) -> Option<StoredRecord> {
         let key = keys::record(shard);
-        let found = self.store.read(&[&key]).ok();
-        let pair = found.and_then(|it| it.pairs.into_iter().next());
-        // Where it can't be read it is tried again.
-        if let Some(pair) = pair {
-            let standing = Standing::new(pair.value, pair.revision);
-            self.with(shard, |it, deeds| it.see(standing, Instant::now(), deeds));
-        }
+        let found = self.store.read(&[&key]).ok()?;
+        let pair = found.pairs.into_iter().next()?;
+        Some(StoredRecord::new(pair.value, pair.revision))
     }
 
-    /// Has the shard's requests have another number of a process.
-    fn renew(self: &Arc<Inner>, shard: u16) {
-        // Where there is none it is tried again.
-        let process = process::begin(&*self.store).unwrap_or(0);
-        self.with(shard, |it, deeds| it.renew(process, Instant::now(), deeds));
-    }
-
-    /// Has later requests of all shards have another number of a process. Where there is none it is tried again.
-    fn renew_all(self: &Arc<Inner>) {
-        if let Ok(process) = process::begin(&*self.store) {
+    /// Has later requests of all shards have this number of a process. If there is none it is tried again.
+    fn renew_all(self: &Arc<DurableInner>, process: Option<u64>) {
+        if let Some(process) = process {
             for shard in 0..self.shards.len() as u16 {
-                self.with(shard, |it, deeds| it.renew(process, Instant::now(), deeds));
+                self.with(shard, |it, actions| it.renew(process, self.now(), actions));
             }
             self.number.fetch_max(process, Ordering::AcqRel);
         }
@@ -614,14 +671,14 @@ impl Inner {
 
     /// Takes another number of a process where many others have begun since, and tells them once no shard has requests
     /// by an earlier one: what those left is forgotten then.
-    fn keep_number(&self) {
+    pub(crate) fn keep_number(&self) {
         let Some(own) = &self.own else {
             return;
         };
         let number = self.number.load(Ordering::Acquire);
         if own.member.is_old(number) {
             if !self.is_numbering.swap(true, Ordering::AcqRel) {
-                self.want(Wanted::ProcessOfAll);
+                self.hand_to_reader(ReaderJob::ProcessOfAll);
             }
         } else if own.member.own_lowest() < number {
             let firsts = self.shards.iter().map(|it| locked(it).first_process());
@@ -631,37 +688,67 @@ impl Inner {
         }
     }
 
-    /// Reads what is wanted until the process ends.
-    fn read_all(self: Arc<Inner>, wanted: &Mutex<Receiver<Wanted>>) {
+    /// Does what readers are handed, until the process ends.
+    fn run_jobs(self: Arc<DurableInner>, jobs: &Mutex<Receiver<ReaderJob>>) {
         loop {
-            let next = wanted.lock().unwrap_or_else(PoisonError::into_inner).recv();
+            let next = jobs.lock().unwrap_or_else(PoisonError::into_inner).recv();
             match next {
-                Ok(Wanted::Shard(shard, ticket)) => {
-                    let count = self.shards.len() as u16;
-                    let read = reading::read(&*self.store, ticket.server, shard, count);
-                    self.with(shard, |it, deeds| {
-                        it.on_read(ticket, read, Instant::now(), deeds);
-                    });
-                }
-                Ok(Wanted::Record(shard)) => self.read_record(shard),
-                Ok(Wanted::Process(shard)) => self.renew(shard),
-                Ok(Wanted::ProcessOfAll) => self.renew_all(),
-                Ok(Wanted::Room(shard, ticket, parts)) => self.write_base(shard, ticket, parts),
-                // Where it can't be read, the next base sweeps.
-                Ok(Wanted::Passing(shard, server)) => {
-                    if let Ok(found) = reading::passing(&*self.store, shard) {
-                        self.with(shard, |it, deeds| it.on_swept(server, &found, deeds));
-                    } else {
-                        self.with(shard, |it, deeds| it.on_swept(server, &[], deeds));
-                    }
-                }
+                Ok(next) => self.read(next)(),
                 Err(_) => return,
             }
         }
     }
 
+    /// Reads the store for this job, and returns what tells of it.
+    pub(crate) fn read(self: &Arc<DurableInner>, job: ReaderJob) -> ReadBack {
+        let inner = self.clone();
+        match job {
+            ReaderJob::Shard(shard, ticket) => {
+                let count = self.shards.len() as u16;
+                let read = recovery::recover(&*self.store, ticket.server, shard, count);
+                inner.told(shard, move |it, now, actions| {
+                    it.on_read(ticket, read, now, actions);
+                })
+            }
+            ReaderJob::Record(shard) => match self.read_record(shard) {
+                Some(stored) => inner.told(shard, |it, now, actions| it.see(stored, now, actions)),
+                None => Box::new(|| {}),
+            },
+            ReaderJob::Process(shard) => {
+                // If there is none it is tried again.
+                let process = process::begin(&*self.store).unwrap_or(0);
+                inner.told(shard, move |it, now, actions| {
+                    it.renew(process, now, actions)
+                })
+            }
+            ReaderJob::ProcessOfAll => {
+                let process = process::begin(&*self.store).ok();
+                Box::new(move || inner.renew_all(process))
+            }
+            ReaderJob::Room(shard, ticket, parts) => {
+                Box::new(move || inner.write_base(shard, ticket, parts))
+            }
+            ReaderJob::Passing(shard, server) => {
+                // If it can't be read, the next base sweeps.
+                let found = recovery::passing(&*self.store, shard).unwrap_or_default();
+                inner.told(shard, move |it, _, actions| {
+                    it.on_swept(server, &found, actions)
+                })
+            }
+        }
+    }
+
+    /// Returns what does this with the shard.
+    fn told(
+        self: Arc<DurableInner>,
+        shard: u16,
+        work: impl FnOnce(&mut Shard, Instant, &mut Vec<Action>) + Send + 'static,
+    ) -> ReadBack {
+        Box::new(move || self.with(shard, |it, actions| work(it, self.now(), actions)))
+    }
+
     /// Refuses what has waited in vain, until the process ends.
-    fn tick_all(self: Arc<Inner>) {
+    fn tick_all(self: Arc<DurableInner>) {
         let mut numbered = Instant::now();
         while !self.is_stopping.load(Ordering::Acquire) {
             thread::sleep(TICK);
@@ -670,28 +757,34 @@ impl Inner {
                 self.keep_number();
                 numbered = now;
             }
-            (0..self.shards.len() as u16).for_each(|it| self.tick(it, now));
+            self.tick_shards();
         }
+    }
+
+    /// Has each shard drop what nobody waits for, and refuse what has waited in vain.
+    pub(crate) fn tick_shards(self: &Arc<DurableInner>) {
+        let now = self.now();
+        (0..self.shards.len() as u16).for_each(|it| self.tick(it, now));
     }
 
     /// Has the shard drop what nobody waits for, and refuse what has waited in vain. One of which nothing waits is left
     /// alone until something is done with it again.
-    fn tick(self: &Arc<Inner>, shard: u16, now: Instant) {
+    fn tick(self: &Arc<DurableInner>, shard: u16, now: Instant) {
         let place = usize::from(shard);
         if !self.stirred[place].load(Ordering::Acquire) {
             return;
         }
         let is_full = self.is_full.load(Ordering::Acquire);
-        self.with(shard, |it, deeds| {
-            it.drop_unwanted(deeds);
-            it.tick(now, self.tuning.wait, deeds);
-            it.begin_base(is_full, now, deeds);
+        self.with(shard, |it, actions| {
+            it.drop_unwanted(actions);
+            it.tick(now, self.tuning.wait, actions);
+            it.begin_base(is_full, now, actions);
         });
         let held = locked(&self.shards[place]);
         self.stirred[place].store(held.has_waiting(is_full), Ordering::Release);
     }
 
-    fn stop(self: &Arc<Inner>) {
+    fn stop(self: &Arc<DurableInner>) {
         if self.is_stopping.swap(true, Ordering::AcqRel) {
             return;
         }
@@ -699,9 +792,9 @@ impl Inner {
         while self.under_way.load(Ordering::Acquire) > 0 && Instant::now() < end {
             thread::sleep(Duration::from_millis(1));
         }
-        *self.readings.lock().unwrap_or_else(PoisonError::into_inner) = None;
+        *self.jobs.lock().unwrap_or_else(PoisonError::into_inner) = None;
         for shard in 0..self.shards.len() as u16 {
-            self.with(shard, |it, deeds| it.give_up(&NotDone::Stopped, deeds));
+            self.with(shard, |it, actions| it.give_up(&NotDone::Stopped, actions));
         }
     }
 }
@@ -716,12 +809,15 @@ fn spawn(name: &str, work: impl FnOnce() + Send + 'static) -> Result<JoinHandle<
 }
 
 /// The threads that read shards, and the one that looks for what has waited in vain.
-fn threads(inner: &Arc<Inner>, wanted: Receiver<Wanted>) -> Result<Vec<JoinHandle<()>>, OpenFault> {
-    let wanted = Arc::new(Mutex::new(wanted));
+fn threads(
+    inner: &Arc<DurableInner>,
+    jobs: Receiver<ReaderJob>,
+) -> Result<Vec<JoinHandle<()>>, OpenFault> {
+    let jobs = Arc::new(Mutex::new(jobs));
     let mut threads = Vec::new();
     for number in 0..READERS {
-        let (inner, wanted) = (inner.clone(), wanted.clone());
-        let reads = move || inner.read_all(&wanted);
+        let (inner, jobs) = (inner.clone(), jobs.clone());
+        let reads = move || inner.run_jobs(&jobs);
         threads.push(spawn(&format!("reader-{number}"), reads)?);
     }
     let ticking = inner.clone();
@@ -730,8 +826,8 @@ fn threads(inner: &Arc<Inner>, wanted: Receiver<Wanted>) -> Result<Vec<JoinHandl
 }
 
 /// Watches all records, and where other processes have servers the states of those; nothing is missed from then on.
-fn watches(inner: &Arc<Inner>) -> Result<Vec<Watch>, OpenFault> {
-    let seeing: Weak<Inner> = Arc::downgrade(inner);
+fn watches(inner: &Arc<DurableInner>) -> Result<Vec<Watch>, OpenFault> {
+    let seeing: Weak<DurableInner> = Arc::downgrade(inner);
     let watcher = move |seen| {
         if let Some(inner) = seeing.upgrade() {
             inner.see(seen);
@@ -739,7 +835,7 @@ fn watches(inner: &Arc<Inner>) -> Result<Vec<Watch>, OpenFault> {
     };
     let mut watches = vec![inner.store.watch(keys::RECORDS, Box::new(watcher))?];
     if inner.own.is_some() {
-        let seeing: Weak<Inner> = Arc::downgrade(inner);
+        let seeing: Weak<DurableInner> = Arc::downgrade(inner);
         let watcher = move |seen| {
             if let Some(inner) = seeing.upgrade() {
                 inner.see_states(seen);
@@ -750,20 +846,18 @@ fn watches(inner: &Arc<Inner>) -> Result<Vec<Watch>, OpenFault> {
     Ok(watches)
 }
 
-/// A key, what lies there, and its revision.
-type Written = (Vec<u8>, Vec<u8>, Revision);
-
-/// The moment of what a watch tells, and what was written.
-fn told(seen: Seen) -> (Revision, Vec<Written>) {
+/// Returns the moment of what a watch tells, and what was written.
+fn written(seen: Seen) -> (Revision, Vec<Pair>) {
     match seen {
-        Seen::All(reading) => {
-            let pairs = reading.pairs.into_iter();
-            let written = pairs.map(|it| (it.key, it.value, it.revision));
-            (reading.revision, written.collect())
-        }
+        Seen::All(reading) => (reading.revision, reading.pairs),
         Seen::Changes(moment, changes) => {
-            let written = changes.into_iter();
-            let written = written.filter_map(|it| Some((it.key, it.value?, it.revision)));
+            let written = changes.into_iter().filter_map(|it| {
+                Some(Pair {
+                    key: it.key,
+                    value: it.value?,
+                    revision: it.revision,
+                })
+            });
             (moment, written.collect())
         }
     }

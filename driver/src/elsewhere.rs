@@ -1,4 +1,4 @@
-use crate::{Member, Step};
+use crate::{Member, WorkStep};
 use durkenzo_store::Revision;
 use std::fmt;
 use std::sync::Arc;
@@ -15,7 +15,7 @@ pub struct Own {
 /// Gets the steps of a client, in their order, for another server. It must not wait: it sends them there in one
 /// message, and whoever has them tells each what was answered, by [`crate::Work::answered`], or gives them back by
 /// [`crate::Durable::submit_again`].
-pub type HandOver = Box<dyn Fn(Elsewhere, Vec<Step>) + Send + Sync>;
+pub type HandOver = Box<dyn Fn(Elsewhere, Vec<WorkStep>) + Send + Sync>;
 
 /// Where steps go on: of none of them anything was made.
 #[derive(Clone, Debug, PartialEq, Eq)]

@@ -18,6 +18,8 @@
 //!
 //! Numbers have as many digits as they may need, so that keys are in their order.
 
+use crate::ServerState;
+
 /// The settings.
 pub const SETTINGS: &[u8] = b"settings";
 /// How many processes have begun here.
@@ -128,10 +130,12 @@ pub(crate) fn process_of(bytes: &[u8]) -> Option<u64> {
     (*version == 1).then(|| number.try_into().ok().map(u64::from_be_bytes))?
 }
 
-/// Whether requests reach a server of which these bytes are the state: it is neither stopped nor failed.
+/// Whether requests reach a server of which these bytes are the state: it is neither stopped nor failed. None reach one
+/// whose state has a number that this version doesn't know.
 pub(crate) fn is_reached(state: &[u8]) -> bool {
     let number = state.get(1..9).and_then(|it| it.try_into().ok());
-    number.is_none_or(|it| u64::from_be_bytes(it) < 3)
+    let number = number.map(u64::from_be_bytes);
+    number.is_none_or(|it| ServerState::of_number(it).is_some_and(ServerState::is_reached))
 }
 
 /// The head of the shard's log.
@@ -165,4 +169,19 @@ pub(crate) fn part(shard: u16, number: u64, place: u64) -> Vec<u8> {
 pub(crate) fn base_and_place(key: &[u8]) -> Option<(u64, u64)> {
     let mut words = std::str::from_utf8(key).ok()?.split('/').skip(2);
     Some((words.next()?.parse().ok()?, words.next()?.parse().ok()?))
+}
+
+#[cfg(test)]
+mod tests {
+    use super::*;
+
+    #[test]
+    fn requests_reach_no_server_whose_state_is_unknown() {
+        let is_reached_at = |number: u64| is_reached(&[&[1][..], &number.to_be_bytes()].concat());
+        assert_eq!(
+            [0, 1, 2, 3, 4, 5].map(is_reached_at),
+            [true, true, true, false, false, false]
+        );
+        assert!(is_reached(&VACANT) && is_reached(b""));
+    }
 }

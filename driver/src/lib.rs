@@ -1,54 +1,68 @@
 //! What the proved servers of a shared store need around them. They decide who executes which request, what is sent
 //! and what is told; this reads the store for them, sends their transactions, and says what became of these.
 //!
-//! Whoever has something to ask gives [`Step`]s to a shard by [`Durable::submit`]. All that waits there goes into one
-//! transaction together, and is told once that is made.
+//! Whoever has something to ask gives [`WorkStep`]s to a shard by [`Durable::submit`]. All that waits there goes into
+//! one transaction together, and is told once that is made.
 #![warn(missing_docs)]
 #![forbid(unsafe_code)]
 
 mod addresses;
 mod base_parts;
+mod chores;
+mod clock;
 mod command;
 mod command_fault;
+mod compact_fault;
 mod control;
 mod core_fault;
 mod decision;
 mod durable;
 mod elsewhere;
+mod intent;
 mod join_fault;
-mod key_index;
+mod key_list;
 pub mod keys;
 mod lease_clock;
-mod listing;
 mod lowest;
 mod member;
 mod members;
 mod open_fault;
+mod plan;
+mod planner;
 mod process;
 mod proved;
-mod reading;
+mod recovery;
+pub mod refusals;
 mod refused;
 mod request;
 mod round;
+mod round_step;
+mod run;
+mod server_state;
+// Shards are told the time, so that they can be simulated: clippy.toml names what they don't call.
+#[deny(clippy::disallowed_methods)]
 mod shard;
 mod size;
-mod standing;
-mod wish;
+mod stored_record;
 mod work;
 
 pub use addresses::Addresses;
-pub use command::{Command, Next};
+pub use chores::Chores;
+pub use command::{ControlCommand, Next, Subject};
 pub use command_fault::CommandFault;
-pub use control::Control;
+pub use compact_fault::CompactFault;
+pub use control::DurableControl;
 pub(crate) use core_fault::CoreFault;
 pub use durable::{Durable, Reads, Tuning};
 pub use elsewhere::{Came, Elsewhere, HandOver, Own};
+pub use intent::Intent;
 pub use join_fault::JoinFault;
 pub use member::Member;
 pub use members::{Live, Members};
 pub use open_fault::OpenFault;
+pub use planner::Planner;
 pub use refused::Refused;
-pub use request::{Key, Range, Reply, Request};
-pub use standing::Standing;
-pub use wish::Wish;
-pub use work::{Begin, NotDone, Numbered, Outcome, Step, Work};
+pub use request::{Key, MapReply, MapRequest, Range};
+pub use server_state::ServerState;
+pub use stored_record::StoredRecord;
+pub use work::{Begin, NotDone, Numbered, Work, WorkOutcome, WorkStep};

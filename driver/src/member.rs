@@ -30,20 +30,20 @@ const BEGUN: u64 = 8;
 ///
 /// Where the lease has ended, as the process was stopped or didn't reach the store for so long, it takes another one.
 pub struct Member {
-    inner: Arc<Inner>,
+    inner: Arc<MemberInner>,
     watches: Mutex<Vec<Watch>>,
     /// Whether no request reached the server when the process began.
     was_away: bool,
 }
 
-struct Inner {
+struct MemberInner {
     store: Arc<dyn Store>,
     server: u16,
     process: u64,
     addresses: Addresses,
     length: Duration,
     clock: LeaseClock,
-    state: Mutex<State>,
+    state: Mutex<OwnKey>,
     /// There is something to write, or the end has come.
     wakes: Condvar,
     seen: Mutex<SeenKeys>,
@@ -53,7 +53,7 @@ struct Inner {
 }
 
 /// What is known of the server's own key.
-struct State {
+struct OwnKey {
     lease: Option<LeaseId>,
     /// When it was granted or kept last: it goes on for its length from some time after that.
     kept: Moment,
@@ -66,10 +66,10 @@ struct State {
     is_over: bool,
 }
 
-impl State {
+impl OwnKey {
     /// Nothing is written yet, and there is no lease.
-    fn new(now: Moment) -> State {
-        State {
+    fn new(now: Moment) -> OwnKey {
+        OwnKey {
             lease: None,
             kept: now,
             written: Revision::NEVER,
@@ -126,14 +126,49 @@ impl Member {
         lease: Duration,
         on_change: Box<dyn Fn() + Send + Sync>,
     ) -> Result<Member, JoinFault> {
+        let member = Member::begun(clock, store, server, addresses, lease, on_change)?;
+        let keeping = member.inner.clone();
+        thread::Builder::new()
+            .name("member".to_owned())
+            .spawn(move || keeping.keep())
+            .map_err(OpenFault::Thread)?;
+        Ok(member)
+    }
+
+    /// Joins as [`Member::join`] does, but starts no thread. The caller keeps the lease by [`Member::keep_lease`], and
+    /// `passed` is the clock of the lease: the time since some beginning. Such a server can be simulated.
+    ///
+    /// # Errors
+    ///
+    /// As of [`Member::join`].
+    pub fn join_without_thread(
+        store: Arc<dyn Store>,
+        server: u16,
+        addresses: Addresses,
+        lease: Duration,
+        passed: impl Fn() -> Duration + Send + Sync + 'static,
+    ) -> Result<Member, JoinFault> {
+        let (clock, on_change) = (LeaseClock::by(passed), Box::new(|| {}));
+        Member::begun(clock, store, server, addresses, lease, on_change)
+    }
+
+    /// A server that is there, whose lease nobody keeps yet.
+    fn begun(
+        clock: LeaseClock,
+        store: Arc<dyn Store>,
+        server: u16,
+        addresses: Addresses,
+        lease: Duration,
+        on_change: Box<dyn Fn() + Send + Sync>,
+    ) -> Result<Member, JoinFault> {
         let process = process::begin(&*store)?;
-        let inner = Arc::new(Inner {
+        let inner = Arc::new(MemberInner {
             store,
             server,
             process,
             addresses,
             length: lease.max(Duration::from_secs(1)),
-            state: Mutex::new(State::new(clock.now())),
+            state: Mutex::new(OwnKey::new(clock.now())),
             clock,
             wakes: Condvar::new(),
             seen: Mutex::default(),
@@ -145,16 +180,25 @@ impl Member {
         let prefixes = [keys::SERVERS, keys::LEADER, keys::LOWESTS];
         let watches = prefixes.map(|it| inner.watch(it));
         let watches = watches.into_iter().collect::<Result<_, _>>()?;
-        let keeping = inner.clone();
-        thread::Builder::new()
-            .name("member".to_owned())
-            .spawn(move || keeping.keep())
-            .map_err(OpenFault::Thread)?;
         Ok(Member {
             inner,
             watches: Mutex::new(watches),
             was_away,
         })
+    }
+
+    /// Keeps the lease, or takes another one if it has ended. The thread of a server does so three times in the lease's
+    /// length.
+    pub fn keep_lease(&self) {
+        let lease = self.inner.state().lease;
+        self.inner.renewed(lease);
+    }
+
+    /// Writes the server's key, if it has more to tell than lies there.
+    pub fn tell_followed(&self) {
+        let lease = self.inner.state().lease;
+        // What can't be written now is told next time.
+        let _ = lease.map(|it| self.inner.tell(it));
     }
 
     /// Whether no request reached the server when this process began, as it was stopped or had failed.
@@ -271,8 +315,8 @@ impl Member {
     }
 }
 
-impl Inner {
-    fn state(&self) -> MutexGuard<'_, State> {
+impl MemberInner {
+    fn state(&self) -> MutexGuard<'_, OwnKey> {
         self.state.lock().unwrap_or_else(PoisonError::into_inner)
     }
 
@@ -478,8 +522,8 @@ impl Inner {
         false
     }
 
-    fn watch(self: &Arc<Inner>, prefix: &'static [u8]) -> Result<Watch, JoinFault> {
-        let seeing: Weak<Inner> = Arc::downgrade(self);
+    fn watch(self: &Arc<MemberInner>, prefix: &'static [u8]) -> Result<Watch, JoinFault> {
+        let seeing: Weak<MemberInner> = Arc::downgrade(self);
         let watcher = move |seen| {
             if let Some(inner) = seeing.upgrade() {
                 inner.see(prefix, seen);

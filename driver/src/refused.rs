@@ -1,6 +1,7 @@
 use crate::core_fault::CoreFault;
 use crate::CommandFault;
 use durkenzo_store::{ReadError, WriteError};
+use durkenzo_store_sys::Code;
 use thiserror::Error;
 
 /// Why the control doesn't do what it is asked for.
@@ -18,6 +19,9 @@ pub enum Refused {
     /// Another process leads.
     #[error("another process leads")]
     NotLeader,
+    /// This server hasn't failed: its key is there, under its lease.
+    #[error("server {0} is there, under its lease")]
+    StillThere(u16),
     /// The store can't be read.
     #[error("{0}")]
     Read(#[from] ReadError),
@@ -28,11 +32,12 @@ pub enum Refused {
 
 impl Refused {
     pub(crate) fn of(fault: CoreFault) -> Refused {
-        match fault.0 .0 {
-            // A rule of settings.
-            70..=83 => Refused::OtherSettings,
-            93..=95 => Refused::Damaged("records and states don't go together".to_owned()),
-            code => match CommandFault::of(code) {
+        match fault.0 {
+            code if code.is_of_settings() => Refused::OtherSettings,
+            Code::DIRECTOR_BAD_BYTES | Code::DIRECTOR_UNREACHED | Code::DIRECTOR_DIFFERENT => {
+                Refused::Damaged("records and states don't go together".to_owned())
+            }
+            code => match CommandFault::of(code.0) {
                 CommandFault::Other(code) => {
                     Refused::Damaged(format!("the proved control answered code {code}"))
                 }
@@ -51,22 +56,26 @@ impl Refused {
 #[cfg(test)]
 mod tests {
     use super::*;
-    use durkenzo_store_sys::Code;
 
     #[test]
     fn a_refusal_is_told_by_its_reason() {
-        let told = |code| Refused::of(CoreFault(Code(code))).to_string();
+        let told = |code| Refused::of(CoreFault(code)).to_string();
         assert_eq!(
-            told(12),
+            told(Code::DIRECTOR_SAME_SERVER),
             "the control refuses it: the server owns the shard"
         );
         let unread = "the control refuses it: a follower hasn't read that the shard is taken";
-        assert_eq!(told(96), unread);
+        assert_eq!(told(Code::DIRECTOR_NOT_FOLLOWED), unread);
+        for code in [Code::FIRST_OF_SETTINGS, Code::LAST_OF_SETTINGS] {
+            assert_eq!(told(code), "the store is of other settings");
+        }
+        let apart = "what lies in the store is wrong: records and states don't go together";
+        assert_eq!(told(Code::DIRECTOR_DIFFERENT), apart);
         // Codes of which no command is refused.
         for code in [3, 15, 27, 50, 92] {
             let wrong =
                 format!("what lies in the store is wrong: the proved control answered code {code}");
-            assert_eq!(told(code), wrong);
+            assert_eq!(told(Code(code)), wrong);
         }
     }
 }

@@ -12,7 +12,7 @@ pub(crate) const COUNT_BYTES: usize = 8;
 
 /// A request that a shard's map makes.
 #[derive(Clone, Debug, PartialEq, Eq)]
-pub enum Request {
+pub enum MapRequest {
     /// Has the key hold this text, where it holds no count.
     Put(Key, Vec<u8>),
     /// Adds to the text that the key holds, from an empty one where it holds nothing.
@@ -23,28 +23,28 @@ pub enum Request {
     Delete(Key),
 }
 
-impl Request {
+impl MapRequest {
     /// The key that it changes.
     pub fn key(&self) -> &Key {
         match self {
-            Request::Put(key, _)
-            | Request::Append(key, _)
-            | Request::Add(key, _)
-            | Request::Delete(key) => key,
+            MapRequest::Put(key, _)
+            | MapRequest::Append(key, _)
+            | MapRequest::Add(key, _)
+            | MapRequest::Delete(key) => key,
         }
     }
 
     /// Whether it only deletes.
     pub(crate) fn deletes(&self) -> bool {
-        matches!(self, Request::Delete(_))
+        matches!(self, MapRequest::Delete(_))
     }
 
     /// How many its bytes are.
     pub(crate) fn length(&self) -> usize {
         let rest = match self {
-            Request::Put(_, text) | Request::Append(_, text) => text.len(),
-            Request::Add(..) => COUNT_BYTES,
-            Request::Delete(_) => 0,
+            MapRequest::Put(_, text) | MapRequest::Append(_, text) => text.len(),
+            MapRequest::Add(..) => COUNT_BYTES,
+            MapRequest::Delete(_) => 0,
         };
         2 + self.key().len() + rest
     }
@@ -52,10 +52,10 @@ impl Request {
     /// Its bytes: the kind, how long the key is, the key, and what goes with it.
     pub(crate) fn bytes(&self) -> Vec<u8> {
         match self {
-            Request::Put(key, text) => spelled(PUT, key, text),
-            Request::Append(key, more) => spelled(APPEND, key, more),
-            Request::Add(key, amount) => spelled(ADD, key, &amount.to_be_bytes()),
-            Request::Delete(key) => spelled(DELETE, key, &[]),
+            MapRequest::Put(key, text) => spelled(PUT, key, text),
+            MapRequest::Append(key, more) => spelled(APPEND, key, more),
+            MapRequest::Add(key, amount) => spelled(ADD, key, &amount.to_be_bytes()),
+            MapRequest::Delete(key) => spelled(DELETE, key, &[]),
         }
     }
 }
@@ -98,9 +98,9 @@ impl Range {
 
 /// What a shard's map replied.
 #[derive(Clone, Debug, PartialEq, Eq)]
-pub enum Reply {
+pub enum MapReply {
     /// A key, and what it holds: of a range.
-    Pair(Key, Box<Reply>),
+    Pair(Key, Box<MapReply>),
     /// A key that holds something: of a range.
     Key(Key),
     /// The key held nothing.
@@ -121,18 +121,18 @@ pub enum Reply {
     Malformed,
 }
 
-impl Reply {
+impl MapReply {
     /// That of this kind.
-    pub(crate) fn of(kind: u8, value: u64, text: &[u8]) -> Reply {
+    pub(crate) fn of(kind: u8, value: u64, text: &[u8]) -> MapReply {
         match kind {
-            0 => Reply::Nothing,
-            1 => Reply::Done,
-            2 => Reply::Text(text.to_vec()),
-            3 => Reply::Count(value as i64),
-            5 => Reply::WrongKind,
-            6 => Reply::Overflow,
-            7 => Reply::TooLong,
-            _ => Reply::Malformed,
+            0 => MapReply::Nothing,
+            1 => MapReply::Done,
+            2 => MapReply::Text(text.to_vec()),
+            3 => MapReply::Count(value as i64),
+            5 => MapReply::WrongKind,
+            6 => MapReply::Overflow,
+            7 => MapReply::TooLong,
+            _ => MapReply::Malformed,
         }
     }
 }

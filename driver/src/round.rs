@@ -1,8 +1,11 @@
-use crate::listing::{Listed, Listing};
+use crate::key_list::KeyList;
 use crate::request::{get_bytes, is_deletion};
+use crate::round_step::{AbortedStep, FinishedStep, RoundRequest, RoundStep, StepKind};
+use crate::run::{DecidedChange, Origin};
+use crate::shard::Lister;
 use crate::size::Size;
-use crate::work::{Begin, Numbered, Outcome, Step, Work};
-use crate::{Came, Key, NotDone, Reply, Request};
+use crate::work::{Begin, Numbered, Work, WorkOutcome, WorkStep};
+use crate::{Key, MapReply, MapRequest, NotDone};
 use durkenzo_store::Revision;
 use std::collections::{BTreeSet, HashMap, HashSet, VecDeque};
 use std::time::Instant;
@@ -10,153 +13,13 @@ use std::time::Instant;
 /// How many requests a round takes before no more work comes in, and how many bytes of them.
 const MOST_REQUESTS: usize = 1_024;
 pub(crate) const MOST_BYTES: usize = 1 << 20;
-/// How many requests of one run a round takes before others have their turn.
-const SHARE: usize = 16;
 
 /// How many bits of a client's number tell its place in a round; those above tell the process.
 pub(crate) const PLACE_BITS: u32 = 16;
 
-/// Where steps are from.
-#[derive(Clone, Copy, Debug, PartialEq, Eq)]
-pub(crate) struct Origin {
-    /// The number of their run.
-    pub(crate) run: u64,
-    /// Since when they wait.
-    pub(crate) since: Instant,
-    /// How they came from another process; none where a client gave them to this one.
-    pub(crate) came: Option<Came>,
-}
-
-/// What a client gave at once, in its order.
-pub(crate) struct Run {
-    pub(crate) origin: Origin,
-    pub(crate) steps: VecDeque<Step>,
-    /// The revision of the record that has to be seen first, and the time that has to come.
-    pub(crate) after: Revision,
-    pub(crate) not_before: Option<Instant>,
-    /// Where this process's server forwards it, by the record of that revision, and how often it was forwarded then.
-    pub(crate) leaves: Option<(u16, u8, Revision)>,
-}
-
-impl Run {
-    /// Whether the time has come before which it stays as it is.
-    pub(crate) fn is_due(&self, now: Instant) -> bool {
-        self.not_before.is_none_or(|it| now >= it)
-    }
-
-    /// Drops the steps for which nobody waits any more; returns whether some are left.
-    pub(crate) fn keep_wanted(&mut self) -> bool {
-        self.steps.retain(|it| it.work.is_wanted());
-        !self.steps.is_empty()
-    }
-
-    /// Gives the round its next steps, up to its share of requests; keys are listed by this server, if it is ready.
-    /// Returns whether it has more for this round.
-    pub(crate) fn give(&mut self, round: &mut Round, listing: Option<Listing<'_>>) -> bool {
-        let end = round.asked.len() + SHARE;
-        while !round.is_full() && round.asked.len() < end {
-            let Some(step) = self.steps.pop_front() else {
-                return false;
-            };
-            if !step.work.is_wanted() {
-                continue;
-            }
-            if let Err(step) = round.take(self.origin, step, listing) {
-                self.steps.push_front(step);
-                return false;
-            }
-        }
-        !self.steps.is_empty()
-    }
-}
-
-/// A change that has read its keys: its requests come first in the next round.
-pub(crate) struct Decided {
-    pub(crate) origin: Origin,
-    pub(crate) step: Step,
-    pub(crate) requests: Vec<Request>,
-}
-
-/// What a step of a round does there.
-#[derive(Clone, Copy, PartialEq, Eq)]
-enum Kind {
-    Read,
-    /// It goes over keys.
-    List,
-    /// It reads what it decides by.
-    Change,
-    Write,
-    /// It writes what it decided.
-    Decided,
-}
-
-/// A step of which the round has the requests.
-struct Taken {
-    step: Step,
-    kind: Kind,
-    origin: Origin,
-    first: usize,
-    count: usize,
-    /// What was listed for it, where it goes over keys and its server was ready.
-    listed: Option<Listed>,
-    /// Whether it writes, and what it writes only deletes.
-    frees: bool,
-    /// Why it isn't done, where it won't be.
-    ends: Option<NotDone>,
-}
-
-impl Kind {
-    fn writes(self) -> bool {
-        matches!(self, Kind::Write | Kind::Decided)
-    }
-}
-
-impl Taken {
-    /// What is told of it, where its requests were replied to so.
-    fn told(&mut self, replies: Vec<Reply>) -> Vec<Reply> {
-        match self.listed.take() {
-            Some(listed) => listed.told(replies),
-            None => replies,
-        }
-    }
-}
-
-/// A request of a round.
-pub(crate) struct Asked {
-    pub(crate) bytes: Vec<u8>,
-    /// Whose it is, by the numbers that the shard keeps.
-    pub(crate) client: u64,
-    pub(crate) number: u64,
-    /// The place of its step among those of the round.
-    pub(crate) step: usize,
-    pub(crate) reply: Option<Reply>,
-    /// The server at which it waits.
-    pub(crate) waits_at: Option<u16>,
-}
-
-impl Asked {
-    /// Whether it has its reply, or waits at a server.
-    pub(crate) fn is_placed(&self) -> bool {
-        self.reply.is_some() || self.waits_at.is_some()
-    }
-}
-
-/// What becomes of a round's work once all is replied.
-pub(crate) enum Ended {
-    Told(Box<dyn Work>, Outcome),
-    Decided(Decided),
-}
-
-/// What becomes of a round's work where it is taken apart.
-pub(crate) enum Parted {
-    Told(Box<dyn Work>, Outcome),
-    /// It begins anew.
-    Again(Origin, Step),
-}
-
 /// Which steps a round takes.
 #[derive(Clone, Copy, Debug, Default, PartialEq, Eq)]
-pub(crate) enum Takes {
+pub(crate) enum StepFilter {
     #[default]
     All,
     /// Those that write nothing in this round, or only delete: the store took no writes.
@@ -174,17 +37,17 @@ pub(crate) enum Takes {
 pub(crate) struct Round {
     pub(crate) number: u64,
     pub(crate) since: Instant,
-    pub(crate) asked: Vec<Asked>,
+    pub(crate) requests: Vec<RoundRequest>,
     /// Whether a part of it may have been made, as what became of a transaction isn't known.
     pub(crate) may_be_made: bool,
     /// Whether others may have written since its changes were decided.
     pub(crate) is_broken: bool,
     /// The number of the process, which its clients' numbers begin with.
     pub(crate) process: u64,
-    pub(crate) takes: Takes,
+    pub(crate) filter: StepFilter,
     /// Where requests are of clients that number them.
     numbered: HashMap<u64, usize>,
-    taken: Vec<Taken>,
+    steps: Vec<RoundStep>,
     bytes: usize,
     /// How much is written, and how much that may be where it isn't of one step.
     writes: Size,
@@ -204,13 +67,13 @@ impl Round {
         Round {
             number,
             since,
-            asked: Vec::new(),
+            requests: Vec::new(),
             may_be_made: false,
             is_broken: false,
             process,
-            takes: Takes::All,
+            filter: StepFilter::All,
             numbered: HashMap::new(),
-            taken: Vec::new(),
+            steps: Vec::new(),
             bytes: 0,
             writes: Size::default(),
             most_writes: Size {
@@ -226,71 +89,71 @@ impl Round {
     }
 
     pub(crate) fn is_empty(&self) -> bool {
-        self.taken.is_empty()
+        self.steps.is_empty()
     }
 
     /// Whether no more work comes in.
     pub(crate) fn is_full(&self) -> bool {
-        self.is_closed || self.asked.len() >= MOST_REQUESTS || self.bytes >= MOST_BYTES
+        self.is_closed || self.requests.len() >= MOST_REQUESTS || self.bytes >= MOST_BYTES
     }
 
     /// Whether nobody waits any more for one of its steps, and nothing of it may be made.
     pub(crate) fn has_unwanted(&self) -> bool {
-        let is_unwanted = |it: &Taken| !it.step.work.is_wanted();
-        !self.may_be_made && self.taken.iter().any(is_unwanted)
+        let is_unwanted = |it: &RoundStep| !it.step.work.is_wanted();
+        !self.may_be_made && self.steps.iter().any(is_unwanted)
     }
 
     /// Whether each of its steps only reads. One that decides by what it reads doesn't: where it then writes nothing,
     /// no later transaction finds that what it read was stale.
     pub(crate) fn only_reads(&self) -> bool {
-        self.taken.iter().all(|it| it.step.begin.only_reads())
+        self.steps.iter().all(|it| it.step.begin.only_reads())
     }
 
     /// Whether it writes, and only deletes.
     pub(crate) fn frees(&self) -> bool {
-        let mut writes = self.taken.iter().filter(|it| it.kind.writes()).peekable();
+        let mut writes = self.steps.iter().filter(|it| it.kind.writes()).peekable();
         writes.peek().is_some() && writes.all(|it| it.frees)
     }
 
     /// How many bytes are written, where several steps write.
     pub(crate) fn bytes_of_several(&self) -> Option<usize> {
-        let writes = |it: &&Taken| it.kind.writes() && it.count > 0;
-        (self.taken.iter().filter(writes).count() > 1).then_some(self.writes.bytes)
+        let writes = |it: &&RoundStep| it.kind.writes() && it.count > 0;
+        (self.steps.iter().filter(writes).count() > 1).then_some(self.writes.bytes)
     }
 
     /// Takes what changes decided, as far as it has room; what stays comes first in the next round. Until that is made
     /// nothing else is written, and no more is done of those runs.
-    pub(crate) fn take_decided(&mut self, decided: &mut VecDeque<Decided>) {
+    pub(crate) fn take_decided(&mut self, decided: &mut VecDeque<DecidedChange>) {
         while let Some(next) = decided.pop_front() {
-            if self.takes != Takes::All || !self.has_room(&next.requests) {
+            if self.filter != StepFilter::All || !self.has_room(&next.requests) {
                 decided.push_front(next);
                 break;
             }
             self.wrote.insert(next.origin.run);
             self.note_written(&next.requests);
-            let bytes = next.requests.iter().map(Request::bytes).collect();
-            self.add(next.step, Kind::Decided, next.origin, bytes, None);
+            let bytes = next.requests.iter().map(MapRequest::bytes).collect();
+            self.add(next.step, StepKind::Decided, next.origin, bytes, None);
         }
         if !decided.is_empty() {
-            self.takes = Takes::OnlyReads;
+            self.filter = StepFilter::OnlyReads;
             self.stopped.extend(decided.iter().map(|it| it.origin.run));
         }
     }
 
     /// Whether these requests can be written beside what is.
-    fn has_room(&self, requests: &[Request]) -> bool {
+    fn has_room(&self, requests: &[MapRequest]) -> bool {
         let is_first = self.writes == Size::default();
         is_first || (self.writes + Size::of(requests)).is_within(self.most_writes)
     }
 
-    /// Takes the run's next step, or gives it back where it has to wait for the next round. What goes over keys is
-    /// listed by this server, where it is ready.
+    /// Takes the run's next step, or gives the step back if it has to wait for the next round. The lister lists keys,
+    /// if there is one.
     pub(crate) fn take(
         &mut self,
         origin: Origin,
-        step: Step,
-        listing: Option<Listing<'_>>,
-    ) -> Result<(), Step> {
+        step: WorkStep,
+        lister: Option<&mut Lister>,
+    ) -> Result<(), WorkStep> {
         let run = origin.run;
         if !self.may_take(run, &step.begin) {
             self.stopped.insert(run);
@@ -303,21 +166,24 @@ impl Round {
         }
         let gets = |keys: &[Key]| keys.iter().map(|it| get_bytes(it)).collect();
         let (kind, bytes) = match &step.begin {
-            Begin::Read(keys) => (Kind::Read, gets(keys)),
+            Begin::Read(keys) => (StepKind::Read, gets(keys)),
             Begin::Scan(_) | Begin::Keys(_) | Begin::Count => {
-                let listed = listing.map(|it| it.list(&step.begin));
+                let listed = lister.and_then(|it| it.list(&step.begin));
                 self.add_list(step, origin, listed);
                 return Ok(());
             }
             Begin::Change(keys) => {
                 self.stopped.insert(run);
                 self.read.extend(keys.iter().cloned());
-                (Kind::Change, gets(keys))
+                (StepKind::Change, gets(keys))
             }
             Begin::Write(requests) | Begin::Numbered(_, requests) => {
                 self.wrote.insert(run);
                 self.note_written(requests);
-                (Kind::Write, requests.iter().map(Request::bytes).collect())
+                (
+                    StepKind::Write,
+                    requests.iter().map(MapRequest::bytes).collect(),
+                )
             }
         };
         let numbered = match &step.begin {
@@ -328,16 +194,16 @@ impl Round {
         Ok(())
     }
 
-    fn add_list(&mut self, step: Step, origin: Origin, listed: Option<Listed>) {
-        let bytes = Listed::requests(listed.as_ref());
-        self.add(step, Kind::List, origin, bytes, None);
-        if let Some(taken) = self.taken.last_mut() {
-            taken.listed = listed;
+    fn add_list(&mut self, step: WorkStep, origin: Origin, listed: Option<KeyList>) {
+        let bytes = KeyList::requests(listed.as_ref());
+        self.add(step, StepKind::List, origin, bytes, None);
+        if let Some(step) = self.steps.last_mut() {
+            step.listed = listed;
         }
     }
 
     fn may_take(&self, run: u64, begin: &Begin) -> bool {
-        let reads = |it: &Request| self.read.contains(it.key());
+        let reads = |it: &MapRequest| self.read.contains(it.key());
         let may = match begin {
             Begin::Read(_) | Begin::Scan(_) | Begin::Keys(_) | Begin::Count => {
                 !self.wrote.contains(&run)
@@ -352,15 +218,15 @@ impl Round {
                 !self.numbered.contains_key(&numbered.first()) && !requests.iter().any(reads)
             }
         };
-        let is_wanted = match self.takes {
-            Takes::All => true,
-            Takes::NoGrowth => begin.requests().iter().all(Request::deletes),
-            Takes::OnlyReads => begin.only_reads(),
+        let is_wanted = match self.filter {
+            StepFilter::All => true,
+            StepFilter::NoGrowth => begin.requests().iter().all(MapRequest::deletes),
+            StepFilter::OnlyReads => begin.only_reads(),
         };
         may && is_wanted && !self.stopped.contains(&run)
     }
 
-    fn note_written(&mut self, requests: &[Request]) {
+    fn note_written(&mut self, requests: &[MapRequest]) {
         self.writes = self.writes + Size::of(requests);
         self.written
             .extend(requests.iter().map(|it| it.key().clone()));
@@ -368,14 +234,14 @@ impl Round {
 
     fn add(
         &mut self,
-        step: Step,
-        kind: Kind,
+        step: WorkStep,
+        kind: StepKind,
         origin: Origin,
         requests: Vec<Vec<u8>>,
         numbered: Option<Numbered>,
     ) {
         self.since = self.since.min(origin.since);
-        let (first, count, place) = (self.asked.len(), requests.len(), self.taken.len());
+        let (first, count, place) = (self.requests.len(), requests.len(), self.steps.len());
         self.bytes += requests.iter().map(Vec::len).sum::<usize>();
         let frees = kind.writes() && count > 0 && requests.iter().all(|it| is_deletion(it));
         let floor = self.process << PLACE_BITS;
@@ -387,7 +253,7 @@ impl Round {
             if numbered.is_some() {
                 self.numbered.insert(client, first + at);
             }
-            self.asked.push(Asked {
+            self.requests.push(RoundRequest {
                 bytes,
                 client,
                 number,
@@ -396,7 +262,7 @@ impl Round {
                 waits_at: None,
             });
         }
-        self.taken.push(Taken {
+        self.steps.push(RoundStep {
             step,
             kind,
             origin,
@@ -409,136 +275,148 @@ impl Round {
     }
 
     /// The request of this client and number, where it is of this round.
-    pub(crate) fn asked_by(&mut self, client: u64, number: u64) -> Option<&mut Asked> {
+    pub(crate) fn request_by(&mut self, client: u64, number: u64) -> Option<&mut RoundRequest> {
         let floor = self.process << PLACE_BITS;
         let place = self.numbered.get(&client).copied();
         let place = place.or_else(|| usize::try_from(client.checked_sub(floor)?).ok())?;
-        let asked = self.asked.get_mut(place)?;
-        (asked.client == client && asked.number == number).then_some(asked)
+        let request = self.requests.get_mut(place)?;
+        (request.client == client && request.number == number).then_some(request)
     }
 
     /// Where the step of this request is from.
-    pub(crate) fn origin_of(&self, asked: &Asked) -> Option<Origin> {
-        Some(self.taken.get(asked.step)?.origin)
+    pub(crate) fn origin_of(&self, request: &RoundRequest) -> Option<Origin> {
+        Some(self.steps.get(request.step)?.origin)
     }
 
     /// Whether the request is of a client that numbers them.
-    pub(crate) fn is_numbered(&self, asked: &Asked) -> bool {
-        self.numbered.contains_key(&asked.client)
+    pub(crate) fn is_numbered(&self, request: &RoundRequest) -> bool {
+        self.numbered.contains_key(&request.client)
     }
 
     /// Has the step of this place come to its end so.
     pub(crate) fn end_step(&mut self, place: usize, why: NotDone) {
-        if let Some(taken) = self.taken.get_mut(place) {
-            taken.ends = Some(why);
+        if let Some(step) = self.steps.get_mut(place) {
+            step.ends = Some(why);
         }
     }
 
     /// Has all steps that write come to their end so; returns whether there are some. If some only delete, and others
     /// write more, those begin anew without these, unless they may be made.
     pub(crate) fn end_writes(&mut self, why: &NotDone) -> bool {
-        let grows = |it: &Taken| it.kind.writes() && !it.frees;
-        let are_parted = !self.may_be_made && self.taken.iter().any(grows);
-        let ends = |it: &&mut Taken| it.kind.writes() && !(are_parted && it.frees);
-        let writes = self.taken.iter_mut().filter(ends);
+        let grows = |it: &RoundStep| it.kind.writes() && !it.frees;
+        let are_aborted = !self.may_be_made && self.steps.iter().any(grows);
+        let ends = |it: &&mut RoundStep| it.kind.writes() && !(are_aborted && it.frees);
+        let writes = self.steps.iter_mut().filter(ends);
         writes.map(|it| it.ends = Some(why.clone())).count() > 0
     }
 
     /// Has all steps of this run come to their end so.
     pub(crate) fn end_run(&mut self, run: u64, why: &NotDone) {
-        let of_run = self.taken.iter_mut().filter(|it| it.origin.run == run);
+        let of_run = self.steps.iter_mut().filter(|it| it.origin.run == run);
         of_run.for_each(|it| it.ends = Some(why.clone()));
     }
 
     /// Whether it has what a change decided, of which nothing is made.
     pub(crate) fn has_undone_change(&self) -> bool {
-        let is_undone = |it: &Taken| {
-            let asked = self.asked[it.first..][..it.count].iter();
-            it.kind == Kind::Decided && asked.clone().any(|it| it.reply.is_none())
+        let is_undone = |it: &RoundStep| {
+            let requests = self.requests[it.first..][..it.count].iter();
+            it.kind == StepKind::Decided && requests.clone().any(|it| it.reply.is_none())
         };
-        self.taken.iter().any(is_undone)
+        self.steps.iter().any(is_undone)
     }
 
     /// Whether keys were listed by another server than the one at which that waits, or by an earlier head than the one
     /// that it has, which this tells: then they may not be those that it has.
     pub(crate) fn is_listed_elsewhere(&self, logged: impl Fn(u16) -> Option<Revision>) -> bool {
-        let is_elsewhere = |it: &Taken| {
-            let asked = self.asked[it.first..][..it.count].iter();
-            let mut undone = asked.filter(|it| it.reply.is_none());
-            undone.any(|asked| match (&it.listed, asked.waits_at) {
+        let is_elsewhere = |it: &RoundStep| {
+            let requests = self.requests[it.first..][..it.count].iter();
+            let mut undone = requests.filter(|it| it.reply.is_none());
+            undone.any(|request| match (&it.listed, request.waits_at) {
                 (Some(listed), Some(server)) => !listed.is_by(server, logged(server)),
                 _ => true,
             })
         };
-        let mut lists = self.taken.iter().filter(|it| it.kind == Kind::List);
+        let mut lists = self.steps.iter().filter(|it| it.kind == StepKind::List);
         lists.any(is_elsewhere)
     }
 
     /// Whether each request has its reply.
     pub(crate) fn is_replied(&self) -> bool {
-        self.asked.iter().all(|it| it.reply.is_some())
+        self.requests.iter().all(|it| it.reply.is_some())
     }
 
     /// The servers at which requests wait.
     pub(crate) fn waits_at(&self) -> BTreeSet<u16> {
-        let waits = self.asked.iter().filter(|it| it.reply.is_none());
+        let waits = self.requests.iter().filter(|it| it.reply.is_none());
         waits.filter_map(|it| it.waits_at).collect()
     }
 
-    /// Has the requests that wait at this server be decided again.
+    /// Has the requests that wait at this server be decided again, and drops what the server listed, so that the round
+    /// lists anew. If the round may be made, its lists stay: its transaction compared the head by which they are right.
     pub(crate) fn take_back(&mut self, server: u16) {
-        for it in &mut self.asked {
+        for it in &mut self.requests {
             if it.waits_at == Some(server) {
                 it.waits_at = None;
             }
         }
+        if self.may_be_made {
+            return;
+        }
+        let requests = &self.requests;
+        for it in &mut self.steps {
+            let is_undone = replies_of(&requests[it.first..][..it.count]).is_none();
+            it.listed = it
+                .listed
+                .take()
+                .filter(|list| !(is_undone && list.is_of(server)));
+        }
     }
 
-    /// What becomes of its work, where each request has its reply.
-    pub(crate) fn ended(self) -> Vec<Ended> {
-        let mut replies = self.asked.into_iter().filter_map(|it| it.reply);
-        let ended = self.taken.into_iter().map(|mut it| {
-            let told: Vec<Reply> = replies.by_ref().take(it.count).collect();
+    /// Returns what becomes of each step, once each request has its reply.
+    pub(crate) fn finished(self) -> Vec<FinishedStep> {
+        let mut replies = self.requests.into_iter().filter_map(|it| it.reply);
+        let finished = self.steps.into_iter().map(|mut it| {
+            let told: Vec<MapReply> = replies.by_ref().take(it.count).collect();
             let told = it.told(told);
-            if it.kind != Kind::Change {
-                return Ended::Told(it.step.work, Ok(told));
+            if it.kind != StepKind::Change {
+                return FinishedStep::Told(it.step.work, Ok(told));
             }
             let requests = it.step.work.decide(told);
             match (NotDone::if_too_large(&requests), requests.is_empty()) {
-                (Some(why), _) => Ended::Told(it.step.work, Err(why)),
-                (None, true) => Ended::Told(it.step.work, Ok(Vec::new())),
-                (None, false) => Ended::Decided(Decided {
+                (Some(why), _) => FinishedStep::Told(it.step.work, Err(why)),
+                (None, true) => FinishedStep::Told(it.step.work, Ok(Vec::new())),
+                (None, false) => FinishedStep::Decided(DecidedChange {
                     origin: it.origin,
                     step: it.step,
                     requests,
                 }),
             }
         });
-        ended.collect()
+        finished.collect()
     }
 
-    /// Its work with what becomes of each, where nothing of what isn't replied is made, or will be.
-    pub(crate) fn parted(self) -> Vec<Parted> {
-        let asked = self.asked;
-        let parted = self.taken.into_iter().map(|mut it| {
+    /// Returns what becomes of each step, if nothing that has no reply is made, or will be.
+    pub(crate) fn aborted(self) -> Vec<AbortedStep> {
+        let requests = self.requests;
+        let aborted = self.steps.into_iter().map(|mut it| {
             let replies =
-                replies_of(&asked[it.first..][..it.count]).map(|replies| it.told(replies));
-            match (replies.filter(|_| it.kind != Kind::Change), it.ends) {
-                (Some(replies), _) => Parted::Told(it.step.work, Ok(replies)),
-                (None, Some(why)) => Parted::Told(it.step.work, Err(why)),
-                (None, None) => Parted::Again(it.origin, it.step),
+                replies_of(&requests[it.first..][..it.count]).map(|replies| it.told(replies));
+            match (replies.filter(|_| it.kind != StepKind::Change), it.ends) {
+                (Some(replies), _) => AbortedStep::Told(it.step.work, Ok(replies)),
+                (None, Some(why)) => AbortedStep::Told(it.step.work, Err(why)),
+                (None, None) => AbortedStep::Again(it.origin, it.step),
             }
         });
-        parted.collect()
+        aborted.collect()
     }
 
     /// Its work with what became of each, where it goes no further: what is replied is, and all else isn't done.
-    pub(crate) fn given_up(self, why: &NotDone) -> Vec<(Box<dyn Work>, Outcome)> {
-        let asked = self.asked;
-        let told = self.taken.into_iter().map(|mut it| {
+    pub(crate) fn given_up(self, why: &NotDone) -> Vec<(Box<dyn Work>, WorkOutcome)> {
+        let requests = self.requests;
+        let told = self.steps.into_iter().map(|mut it| {
             let replies =
-                replies_of(&asked[it.first..][..it.count]).map(|replies| it.told(replies));
-            let outcome = match replies.filter(|_| it.kind != Kind::Change) {
+                replies_of(&requests[it.first..][..it.count]).map(|replies| it.told(replies));
+            let outcome = match replies.filter(|_| it.kind != StepKind::Change) {
                 Some(replies) => Ok(replies),
                 None => Err(why.clone()),
             };
@@ -549,6 +427,60 @@ impl Round {
 }
 
 /// The replies to these requests, where each has one.
-fn replies_of(asked: &[Asked]) -> Option<Vec<Reply>> {
-    asked.iter().map(|it| it.reply.clone()).collect()
+fn replies_of(requests: &[RoundRequest]) -> Option<Vec<MapReply>> {
+    requests.iter().map(|it| it.reply.clone()).collect()
+}
+
+#[cfg(test)]
+#[allow(clippy::disallowed_methods)]
+mod tests {
+    use super::*;
+    use crate::key_list::Found;
+
+    struct Counting;
+
+    impl Work for Counting {
+        fn decide(&mut self, _held: Vec<MapReply>) -> Vec<MapRequest> {
+            Vec::new()
+        }
+
+        fn is_wanted(&self) -> bool {
+            true
+        }
+
+        fn spell(&self) -> Vec<u8> {
+            Vec::new()
+        }
+
+        fn answered(self: Box<Self>, _answer: &[u8]) {}
+
+        fn end(self: Box<Self>, _outcome: WorkOutcome) {}
+    }
+
+    /// Returns whether a round lists anew that server 1 listed for, if the server is read again and has the same head.
+    fn lists_anew_once_read_again(may_be_made: bool) -> bool {
+        let (since, logged) = (Instant::now(), Revision(1));
+        let mut round = Round::new(1, 1, MOST_BYTES, since);
+        let (begin, work) = (Begin::Count, Box::new(Counting));
+        let (run, came) = (1, None);
+        let listed = KeyList::new(1, logged, Found::Count(7));
+        round.add_list(
+            WorkStep { begin, work },
+            Origin { run, since, came },
+            Some(listed),
+        );
+        round.requests[0].waits_at = Some(1);
+        assert!(!round.is_listed_elsewhere(|_| Some(logged)));
+        round.may_be_made = may_be_made;
+        round.take_back(1);
+        assert_eq!(round.requests[0].waits_at, None);
+        round.requests[0].waits_at = Some(1);
+        round.is_listed_elsewhere(|_| Some(logged))
+    }
+
+    #[test]
+    fn a_round_lists_anew_once_its_server_is_read_again_unless_it_may_be_made() {
+        assert!(lists_anew_once_read_again(false));
+        assert!(!lists_anew_once_read_again(true));
+    }
 }

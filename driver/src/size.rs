@@ -1,4 +1,4 @@
-use crate::Request;
+use crate::MapRequest;
 use std::ops::Add;
 
 /// How many bytes stand around a request in a batch: whose it is, how it came, and how long it is.
@@ -19,7 +19,7 @@ impl Size {
     };
 
     /// That of these requests.
-    pub(crate) fn of(requests: &[Request]) -> Size {
+    pub(crate) fn of(requests: &[MapRequest]) -> Size {
         let bytes = requests.iter().map(|it| AROUND + it.length());
         Size {
             requests: requests.len(),

@@ -1,16 +1,16 @@
 use crate::size::Size;
-use crate::{Key, Range, Reply, Request};
+use crate::{Key, MapReply, MapRequest, Range};
 use durkenzo_store::Revision;
 use thiserror::Error;
 
 /// What was read, or replied to what was written; or why it wasn't done.
-pub type Outcome = Result<Vec<Reply>, NotDone>;
+pub type WorkOutcome = Result<Vec<MapReply>, NotDone>;
 
 /// What a client asks of one shard.
 pub trait Work: Send {
     /// What is to be written, where the keys that it began with hold this: of work that began by [`Begin::Change`].
     /// Nobody else writes those keys until it is made; where somebody did, nothing of it is, and it is asked again.
-    fn decide(&mut self, held: Vec<Reply>) -> Vec<Request>;
+    fn decide(&mut self, held: Vec<MapReply>) -> Vec<MapRequest>;
 
     /// Whether somebody still waits for what becomes of it. If nobody does, and it hasn't begun, the shard drops it.
     fn is_wanted(&self) -> bool;
@@ -22,7 +22,7 @@ pub trait Work: Send {
     fn answered(self: Box<Self>, answer: &[u8]);
 
     /// It is over. It must not wait.
-    fn end(self: Box<Self>, outcome: Outcome);
+    fn end(self: Box<Self>, outcome: WorkOutcome);
 }
 
 /// How work begins.
@@ -30,18 +30,18 @@ pub trait Work: Send {
 pub enum Begin {
     /// It reads these keys, and that is all.
     Read(Vec<Key>),
-    /// It reads the first pairs of these keys: replied is a [`Reply::Pair`] for each.
+    /// It reads the first pairs of these keys: replied is a [`MapReply::Pair`] for each.
     Scan(Range),
-    /// It finds the first of these keys: replied is a [`Reply::Key`] for each.
+    /// It finds the first of these keys: replied is a [`MapReply::Key`] for each.
     Keys(Range),
     /// It counts the keys that hold something: replied is their number.
     Count,
     /// It reads these keys, and decides by what they hold what it writes.
     Change(Vec<Key>),
     /// It writes so, all at once or nothing.
-    Write(Vec<Request>),
+    Write(Vec<MapRequest>),
     /// It writes so once, however often and wherever it is asked for, and replies as it did first.
-    Numbered(Numbered, Vec<Request>),
+    Numbered(Numbered, Vec<MapRequest>),
 }
 
 impl Begin {
@@ -54,7 +54,7 @@ impl Begin {
     }
 
     /// What it writes, whatever is there.
-    pub(crate) fn requests(&self) -> &[Request] {
+    pub(crate) fn requests(&self) -> &[MapRequest] {
         match self {
             Begin::Write(requests) | Begin::Numbered(_, requests) => requests,
             _ => &[],
@@ -111,7 +111,7 @@ impl Numbered {
 }
 
 /// Work, and how it begins.
-pub struct Step {
+pub struct WorkStep {
     /// How it begins.
     pub begin: Begin,
     /// The work.
@@ -170,7 +170,7 @@ pub enum NotDone {
 
 impl NotDone {
     /// That these requests are more than is written at once, where they are.
-    pub(crate) fn if_too_large(requests: &[Request]) -> Option<NotDone> {
+    pub(crate) fn if_too_large(requests: &[MapRequest]) -> Option<NotDone> {
         let Size {
             requests: most,
             bytes,

@@ -3,7 +3,7 @@ mod common;
 
 use common::handing::{Handed, Handing};
 use common::{add, held, led, opened};
-use durkenzo_driver::{Durable, Reply};
+use durkenzo_driver::{CompactFault, Durable, MapReply};
 use durkenzo_store::{Done, Embedded, Store, Transaction, WriteError};
 use std::sync::atomic::{AtomicBool, Ordering};
 use std::sync::{Arc, Mutex};
@@ -58,6 +58,25 @@ impl Holding {
         }
     }
 
+    /// Lets parts go while the work is done.
+    fn let_go_during<R>(&self, work: impl FnOnce() -> R) -> R {
+        let is_over = AtomicBool::new(false);
+        thread::scope(|scope| {
+            scope.spawn(|| {
+                while !is_over.load(Ordering::Acquire) {
+                    let is_idle = self.parts.lock().unwrap().is_empty();
+                    match is_idle {
+                        true => thread::sleep(Duration::from_millis(1)),
+                        false => self.let_go(),
+                    }
+                }
+            });
+            let done = work();
+            is_over.store(true, Ordering::Release);
+            done
+        })
+    }
+
     /// Lets the first part go.
     fn let_go(&self) {
         let (part, done) = self.parts.lock().unwrap().remove(0);
@@ -84,13 +103,13 @@ fn a_base_that_was_given_up_is_not_named() {
     let (store, holding, durable) = begun();
     // The server is read anew, and begins another base.
     holding.loses.store(true, Ordering::Release);
-    assert_eq!(add(&durable, 0, b"a", 1), Ok(vec![Reply::Count(9)]));
+    assert_eq!(add(&durable, 0, b"a", 1), Ok(vec![MapReply::Count(9)]));
     holding.wait_for(2);
     holding.let_go();
     thread::sleep(Duration::from_millis(200));
     durable.stop();
     let durable = Arc::new(opened(&store, 1));
-    assert_eq!(held(&durable, 0, b"a"), Ok(vec![Reply::Count(9)]));
+    assert_eq!(held(&durable, 0, b"a"), Ok(vec![MapReply::Count(9)]));
 }
 
 #[test]
@@ -98,7 +117,7 @@ fn a_base_that_fails_is_begun_again_a_while_later() {
     let (store, holding, durable) = begun();
     holding.refuses.store(true, Ordering::Release);
     holding.let_go();
-    assert_eq!(add(&durable, 0, b"a", 1), Ok(vec![Reply::Count(9)]));
+    assert_eq!(add(&durable, 0, b"a", 1), Ok(vec![MapReply::Count(9)]));
     thread::sleep(Duration::from_millis(300));
     assert!(holding.parts.lock().unwrap().is_empty(), "it doesn't pause");
     holding.refuses.store(false, Ordering::Release);
@@ -109,5 +128,16 @@ fn a_base_that_fails_is_begun_again_a_while_later() {
         assert!(Instant::now() < end, "no base is made");
         thread::sleep(Duration::from_millis(5));
     }
-    assert_eq!(held(&durable, 0, b"a"), Ok(vec![Reply::Count(9)]));
+    assert_eq!(held(&durable, 0, b"a"), Ok(vec![MapReply::Count(9)]));
+}
+
+#[test]
+fn a_compaction_tells_of_bases_that_found_no_room() {
+    let (_, holding, durable) = begun();
+    holding.refuses.store(true, Ordering::Release);
+    let told = holding.let_go_during(|| durable.compact());
+    assert!(matches!(told, Err(CompactFault::NoBase(1))), "{told:?}");
+    holding.refuses.store(false, Ordering::Release);
+    holding.let_go_during(|| durable.compact()).unwrap();
+    assert_eq!(held(&durable, 0, b"a"), Ok(vec![MapReply::Count(8)]));
 }

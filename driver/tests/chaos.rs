@@ -3,7 +3,7 @@
 mod common;
 
 use common::{add, held, Uncertain};
-use durkenzo_driver::{Command, Control, Durable, Next, Reply};
+use durkenzo_driver::{ControlCommand, Durable, DurableControl, MapReply, Next};
 use durkenzo_store::{Embedded, Store};
 use std::sync::atomic::{AtomicBool, Ordering};
 use std::sync::Arc;
@@ -15,7 +15,7 @@ const THREADS: u64 = 6;
 const LASTS: Duration = Duration::from_secs(3);
 
 /// Moves shards to the other server as long as it is let.
-fn migrate(mut control: Control, stops: &AtomicBool) -> u64 {
+fn migrate(mut control: DurableControl, stops: &AtomicBool) -> u64 {
     let mut moves = 0;
     while !stops.load(Ordering::Acquire) {
         let (shard, server) = (
@@ -23,7 +23,7 @@ fn migrate(mut control: Control, stops: &AtomicBool) -> u64 {
             (moves / 4 % 2) as u16 + 1,
         );
         // Where it is there already, it is refused.
-        let _ = control.command(Command::PrepareAddShard(shard, server));
+        let _ = control.command(ControlCommand::PrepareAddShard(shard, server));
         while let Ok(Next::Command(command)) = control.next_of_shard(shard) {
             let _ = control.command(command);
         }
@@ -76,7 +76,7 @@ fn additions_are_counted_once_where_outcomes_are_unknown() {
         assert!(count > 10);
         assert_eq!(
             held(&durable, shard, b"count"),
-            Ok(vec![Reply::Count(count)])
+            Ok(vec![MapReply::Count(count)])
         );
     }
     durable.stop();
@@ -87,7 +87,7 @@ fn additions_are_counted_once_where_outcomes_are_unknown() {
         let count = answered[usize::from(shard)];
         assert_eq!(
             held(&durable, shard, b"count"),
-            Ok(vec![Reply::Count(count)])
+            Ok(vec![MapReply::Count(count)])
         );
     }
 }

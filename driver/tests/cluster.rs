@@ -8,8 +8,8 @@ use common::cluster::{append, assign, campaign, kill, settle, Dice, Line, Net, N
 use common::handing::{Handed, Handing};
 use common::{add, ask, held, step, write, Uncertain};
 use durkenzo_driver::{
-    Addresses, Begin, Command, Control, Durable, JoinFault, Member, Next, NotDone, Numbered, Reply,
-    Request,
+    Addresses, Begin, ControlCommand, Durable, DurableControl, JoinFault, MapReply, MapRequest,
+    Member, Next, NotDone, Numbered,
 };
 use durkenzo_store::{Done, Embedded, Put, Store, Transaction};
 use plain::Plain;
@@ -28,8 +28,8 @@ fn in_memory() -> Arc<dyn Store> {
 
 fn count_of(told: common::Told) -> i64 {
     match told.as_deref() {
-        Ok([Reply::Count(count)]) => *count,
-        Ok([Reply::Nothing]) => 0,
+        Ok([MapReply::Count(count)]) => *count,
+        Ok([MapReply::Nothing]) => 0,
         other => panic!("{other:?}"),
     }
 }
@@ -37,8 +37,8 @@ fn count_of(told: common::Told) -> i64 {
 /// The words of a list.
 fn words_of(durable: &Durable, shard: u16, key: &[u8]) -> Vec<String> {
     let text = match held(durable, shard, key).as_deref() {
-        Ok([Reply::Text(text)]) => text.clone(),
-        Ok([Reply::Nothing]) => Vec::new(),
+        Ok([MapReply::Text(text)]) => text.clone(),
+        Ok([MapReply::Nothing]) => Vec::new(),
         other => panic!("{other:?}"),
     };
     let words = String::from_utf8(text).unwrap();
@@ -69,8 +69,11 @@ fn takes_any_work(store: &Arc<dyn Store>) {
         let words = words_of(&nodes[1].durable, shard, b"list");
         assert_eq!(words, ["0", "1", "2"]);
     }
-    let requests = vec![Request::Put(b"t".as_slice().into(), b"x".to_vec())];
-    assert_eq!(write(&nodes[2].durable, 0, requests), Ok(vec![Reply::Done]));
+    let requests = vec![MapRequest::Put(b"t".as_slice().into(), b"x".to_vec())];
+    assert_eq!(
+        write(&nodes[2].durable, 0, requests),
+        Ok(vec![MapReply::Done])
+    );
 }
 
 /// Has a client ask any of the processes, as long as it is to: what it was answered.
@@ -153,7 +156,7 @@ fn graceful_migrations_refuse_nothing_and_lose_nothing() {
         while Instant::now() < end {
             let (shard, server) = (moves % SHARDS, dice.below(3) as u16 + 1);
             // Where it is there already, it is refused.
-            let _ = control.command(Command::PrepareAddShard(shard, server));
+            let _ = control.command(ControlCommand::PrepareAddShard(shard, server));
             settle(&mut control, shard);
             moves += 1;
         }
@@ -179,7 +182,7 @@ fn a_process_that_dies_is_failed_and_nothing_answered_is_lost() {
         let mut failed = Vec::new();
         while Instant::now() < end {
             if let Some(server) = control.fallen().unwrap() {
-                control.command(Command::Fail(server)).unwrap();
+                control.command(ControlCommand::Fail(server)).unwrap();
                 failed.push(server);
             }
             for shard in 0..SHARDS {
@@ -218,12 +221,12 @@ fn a_process_that_dies_is_failed_and_nothing_answered_is_lost() {
 fn a_process_whose_watch_is_silent_makes_nothing_that_the_record_forbids() {
     let nodes = Net::of_three(&in_memory(), 1);
     let mut control = campaign(&nodes[2]);
-    control.command(Command::Assign(0, 1)).unwrap();
+    control.command(ControlCommand::Assign(0, 1)).unwrap();
     let count = |node: usize, amount| count_of(add(&nodes[node].durable, 0, b"a", amount));
     assert_eq!(count(0, 1), 1);
     nodes[0].is_deaf.store(true, Ordering::Release);
-    control.command(Command::Pause(0)).unwrap();
-    control.command(Command::Reassign(0, 2)).unwrap();
+    control.command(ControlCommand::Pause(0)).unwrap();
+    control.command(ControlCommand::Reassign(0, 2)).unwrap();
     assert_eq!(count(1, 1), 2);
     // It still takes itself for the owner: its transaction fails, and the work goes on where it belongs.
     assert_eq!(count(0, 1), 3);
@@ -231,8 +234,8 @@ fn a_process_whose_watch_is_silent_makes_nothing_that_the_record_forbids() {
     assert_eq!(count(1, 1), 4);
     // And back, which it learns by another process's answer or its own reading alone.
     nodes[1].is_deaf.store(true, Ordering::Release);
-    control.command(Command::Pause(0)).unwrap();
-    control.command(Command::Reassign(0, 3)).unwrap();
+    control.command(ControlCommand::Pause(0)).unwrap();
+    control.command(ControlCommand::Reassign(0, 3)).unwrap();
     assert_eq!(count(0, 1), 5);
     assert_eq!(count(1, 1), 6);
     assert_eq!(words_of(&nodes[1].durable, 0, b"list"), ["x"]);
@@ -242,17 +245,17 @@ fn a_process_whose_watch_is_silent_makes_nothing_that_the_record_forbids() {
 fn a_change_begins_anew_where_another_server_wrote_meanwhile() {
     let nodes = Arc::new(Net::of_three(&in_memory(), 1));
     let mut control = campaign(&nodes[2]);
-    control.command(Command::Assign(0, 1)).unwrap();
+    control.command(ControlCommand::Assign(0, 1)).unwrap();
     append(&nodes[0].durable, 0, b"list", "first").unwrap();
     nodes[0].is_deaf.store(true, Ordering::Release);
     let others = nodes.clone();
     // The shard goes to another server, which writes, and comes back, before what was decided is written.
     let meanwhile = move || {
-        control.command(Command::Pause(0)).unwrap();
-        control.command(Command::Reassign(0, 2)).unwrap();
+        control.command(ControlCommand::Pause(0)).unwrap();
+        control.command(ControlCommand::Reassign(0, 2)).unwrap();
         append(&others[1].durable, 0, b"list", "other").unwrap();
-        control.command(Command::Pause(0)).unwrap();
-        control.command(Command::Reassign(0, 1)).unwrap();
+        control.command(ControlCommand::Pause(0)).unwrap();
+        control.command(ControlCommand::Reassign(0, 1)).unwrap();
     };
     *nodes[0].meanwhile.lock().unwrap() = Some(Box::new(meanwhile));
     append(&nodes[0].durable, 0, b"list", "last").unwrap();
@@ -265,15 +268,21 @@ fn another_process_goes_on_where_the_leader_was() {
     let mut nodes = Net::of_three(&in_memory(), SHARDS);
     let mut control = campaign(&nodes[2]);
     for shard in 0..SHARDS {
-        control.command(Command::Assign(shard, 1)).unwrap();
+        control.command(ControlCommand::Assign(shard, 1)).unwrap();
     }
     assert!(matches!(
-        Control::campaign(nodes[0].durable.clone(), &common::line_of(SHARDS, 3)),
+        DurableControl::campaign(nodes[0].durable.clone(), &common::line_of(SHARDS, 3)),
         Ok(None)
     ));
-    control.command(Command::PrepareAddShard(0, 2)).unwrap();
-    control.command(Command::PrepareDropShard(0)).unwrap();
-    control.command(Command::PrepareAddShard(1, 2)).unwrap();
+    control
+        .command(ControlCommand::PrepareAddShard(0, 2))
+        .unwrap();
+    control
+        .command(ControlCommand::PrepareDropShard(0))
+        .unwrap();
+    control
+        .command(ControlCommand::PrepareAddShard(1, 2))
+        .unwrap();
     kill(&nodes[2]);
     assert_eq!(count_of(add(&nodes[0].durable, 0, b"a", 1)), 1);
     let mut next = campaign(&nodes[1]);
@@ -291,7 +300,7 @@ fn another_process_goes_on_where_the_leader_was() {
     }
     // Who led before can change nothing, and knows it once it reaches the store.
     nodes[2].is_cut.store(false, Ordering::Release);
-    assert!(control.command(Command::Pause(0)).is_err());
+    assert!(control.command(ControlCommand::Pause(0)).is_err());
     drop(control);
     drop(nodes.remove(2));
     // A server's key is gone with its process.
@@ -307,18 +316,18 @@ fn another_process_goes_on_where_the_leader_was() {
 fn a_shard_is_dropped_once_all_follow() {
     let nodes = Net::of_three(&in_memory(), 1);
     let mut control = campaign(&nodes[0]);
-    control.command(Command::Assign(0, 1)).unwrap();
+    control.command(ControlCommand::Assign(0, 1)).unwrap();
     nodes[2].is_deaf.store(true, Ordering::Release);
     for command in [
-        Command::PrepareAddShard(0, 2),
-        Command::PrepareDropShard(0),
-        Command::AddShard(0),
+        ControlCommand::PrepareAddShard(0, 2),
+        ControlCommand::PrepareDropShard(0),
+        ControlCommand::AddShard(0),
     ] {
         control.command(command).unwrap();
     }
     thread::sleep(Duration::from_millis(200));
     assert_eq!(control.next_of_shard(0).unwrap(), Next::Waits);
-    assert!(control.command(Command::DropShard(0)).is_err());
+    assert!(control.command(ControlCommand::DropShard(0)).is_err());
     // It hears of the next record again; one that is gone isn't waited for.
     kill(&nodes[2]);
     let end = Instant::now() + 5 * LEASE;
@@ -326,7 +335,7 @@ fn a_shard_is_dropped_once_all_follow() {
         assert!(Instant::now() < end);
         thread::sleep(Duration::from_millis(10));
     }
-    control.command(Command::DropShard(0)).unwrap();
+    control.command(ControlCommand::DropShard(0)).unwrap();
 }
 
 #[test]
@@ -360,8 +369,8 @@ fn a_process_whose_name_another_one_has_neither_leads_nor_executes() {
     let end = Instant::now() + 20 * LEASE;
     while old.members().get(&1).map(|it| it.process) == Some(old.process()) {
         // What changes here it tells, which the old one hears then.
-        control.command(Command::Pause(1)).unwrap();
-        control.command(Command::Resume(1)).unwrap();
+        control.command(ControlCommand::Pause(1)).unwrap();
+        control.command(ControlCommand::Resume(1)).unwrap();
         thread::sleep(LEASE);
         assert!(Instant::now() < end, "it hears nothing");
     }
@@ -372,9 +381,9 @@ fn a_process_whose_name_another_one_has_neither_leads_nor_executes() {
     let (line, mut leader) = (common::line_of(SHARDS, 3), None);
     while leader.is_none() {
         thread::sleep(LEASE / 50);
-        let by_old = Control::campaign(nodes[0].durable.clone(), &line);
+        let by_old = DurableControl::campaign(nodes[0].durable.clone(), &line);
         assert!(!matches!(by_old, Ok(Some(_))), "it leads");
-        leader = Control::campaign(nodes[1].durable.clone(), &line).unwrap();
+        leader = DurableControl::campaign(nodes[1].durable.clone(), &line).unwrap();
         assert!(Instant::now() < end, "nobody leads");
     }
     assert_eq!(told.recv().unwrap(), Err(NotDone::Away(1)));
@@ -429,11 +438,11 @@ fn a_server_is_there_though_the_store_hangs_when_it_tells_something() {
 }
 
 /// Moves shards about as long as it is let.
-fn migrate(mut control: Control, stops: &AtomicBool) -> u64 {
+fn migrate(mut control: DurableControl, stops: &AtomicBool) -> u64 {
     let (mut moves, mut dice) = (0, Dice(5));
     while !stops.load(Ordering::Acquire) {
         let (shard, server) = (moves as u16 % SHARDS, dice.below(3) as u16 + 1);
-        let _ = control.command(Command::PrepareAddShard(shard, server));
+        let _ = control.command(ControlCommand::PrepareAddShard(shard, server));
         settle(&mut control, shard);
         moves += 1;
         thread::sleep(Duration::from_millis(2));
@@ -463,7 +472,7 @@ fn numbered_requests_are_made_once_where_outcomes_are_unknown() {
                     while Instant::now() < end {
                         number += 1;
                         let numbered = Numbered { client, number };
-                        let requests = vec![Request::Add(b"count".as_slice().into(), 1)];
+                        let requests = vec![MapRequest::Add(b"count".as_slice().into(), 1)];
                         let begin = Begin::Numbered(numbered, requests);
                         // Asked twice, anywhere, it replies as it did first.
                         let told: Vec<_> = (0..2)
@@ -479,12 +488,12 @@ fn numbered_requests_are_made_once_where_outcomes_are_unknown() {
                             client,
                             number: number - 1,
                         };
-                        let requests = vec![Request::Add(b"count".as_slice().into(), 1)];
+                        let requests = vec![MapRequest::Add(b"count".as_slice().into(), 1)];
                         let begin = Begin::Numbered(numbered, requests);
                         let again = ask(&nodes[0].durable, shard, begin, None);
                         let is_first = matches!(again, Err(NotDone::NotMade(_))) && number == 1;
                         let is_before =
-                            last.is_some() && again == Ok(vec![Reply::Count(last.unwrap_or(0))]);
+                            last.is_some() && again == Ok(vec![MapReply::Count(last.unwrap_or(0))]);
                         let is_passed = again == Err(NotDone::Passed);
                         assert!(
                             is_first || is_before || is_passed,

@@ -5,7 +5,9 @@ mod common;
 
 use common::cluster::{campaign, Net, Node};
 use common::{add, ask, held, step, write};
-use durkenzo_driver::{keys, Begin, Command, Control, NotDone, Numbered, Reply, Request};
+use durkenzo_driver::{
+    keys, Begin, ControlCommand, DurableControl, MapReply, MapRequest, NotDone, Numbered,
+};
 use durkenzo_store::{Embedded, Store};
 use std::sync::atomic::Ordering;
 use std::sync::mpsc::channel;
@@ -25,7 +27,7 @@ struct Cluster {
     store: Arc<dyn Store>,
     net: Arc<Net>,
     first: Node,
-    control: Control,
+    control: DurableControl,
 }
 
 impl Cluster {
@@ -36,7 +38,7 @@ impl Cluster {
         let first = net.start(&store, 1, 1, |line| Arc::new(line));
         let mut control = campaign(&first);
         control
-            .command(Command::Assign(0, owner))
+            .command(ControlCommand::Assign(0, owner))
             .expect("an owner of the shard");
         Cluster {
             store,
@@ -67,13 +69,15 @@ impl Cluster {
     }
 
     /// Whether a process with server 2, which begins and ends, has writes made.
-    fn writes_anew(&self) -> Result<Vec<Reply>, NotDone> {
+    fn writes_anew(&self) -> Result<Vec<MapReply>, NotDone> {
         let node = self.start(2);
         let key = |at: usize| format!("k{at}").into_bytes().into();
         let told = write(
             &node.durable,
             0,
-            (0..REQUESTS).map(|at| Request::Add(key(at), 1)).collect(),
+            (0..REQUESTS)
+                .map(|at| MapRequest::Add(key(at), 1))
+                .collect(),
         );
         end(&node);
         told
@@ -108,7 +112,7 @@ fn takes_writes_again_once_all_processes_began_again() {
         client: 1,
         number: 1,
     };
-    let begin = Begin::Numbered(numbered, vec![Request::Add(b"k0"[..].into(), 1)]);
+    let begin = Begin::Numbered(numbered, vec![MapRequest::Add(b"k0"[..].into(), 1)]);
     // It waits for nothing.
     assert_eq!(
         ask(&node.durable, 0, begin, None),
@@ -125,12 +129,9 @@ fn takes_writes_again_once_all_processes_began_again() {
     } = cluster;
     drop((first, control));
     let node = net.start(&store, 2, 1, |line| Arc::new(line));
-    let count = FULL as i64 + 1;
-    assert_eq!(
-        add(&node.durable, 0, b"k0", 1),
-        Ok(vec![Reply::Count(count)])
-    );
-    assert_eq!(held(&node.durable, 0, b"k0"), Ok(vec![Reply::Count(count)]));
+    let count = vec![MapReply::Count(FULL as i64 + 1)];
+    assert_eq!(add(&node.durable, 0, b"k0", 1), Ok(count.clone()));
+    assert_eq!(held(&node.durable, 0, b"k0"), Ok(count));
     assert_eq!(node.durable.clients_kept(), 1);
 }
 
@@ -152,7 +153,7 @@ fn keeps_a_number_while_a_round_has_it() {
         released.recv().expect("a test");
     };
     *cluster.first.meanwhile.lock().unwrap() = Some(Box::new(withholds));
-    let begin = Begin::Write(vec![Request::Add(b"k0"[..].into(), 1)]);
+    let begin = Begin::Write(vec![MapRequest::Add(b"k0"[..].into(), 1)]);
     let (step, told) = step(begin, None);
     cluster.first.durable.submit(0, vec![step]);
     entered.recv().expect("a transaction");
@@ -168,11 +169,11 @@ fn keeps_a_number_while_a_round_has_it() {
     until(|| member.processes_kept() == 10);
     release.send(()).expect("a transaction");
     let told = told.recv_timeout(Duration::from_secs(60));
-    assert_eq!(told, Ok(Ok(vec![Reply::Count(1)])));
+    assert_eq!(told, Ok(Ok(vec![MapReply::Count(1)])));
     until(|| cluster.lowest() == Some(taken));
     until(|| member.processes_kept() == 1);
     assert_eq!(
         add(&cluster.first.durable, 0, b"k0", 1),
-        Ok(vec![Reply::Count(2)])
+        Ok(vec![MapReply::Count(2)])
     );
 }

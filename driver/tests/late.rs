@@ -6,7 +6,9 @@ use common::cluster::{append, assign, campaign, settle, Dice, Net, Node};
 use common::late::Late;
 use common::withheld::Withheld;
 use common::{ask, held, write, Told};
-use durkenzo_driver::{Begin, Command, Control, Durable, NotDone, Numbered, Reply, Request};
+use durkenzo_driver::{
+    Begin, ControlCommand, Durable, DurableControl, MapReply, MapRequest, NotDone, Numbered,
+};
 use durkenzo_store::{Embedded, Store};
 use std::sync::atomic::{AtomicBool, Ordering};
 use std::sync::{mpsc, Arc};
@@ -21,7 +23,7 @@ const LASTS: Duration = Duration::from_secs(5);
 type Asked = (u16, String, bool);
 
 /// Moves shards about as long as it is let.
-fn migrate(mut control: Control, stops: &AtomicBool) {
+fn migrate(mut control: DurableControl, stops: &AtomicBool) {
     let mut dice = Dice(5);
     while !stops.load(Ordering::Acquire) {
         let (shard, server) = (
@@ -29,7 +31,7 @@ fn migrate(mut control: Control, stops: &AtomicBool) {
             dice.below(3) as u16 + 1,
         );
         // Where it is there already, it is refused.
-        let _ = control.command(Command::PrepareAddShard(shard, server));
+        let _ = control.command(ControlCommand::PrepareAddShard(shard, server));
         settle(&mut control, shard);
     }
 }
@@ -43,7 +45,7 @@ fn client(nodes: &[Node], client: u64, end: Instant) -> Vec<Asked> {
         let shard = dice.below(u64::from(SHARDS)) as u16;
         let kind = ["once", "plain", "word"][dice.below(3) as usize];
         let name = format!("{kind}.{client}.{number}");
-        let requests = vec![Request::Add(name.as_bytes().into(), 1)];
+        let requests = vec![MapRequest::Add(name.as_bytes().into(), 1)];
         let told = match kind {
             "once" => {
                 let numbered = Numbered { client, number };
@@ -54,7 +56,7 @@ fn client(nodes: &[Node], client: u64, end: Instant) -> Vec<Asked> {
         };
         match &told {
             Ok(replies) if kind == "word" => assert!(replies.len() <= 1),
-            Ok(replies) => assert_eq!(replies, &[Reply::Count(1)], "{name}"),
+            Ok(replies) => assert_eq!(replies, &[MapReply::Count(1)], "{name}"),
             Err(NotDone::Unknown(_)) => {}
             Err(why) => panic!("{name} wasn't done: {why}"),
         }
@@ -69,16 +71,16 @@ fn made(durable: &Durable, shard: u16, name: &str, words: &[String]) -> i64 {
         return words.iter().filter(|it| *it == name).count() as i64;
     }
     match held(durable, shard, name.as_bytes()).as_deref() {
-        Ok([Reply::Count(count)]) => *count,
-        Ok([Reply::Nothing]) => 0,
+        Ok([MapReply::Count(count)]) => *count,
+        Ok([MapReply::Nothing]) => 0,
         other => panic!("{other:?}"),
     }
 }
 
 fn words_of(durable: &Durable, shard: u16) -> Vec<String> {
     let text = match held(durable, shard, b"words").as_deref() {
-        Ok([Reply::Text(text)]) => String::from_utf8(text.clone()).unwrap(),
-        Ok([Reply::Nothing]) => String::new(),
+        Ok([MapReply::Text(text)]) => String::from_utf8(text.clone()).unwrap(),
+        Ok([MapReply::Nothing]) => String::new(),
         other => panic!("{other:?}"),
     };
     text.split_whitespace().map(str::to_owned).collect()
@@ -141,26 +143,26 @@ fn is_made_once(goes_first: bool, ask: impl Fn(&Durable) -> Told + Sync) {
     let second = net.start(&store, 2, 1, |line| Arc::new(line));
     let (is_armed, reading) = told.recv().unwrap();
     let mut control = campaign(&first);
-    control.command(Command::Assign(0, 1)).unwrap();
+    control.command(ControlCommand::Assign(0, 1)).unwrap();
     write(
         &first.durable,
         0,
-        vec![Request::Add(b"a".as_slice().into(), 1)],
+        vec![MapRequest::Add(b"a".as_slice().into(), 1)],
     )
     .unwrap();
     is_armed.store(true, Ordering::Release);
     let told = thread::scope(|scope| {
         let asking = scope.spawn(|| ask(&first.durable));
         reading.await_reading();
-        control.command(Command::Pause(0)).unwrap();
+        control.command(ControlCommand::Pause(0)).unwrap();
         if goes_first {
-            control.command(Command::Reassign(0, 2)).unwrap();
+            control.command(ControlCommand::Reassign(0, 2)).unwrap();
         }
         reading.release();
         if !goes_first {
             // By then what was read has come.
             thread::sleep(Duration::from_millis(50));
-            control.command(Command::Reassign(0, 2)).unwrap();
+            control.command(ControlCommand::Reassign(0, 2)).unwrap();
         }
         asking.join().unwrap()
     });
@@ -174,7 +176,7 @@ fn is_made_once(goes_first: bool, ask: impl Fn(&Durable) -> Told + Sync) {
 #[test]
 fn what_was_made_after_it_was_looked_for_is_not_made_again() {
     for goes_first in [true, false] {
-        let once = || vec![Request::Add(b"once".as_slice().into(), 1)];
+        let once = || vec![MapRequest::Add(b"once".as_slice().into(), 1)];
         is_made_once(goes_first, |durable| write(durable, 0, once()));
         is_made_once(goes_first, |durable| append(durable, 0, b"words", "word"));
     }

@@ -4,7 +4,8 @@ mod common;
 use common::cluster::{assign, campaign, kill, settle, Net, Node, LEASE};
 use common::{add, ask, held, step, Told};
 use durkenzo_driver::{
-    Addresses, Begin, Command, Control, Key, Member, NotDone, Reads, Reply, Request,
+    Addresses, Begin, ControlCommand, DurableControl, Key, MapReply, MapRequest, Member, NotDone,
+    Reads,
 };
 use durkenzo_store::{Embedded, Store, Transaction};
 use std::sync::atomic::Ordering;
@@ -13,7 +14,7 @@ use std::thread;
 use std::time::{Duration, Instant};
 
 /// Three processes, of which each owns a shard, and who leads them.
-fn three(reads: Reads) -> (Vec<Node>, Control) {
+fn three(reads: Reads) -> (Vec<Node>, DurableControl) {
     let store: Arc<dyn Store> = Arc::new(Embedded::in_memory());
     let nodes = Net::of_three_by(&store, 3, reads);
     let mut control = campaign(&nodes[2]);
@@ -25,18 +26,18 @@ fn three(reads: Reads) -> (Vec<Node>, Control) {
 }
 
 /// Has shard 0 go to the second process, as far as that needs nobody to have seen it.
-fn take(control: &mut Control) {
+fn take(control: &mut DurableControl) {
     for step in [
-        Command::PrepareAddShard(0, 2),
-        Command::PrepareDropShard(0),
-        Command::AddShard(0),
+        ControlCommand::PrepareAddShard(0, 2),
+        ControlCommand::PrepareDropShard(0),
+        ControlCommand::AddShard(0),
     ] {
         control.command(step).unwrap();
     }
 }
 
 fn is_count(told: Told, count: i64) -> bool {
-    told == Ok(vec![Reply::Count(count)])
+    told == Ok(vec![MapReply::Count(count)])
 }
 
 /// How many transactions the process makes while it answers so many reads, each of this count.
@@ -105,14 +106,14 @@ fn a_change_that_writes_nothing_is_decided_by_what_is_there() {
     take(&mut control);
     assert!(is_count(add(&nodes[1].durable, 0, b"a", 1), 4));
     let (tell, seen) = mpsc::channel();
-    let decide = move |held: Vec<Reply>| {
-        let [Reply::Count(count)] = held[..] else {
+    let decide = move |held: Vec<MapReply>| {
+        let [MapReply::Count(count)] = held[..] else {
             panic!("{held:?}");
         };
         let _ = tell.send(count);
         match count {
             3 => Vec::new(),
-            other => vec![Request::Add(Key::from(&b"a"[..]), 3 - other)],
+            other => vec![MapRequest::Add(Key::from(&b"a"[..]), 3 - other)],
         }
     };
     let begin = Begin::Change(vec![Key::from(&b"a"[..])]);
@@ -133,9 +134,9 @@ fn a_server_past_its_lease_tells_nothing() {
         assert!(Instant::now() < end);
         thread::sleep(Duration::from_millis(10));
     }
-    control.command(Command::Fail(1)).unwrap();
-    control.command(Command::Pause(0)).unwrap();
-    control.command(Command::Reassign(0, 2)).unwrap();
+    control.command(ControlCommand::Fail(1)).unwrap();
+    control.command(ControlCommand::Pause(0)).unwrap();
+    control.command(ControlCommand::Reassign(0, 2)).unwrap();
     assert!(is_count(add(&nodes[1].durable, 0, b"a", 1), 4));
     let told = held(&nodes[0].durable, 0, b"a");
     assert!(
@@ -152,7 +153,7 @@ fn a_read_sees_the_change_before_it_of_its_client() {
     let (nodes, _control) = three(Reads::Lease);
     transactions(&nodes[0], 2, 3);
     for count in 4..54 {
-        let decide = |_: Vec<Reply>| vec![Request::Add(Key::from(&b"a"[..]), 1)];
+        let decide = |_: Vec<MapReply>| vec![MapRequest::Add(Key::from(&b"a"[..]), 1)];
         let keys = || vec![Key::from(&b"a"[..])];
         let (change, changed) = step(Begin::Change(keys()), Some(Box::new(decide)));
         let (read, told) = step(Begin::Read(keys()), None);

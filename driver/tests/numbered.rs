@@ -3,7 +3,9 @@ mod common;
 
 use common::cluster::{campaign, kill, settle, Net};
 use common::{add, held, led, opened, step, Told};
-use durkenzo_driver::{Begin, Command, Control, Durable, NotDone, Numbered, Reply, Request};
+use durkenzo_driver::{
+    Begin, ControlCommand, Durable, DurableControl, MapReply, MapRequest, NotDone, Numbered,
+};
 use durkenzo_store::{Embedded, Store, Sync};
 use std::sync::Arc;
 use std::thread;
@@ -14,7 +16,7 @@ const MOST: usize = Numbered::MOST_REQUESTS;
 
 fn begin(client: u64, number: u64, requests: usize) -> Begin {
     let key = format!("count.{client}");
-    let add = Request::Add(key.as_bytes().into(), 1);
+    let add = MapRequest::Add(key.as_bytes().into(), 1);
     Begin::Numbered(Numbered { client, number }, vec![add; requests])
 }
 
@@ -32,7 +34,7 @@ fn told_all(durable: &Durable, number: u64) -> Vec<Told> {
 fn counted(number: u64) -> Told {
     let first = (number as i64 - 1) * MOST as i64;
     Ok((1..=MOST as i64)
-        .map(|it| Reply::Count(first + it))
+        .map(|it| MapReply::Count(first + it))
         .collect())
 }
 
@@ -51,7 +53,10 @@ fn all_have_room(store: &Arc<dyn Store>) {
     assert_all(&told_all(&durable, 1), &Err(NotDone::Passed));
     // Others have room beside them.
     for count in 1..=3 {
-        assert_eq!(add(&durable, 0, b"plain", 1), Ok(vec![Reply::Count(count)]));
+        assert_eq!(
+            add(&durable, 0, b"plain", 1),
+            Ok(vec![MapReply::Count(count)])
+        );
     }
     drop(control);
     drop(durable);
@@ -93,7 +98,10 @@ fn what_is_out_of_bounds_is_refused_and_nothing_of_it_is_made() {
             "{told:?}"
         );
         let key = format!("count.{client}");
-        assert_eq!(held(&durable, 0, key.as_bytes()), Ok(vec![Reply::Nothing]));
+        assert_eq!(
+            held(&durable, 0, key.as_bytes()),
+            Ok(vec![MapReply::Nothing])
+        );
     }
     assert_eq!(
         common::ask(&durable, 0, begin(last, 1, MOST), None),
@@ -102,13 +110,13 @@ fn what_is_out_of_bounds_is_refused_and_nothing_of_it_is_made() {
 }
 
 /// Says that the server has failed, as soon as it isn't there.
-fn fail(control: &mut Control, server: u16) {
+fn fail(control: &mut DurableControl, server: u16) {
     let end = Instant::now() + Duration::from_secs(20);
     while control.fallen().unwrap() != Some(server) {
         assert!(Instant::now() < end);
         thread::sleep(Duration::from_millis(10));
     }
-    control.command(Command::Fail(server)).unwrap();
+    control.command(ControlCommand::Fail(server)).unwrap();
 }
 
 #[test]
@@ -116,7 +124,7 @@ fn nothing_is_made_twice_where_the_server_of_the_shard_is_killed() {
     let store: Arc<dyn Store> = Arc::new(Embedded::in_memory());
     let nodes = Net::of_three(&store, 1);
     let mut control = campaign(&nodes[2]);
-    control.command(Command::Assign(0, 1)).unwrap();
+    control.command(ControlCommand::Assign(0, 1)).unwrap();
     assert_all(&told_all(&nodes[1].durable, 1), &counted(1));
     let told = thread::scope(|scope| {
         let asking = scope.spawn(|| told_all(&nodes[1].durable, 2));

@@ -3,7 +3,9 @@ mod common;
 
 use common::handing::{Handed, Handing};
 use common::{add, held, led, opened, step};
-use durkenzo_driver::{Begin, Command, Durable, Key, NotDone, Outcome, Reply, Request, Step, Work};
+use durkenzo_driver::{
+    Begin, ControlCommand, Durable, Key, MapReply, MapRequest, NotDone, Work, WorkOutcome, WorkStep,
+};
 use durkenzo_store::{Done, Embedded, Store, Transaction};
 use std::sync::atomic::{AtomicBool, Ordering};
 use std::sync::mpsc::{Receiver, RecvError, RecvTimeoutError, TryRecvError};
@@ -19,7 +21,7 @@ const PATIENCE: Duration = Duration::from_secs(10);
 
 /// An addition to this key.
 fn addition(name: &str) -> Begin {
-    Begin::Write(vec![Request::Add(Key::from(name.as_bytes()), 1)])
+    Begin::Write(vec![MapRequest::Add(Key::from(name.as_bytes()), 1)])
 }
 
 /// Work that somebody waits for as long as this says so.
@@ -29,7 +31,7 @@ struct Awaited {
 }
 
 impl Work for Awaited {
-    fn decide(&mut self, held: Vec<Reply>) -> Vec<Request> {
+    fn decide(&mut self, held: Vec<MapReply>) -> Vec<MapRequest> {
         self.work.decide(held)
     }
 
@@ -45,7 +47,7 @@ impl Work for Awaited {
         self.work.answered(answer);
     }
 
-    fn end(self: Box<Self>, outcome: Outcome) {
+    fn end(self: Box<Self>, outcome: WorkOutcome) {
         self.work.end(outcome);
     }
 }
@@ -54,11 +56,11 @@ impl Work for Awaited {
 fn awaited(
     begin: Begin,
     is_wanted: &Arc<AtomicBool>,
-) -> (Step, Receiver<Result<Vec<Reply>, NotDone>>) {
-    let (Step { begin, work }, told) = step(begin, None);
+) -> (WorkStep, Receiver<Result<Vec<MapReply>, NotDone>>) {
+    let (WorkStep { begin, work }, told) = step(begin, None);
     let is_wanted = is_wanted.clone();
     let work = Box::new(Awaited { work, is_wanted });
-    (Step { begin, work }, told)
+    (WorkStep { begin, work }, told)
 }
 
 #[test]
@@ -67,7 +69,7 @@ fn what_nobody_waits_for_any_more_is_dropped() {
     let durable = Arc::new(opened(&store, 1));
     let mut control = led(&durable);
     add(&durable, 0, b"a", 1).unwrap();
-    control.command(Command::Pause(0)).unwrap();
+    control.command(ControlCommand::Pause(0)).unwrap();
     let is_wanted = [true, false, true].map(|it| Arc::new(AtomicBool::new(it)));
     let [gone, late] = [(); 2].map(|()| Arc::new(AtomicBool::new(true)));
     let (mut steps, mut told): (Vec<_>, Vec<_>) = is_wanted
@@ -84,12 +86,12 @@ fn what_nobody_waits_for_any_more_is_dropped() {
     let (later, of_later) = awaited(addition("a"), &late);
     durable.submit(0, vec![later]);
     late.store(false, Ordering::Release);
-    control.command(Command::Resume(0)).unwrap();
-    assert_eq!(told.remove(2).recv().unwrap(), Ok(vec![Reply::Count(3)]));
-    assert_eq!(told.remove(0).recv().unwrap(), Ok(vec![Reply::Count(2)]));
+    control.command(ControlCommand::Resume(0)).unwrap();
+    assert_eq!(told.remove(2).recv().unwrap(), Ok(vec![MapReply::Count(3)]));
+    assert_eq!(told.remove(0).recv().unwrap(), Ok(vec![MapReply::Count(2)]));
     assert_eq!(told.remove(0).try_recv(), Err(TryRecvError::Disconnected));
     assert_eq!(of_later.recv(), Err(RecvError));
-    assert_eq!(held(&durable, 0, b"a"), Ok(vec![Reply::Count(3)]));
+    assert_eq!(held(&durable, 0, b"a"), Ok(vec![MapReply::Count(3)]));
 }
 
 #[test]
@@ -182,5 +184,5 @@ fn who_asks_for_little_waits_behind_nobody_who_asks_for_much() {
         assert!(told.recv().unwrap().is_ok());
     }
     let sum = 1 + 1 + 50 * 128 + 1;
-    assert_eq!(held(&durable, 0, b"a"), Ok(vec![Reply::Count(sum)]));
+    assert_eq!(held(&durable, 0, b"a"), Ok(vec![MapReply::Count(sum)]));
 }

@@ -3,7 +3,7 @@ mod common;
 
 use common::handing::{Handed, Handing};
 use common::{add, ask, held, led, opened, step, write};
-use durkenzo_driver::{Begin, Command, Durable, Key, NotDone, Reply, Request, Tuning};
+use durkenzo_driver::{Begin, ControlCommand, Durable, Key, MapReply, MapRequest, NotDone, Tuning};
 use durkenzo_store::{Embedded, ReadError, Reading, Store};
 use std::sync::atomic::{AtomicU64, Ordering};
 use std::sync::Arc;
@@ -21,28 +21,28 @@ fn what_is_written_together_is_read_together() {
     let _control = led(&durable);
     let text = vec![7; 65_535];
     let requests = vec![
-        Request::Put(key("a"), text.clone()),
-        Request::Add(key("b"), -3),
-        Request::Append(key("c"), b"x".to_vec()),
-        Request::Delete(key("d")),
-        Request::Add(key("a"), 1),
-        Request::Append(key("a"), b"x".to_vec()),
+        MapRequest::Put(key("a"), text.clone()),
+        MapRequest::Add(key("b"), -3),
+        MapRequest::Append(key("c"), b"x".to_vec()),
+        MapRequest::Delete(key("d")),
+        MapRequest::Add(key("a"), 1),
+        MapRequest::Append(key("a"), b"x".to_vec()),
     ];
     let replied = vec![
-        Reply::Done,
-        Reply::Count(-3),
-        Reply::Done,
-        Reply::Nothing,
-        Reply::WrongKind,
-        Reply::TooLong,
+        MapReply::Done,
+        MapReply::Count(-3),
+        MapReply::Done,
+        MapReply::Nothing,
+        MapReply::WrongKind,
+        MapReply::TooLong,
     ];
     assert_eq!(write(&durable, 0, requests), Ok(replied));
     let keys = ["a", "b", "c", "d"].map(key).to_vec();
     let found = vec![
-        Reply::Text(text),
-        Reply::Count(-3),
-        Reply::Text(b"x".to_vec()),
-        Reply::Nothing,
+        MapReply::Text(text),
+        MapReply::Count(-3),
+        MapReply::Text(b"x".to_vec()),
+        MapReply::Nothing,
     ];
     assert_eq!(ask(&durable, 0, Begin::Read(keys), None), Ok(found));
 }
@@ -52,15 +52,15 @@ fn a_run_sees_its_own_writes_in_order() {
     let store: Arc<dyn Store> = Arc::new(Embedded::in_memory());
     let durable = Arc::new(opened(&store, 1));
     let _control = led(&durable);
-    let doubled = |held: Vec<Reply>| match held[..] {
-        [Reply::Count(count)] => vec![Request::Add(key("a"), count)],
+    let doubled = |held: Vec<MapReply>| match held[..] {
+        [MapReply::Count(count)] => vec![MapRequest::Add(key("a"), count)],
         _ => panic!("{held:?}"),
     };
     let begins = [
-        (Begin::Write(vec![Request::Add(key("a"), 5)]), false),
+        (Begin::Write(vec![MapRequest::Add(key("a"), 5)]), false),
         (Begin::Read(vec![key("a")]), false),
         (Begin::Change(vec![key("a")]), true),
-        (Begin::Write(vec![Request::Add(key("a"), 1)]), false),
+        (Begin::Write(vec![MapRequest::Add(key("a"), 1)]), false),
         (Begin::Read(vec![key("a")]), false),
     ];
     let (mut steps, mut told) = (Vec::new(), Vec::new());
@@ -74,7 +74,7 @@ fn a_run_sees_its_own_writes_in_order() {
         .into_iter()
         .map(|it| it.recv().unwrap().unwrap())
         .collect();
-    let counts = [5, 5, 10, 11, 11].map(|it| vec![Reply::Count(it)]);
+    let counts = [5, 5, 10, 11, 11].map(|it| vec![MapReply::Count(it)]);
     assert_eq!(told, counts);
 }
 
@@ -89,12 +89,12 @@ fn changes_lose_no_other_write() {
             scope.spawn(|| {
                 for _ in 0..300 {
                     // Writes the sum whole, so that another write in between would be lost.
-                    let decide = |held: Vec<Reply>| {
+                    let decide = |held: Vec<MapReply>| {
                         let sum = match held[..] {
-                            [Reply::Count(sum)] => sum + 1,
+                            [MapReply::Count(sum)] => sum + 1,
                             _ => 1,
                         };
-                        vec![Request::Delete(key("a")), Request::Add(key("a"), sum)]
+                        vec![MapRequest::Delete(key("a")), MapRequest::Add(key("a"), sum)]
                     };
                     let begin = Begin::Change(vec![key("a")]);
                     ask(&durable, 0, begin, Some(Box::new(decide))).unwrap();
@@ -102,7 +102,7 @@ fn changes_lose_no_other_write() {
             });
         }
     });
-    assert_eq!(held(&durable, 0, b"a"), Ok(vec![Reply::Count(2_400)]));
+    assert_eq!(held(&durable, 0, b"a"), Ok(vec![MapReply::Count(2_400)]));
 }
 
 #[test]
@@ -117,16 +117,16 @@ fn what_nobody_executes_waits_and_is_refused_by_its_reason() {
     assert_eq!(add(&durable, 0, b"a", 1), Err(NotDone::Vacant));
     let mut control = led(&durable);
     assert!(add(&durable, 0, b"a", 1).is_ok());
-    control.command(Command::Pause(0)).unwrap();
+    control.command(ControlCommand::Pause(0)).unwrap();
     assert_eq!(add(&durable, 0, b"a", 1), Err(NotDone::Paused));
-    let (one, told) = step(Begin::Write(vec![Request::Add(key("a"), 1)]), None);
+    let (one, told) = step(Begin::Write(vec![MapRequest::Add(key("a"), 1)]), None);
     durable.submit(0, vec![one]);
-    control.command(Command::Resume(0)).unwrap();
-    assert_eq!(told.recv().unwrap(), Ok(vec![Reply::Count(2)]));
+    control.command(ControlCommand::Resume(0)).unwrap();
+    assert_eq!(told.recv().unwrap(), Ok(vec![MapReply::Count(2)]));
     durable.set_away(1, true);
     assert_eq!(add(&durable, 0, b"a", 1), Err(NotDone::Away(1)));
     durable.set_away(1, false);
-    assert_eq!(add(&durable, 0, b"a", 1), Ok(vec![Reply::Count(3)]));
+    assert_eq!(add(&durable, 0, b"a", 1), Ok(vec![MapReply::Count(3)]));
     durable.stop();
     assert_eq!(add(&durable, 0, b"a", 1), Err(NotDone::Stopped));
 }
@@ -139,8 +139,8 @@ fn a_base_stands_for_what_was_made_before() {
     let text = vec![7; 60_000];
     for number in 0..40 {
         let requests = vec![
-            Request::Put(key(&format!("text {number}")), text.clone()),
-            Request::Add(key("count"), 1),
+            MapRequest::Put(key(&format!("text {number}")), text.clone()),
+            MapRequest::Add(key("count"), 1),
         ];
         write(&durable, 0, requests).unwrap();
         thread::sleep(Duration::from_millis(5));
@@ -156,9 +156,9 @@ fn a_base_stands_for_what_was_made_before() {
     let durable = Arc::new(opened(&store, 1));
     let keys = ["text 0", "text 39", "count"].map(key).to_vec();
     let found = vec![
-        Reply::Text(text.clone()),
-        Reply::Text(text),
-        Reply::Count(40),
+        MapReply::Text(text.clone()),
+        MapReply::Text(text),
+        MapReply::Count(40),
     ];
     assert_eq!(ask(&durable, 0, Begin::Read(keys), None), Ok(found));
 }
@@ -194,7 +194,7 @@ fn a_long_log_is_read_in_few_pages() {
     let ranges = AtomicU64::new(0);
     let counting = Arc::new(Handed(Counting { store, ranges }));
     let durable = opened(counting.clone());
-    assert_eq!(held(&durable, 0, b"a"), Ok(vec![Reply::Count(900)]));
+    assert_eq!(held(&durable, 0, b"a"), Ok(vec![MapReply::Count(900)]));
     // One of 64, one of 128, and three of 256.
     assert_eq!(counting.ranges.load(Ordering::Relaxed), 5);
 }
@@ -207,12 +207,12 @@ fn is_there_after_compacting(store: &Arc<dyn Store>) {
         (0..30).for_each(|_| drop(add(&durable, shard, b"a", 1).unwrap()));
     }
     durable.compact().unwrap();
-    assert_eq!(held(&durable, 0, b"a"), Ok(vec![Reply::Count(30)]));
-    assert_eq!(add(&durable, 1, b"a", 1), Ok(vec![Reply::Count(31)]));
+    assert_eq!(held(&durable, 0, b"a"), Ok(vec![MapReply::Count(30)]));
+    assert_eq!(add(&durable, 1, b"a", 1), Ok(vec![MapReply::Count(31)]));
     durable.stop();
     let durable = opened(store, 2);
-    assert_eq!(held(&durable, 0, b"a"), Ok(vec![Reply::Count(30)]));
-    assert_eq!(held(&durable, 1, b"a"), Ok(vec![Reply::Count(31)]));
+    assert_eq!(held(&durable, 0, b"a"), Ok(vec![MapReply::Count(30)]));
+    assert_eq!(held(&durable, 1, b"a"), Ok(vec![MapReply::Count(31)]));
     durable.stop();
 }
 
@@ -232,7 +232,7 @@ fn compacting_keeps_what_a_folder_has() {
     // SQLite reads its file anew.
     let store: Arc<dyn Store> = Arc::new(open());
     let durable = opened(&store, 2);
-    assert_eq!(held(&durable, 0, b"a"), Ok(vec![Reply::Count(30)]));
+    assert_eq!(held(&durable, 0, b"a"), Ok(vec![MapReply::Count(30)]));
     drop(durable);
     drop(store);
     std::fs::remove_dir_all(folder).unwrap();

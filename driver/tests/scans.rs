@@ -2,7 +2,9 @@
 mod common;
 
 use common::{ask, led, opened, write, Uncertain};
-use durkenzo_driver::{Begin, Command, Control, Durable, Key, NotDone, Range, Reply, Request};
+use durkenzo_driver::{
+    Begin, ControlCommand, Durable, DurableControl, Key, MapReply, MapRequest, NotDone, Range,
+};
 use durkenzo_store::{Embedded, Store};
 use std::collections::BTreeMap;
 use std::sync::Arc;
@@ -18,17 +20,17 @@ fn range(low: &[u8], high: Option<&[u8]>, most: usize) -> Begin {
 }
 
 /// The pairs that a scan gives.
-fn scanned(durable: &Durable, begin: Begin) -> Vec<(Key, Reply)> {
+fn scanned(durable: &Durable, begin: Begin) -> Vec<(Key, MapReply)> {
     let replies = ask(durable, 0, begin, None).expect("pairs");
     let pair = |it| match it {
-        Reply::Pair(key, held) => (key, *held),
+        MapReply::Pair(key, held) => (key, *held),
         other => panic!("{other:?} isn't a pair"),
     };
     replies.into_iter().map(pair).collect()
 }
 
 /// All pairs, some at a time.
-fn all(durable: &Durable) -> Vec<(Key, Reply)> {
+fn all(durable: &Durable) -> Vec<(Key, MapReply)> {
     let (mut found, mut low) = (Vec::new(), Vec::new());
     loop {
         let pairs = scanned(durable, range(&low, None, 7));
@@ -49,7 +51,7 @@ fn keys(durable: &Durable) -> Vec<Key> {
     };
     let replies = ask(durable, 0, Begin::Keys(range), None).expect("keys");
     let key = |it| match it {
-        Reply::Key(key) => key,
+        MapReply::Key(key) => key,
         other => panic!("{other:?} isn't a key"),
     };
     replies.into_iter().map(key).collect()
@@ -57,7 +59,7 @@ fn keys(durable: &Durable) -> Vec<Key> {
 
 fn count(durable: &Durable) -> i64 {
     match ask(durable, 0, Begin::Count, None).as_deref() {
-        Ok([Reply::Count(count)]) => *count,
+        Ok([MapReply::Count(count)]) => *count,
         other => panic!("{other:?}"),
     }
 }
@@ -76,30 +78,30 @@ impl Chance {
 }
 
 /// A request of few keys.
-fn by_chance(chance: &mut Chance) -> Request {
+fn by_chance(chance: &mut Chance) -> MapRequest {
     let key: Key = format!("key {}", chance.below(40)).into_bytes().into();
     match chance.below(7) {
-        0 => Request::Put(key, vec![b'x'; chance.below(9) as usize]),
-        1 => Request::Append(key, b"y".to_vec()),
-        2 => Request::Add(key, 5),
-        3 => Request::Add(key, i64::MAX),
-        4 => Request::Put(key, vec![0; 65_536]),
-        _ => Request::Delete(key),
+        0 => MapRequest::Put(key, vec![b'x'; chance.below(9) as usize]),
+        1 => MapRequest::Append(key, b"y".to_vec()),
+        2 => MapRequest::Add(key, 5),
+        3 => MapRequest::Add(key, i64::MAX),
+        4 => MapRequest::Put(key, vec![0; 65_536]),
+        _ => MapRequest::Delete(key),
     }
 }
 
 /// What each of the keys holds that were ever written, read one by one.
-fn read(durable: &Durable) -> BTreeMap<Key, Reply> {
+fn read(durable: &Durable) -> BTreeMap<Key, MapReply> {
     let keys: Vec<Key> = (0..40)
         .map(|it| format!("key {it}").into_bytes().into())
         .collect();
     let held = ask(durable, 0, Begin::Read(keys.clone()), None).expect("what they hold");
     let pairs = keys.into_iter().zip(held);
-    pairs.filter(|it| it.1 != Reply::Nothing).collect()
+    pairs.filter(|it| it.1 != MapReply::Nothing).collect()
 }
 
 /// Writes by chance, while the shard moves; what is scanned is what is read.
-fn writes_by_chance(durable: &Durable, control: &mut Control, seed: u64) {
+fn writes_by_chance(durable: &Durable, control: &mut DurableControl, seed: u64) {
     let mut chance = Chance(seed);
     for step in 0..60 {
         let requests = (0..1 + chance.below(5))
@@ -118,14 +120,14 @@ fn writes_by_chance(durable: &Durable, control: &mut Control, seed: u64) {
 }
 
 /// Has the shard go to the other server.
-fn moves(control: &mut Control) {
+fn moves(control: &mut DurableControl) {
     let record = control.record(0).expect("a record").expect("a record");
     let to = 3 - record.owner().expect("an owner");
     let steps = [
-        Command::PrepareAddShard(0, to),
-        Command::PrepareDropShard(0),
-        Command::AddShard(0),
-        Command::DropShard(0),
+        ControlCommand::PrepareAddShard(0, to),
+        ControlCommand::PrepareDropShard(0),
+        ControlCommand::AddShard(0),
+        ControlCommand::DropShard(0),
     ];
     for step in steps {
         control.command(step).expect("a step of the migration");
@@ -164,7 +166,7 @@ fn keys_are_those_of_a_base_of_several_parts_after_a_start() {
     let durable = Arc::new(opened(&store, 1));
     let _control = led(&durable);
     for key in &keys {
-        let put = Request::Put(key.clone(), vec![key[0]; 60_000 + usize::from(key[0])]);
+        let put = MapRequest::Put(key.clone(), vec![key[0]; 60_000 + usize::from(key[0])]);
         write(&durable, 0, vec![put]).unwrap();
     }
     durable.compact().unwrap();
@@ -189,7 +191,9 @@ fn ranges_have_bounds_and_a_most() {
     let durable = Arc::new(opened(&store, 1));
     let _control = led(&durable);
     let keys: Vec<Key> = (0..150_u8).map(|it| Key::from([it, 255])).collect();
-    let puts = keys.iter().map(|it| Request::Put(it.clone(), it.to_vec()));
+    let puts = keys
+        .iter()
+        .map(|it| MapRequest::Put(it.clone(), it.to_vec()));
     write(&durable, 0, puts.collect()).unwrap();
     let of = |begin| {
         scanned(&durable, begin)
@@ -218,9 +222,9 @@ fn scans_go_with_writes_of_others() {
     thread::scope(|scope| {
         let writer = scope.spawn(|| {
             for it in 0..300 {
-                let puts = both(it).map(|it| Request::Put(it, Vec::new()));
+                let puts = both(it).map(|it| MapRequest::Put(it, Vec::new()));
                 write(&durable, 0, puts.into()).unwrap();
-                let deletes = both(it).map(Request::Delete);
+                let deletes = both(it).map(MapRequest::Delete);
                 write(&durable, 0, deletes.into()).unwrap();
             }
         });
@@ -240,11 +244,11 @@ fn a_scan_waits_for_a_paused_shard() {
     let durable = Arc::new(opened(&store, 1));
     let mut control = led(&durable);
     let (step, told) = common::step(Begin::Count, None);
-    control.command(Command::Pause(0)).unwrap();
+    control.command(ControlCommand::Pause(0)).unwrap();
     durable.submit(0, vec![step]);
     assert!(told.recv_timeout(Duration::from_millis(100)).is_err());
-    control.command(Command::Resume(0)).unwrap();
-    assert_eq!(told.recv().unwrap(), Ok(vec![Reply::Count(0)]));
+    control.command(ControlCommand::Resume(0)).unwrap();
+    assert_eq!(told.recv().unwrap(), Ok(vec![MapReply::Count(0)]));
     durable.stop();
     let told = ask(&durable, 0, Begin::Count, None);
     assert_eq!(told, Err(NotDone::Stopped));

@@ -3,7 +3,7 @@ mod common;
 
 use common::handing::{Handed, Handing};
 use common::{ask, held, led, opened, step, write, Decide, Told};
-use durkenzo_driver::{Begin, Durable, Key, NotDone, Reply, Request};
+use durkenzo_driver::{Begin, CompactFault, Durable, Key, MapReply, MapRequest, NotDone};
 use durkenzo_store::{Done, Embedded, Room, Store, Transaction, WriteError};
 use std::sync::atomic::{AtomicU64, AtomicUsize, Ordering};
 use std::sync::mpsc::Receiver;
@@ -80,14 +80,14 @@ fn submit(durable: &Durable, begin: Begin, decide: Option<Decide>) -> Receiver<T
     told
 }
 
-fn texts(client: usize, count: usize) -> Vec<Request> {
-    let texts = (0..count).map(|it| Request::Put(key(client, it), vec![7; TEXT]));
+fn texts(client: usize, count: usize) -> Vec<MapRequest> {
+    let texts = (0..count).map(|it| MapRequest::Put(key(client, it), vec![7; TEXT]));
     texts.collect()
 }
 
 /// A change of a client that writes so many texts by what one key holds.
 fn change(durable: &Durable, client: usize, count: usize) -> Receiver<Told> {
-    let decide = move |_: Vec<Reply>| texts(client, count);
+    let decide = move |_: Vec<MapReply>| texts(client, count);
     let begin = Begin::Change(vec![key(client, 0)]);
     submit(durable, begin, Some(Box::new(decide)))
 }
@@ -100,7 +100,7 @@ fn told(it: &Receiver<Told>) -> Told {
 fn count_of(durable: &Durable, client: usize, count: usize) -> usize {
     let keys = (0..count).map(|it| key(client, it)).collect();
     let found = ask(durable, 0, Begin::Read(keys), None).unwrap();
-    found.iter().filter(|it| **it != Reply::Nothing).count()
+    found.iter().filter(|it| **it != MapReply::Nothing).count()
 }
 
 #[test]
@@ -109,7 +109,7 @@ fn what_changes_decide_is_written_whole_in_bounded_batches() {
     let asked: Vec<_> = (0..12).map(|it| change(&durable, it, 16)).collect();
     let _control = led(&durable);
     for (client, it) in asked.iter().enumerate() {
-        assert_eq!(told(it), Ok(vec![Reply::Done; 16]));
+        assert_eq!(told(it), Ok(vec![MapReply::Done; 16]));
         assert_eq!(count_of(&durable, client, 16), 16);
     }
     let made = scant.made.lock().unwrap();
@@ -145,10 +145,10 @@ fn many_small_writes_fit_a_store_that_takes_little() {
         asked.push(submit(&durable, Begin::Write(texts(client, 2)), None));
     }
     let _control = led(&durable);
-    assert_eq!(told(&read), Ok(vec![Reply::Nothing]));
+    assert_eq!(told(&read), Ok(vec![MapReply::Nothing]));
     for (client, it) in asked.iter().enumerate() {
         let count = 1 + client / 30;
-        assert_eq!(told(it), Ok(vec![Reply::Done; count]), "{client}");
+        assert_eq!(told(it), Ok(vec![MapReply::Done; count]), "{client}");
         assert_eq!(count_of(&durable, client, count), count);
     }
 }
@@ -162,9 +162,9 @@ fn only_what_is_too_large_alone_is_refused() {
     let small = submit(&durable, Begin::Write(texts(3, 3)), None);
     let read = submit(&durable, Begin::Read(vec![key(9, 0)]), None);
     let _control = led(&durable);
-    assert_eq!(told(&read), Ok(vec![Reply::Nothing]));
-    assert_eq!(told(&small), Ok(vec![Reply::Done; 3]));
-    assert_eq!(told(&change_of_one), Ok(vec![Reply::Done]));
+    assert_eq!(told(&read), Ok(vec![MapReply::Nothing]));
+    assert_eq!(told(&small), Ok(vec![MapReply::Done; 3]));
+    assert_eq!(told(&change_of_one), Ok(vec![MapReply::Done]));
     for (client, it) in [(0, large), (2, large_change)] {
         let outcome = told(&it);
         assert!(matches!(outcome, Err(NotDone::TooLarge(_))), "{outcome:?}");
@@ -176,8 +176,10 @@ fn only_what_is_too_large_alone_is_refused() {
 fn what_no_batch_holds_is_refused_before_it_is_sent() {
     let (scant, durable) = opened_over(usize::MAX, usize::MAX);
     let _control = led(&durable);
-    let many = (0..5_000).map(|it| Request::Add(key(0, it), 1)).collect();
-    let long = vec![Request::Put(key(1, 0), vec![7; 9 << 20])];
+    let many = (0..5_000)
+        .map(|it| MapRequest::Add(key(0, it), 1))
+        .collect();
+    let long = vec![MapRequest::Put(key(1, 0), vec![7; 9 << 20])];
     for requests in [many, long, texts(2, 150)] {
         let by_change = requests.clone();
         let decide = Box::new(move |_| by_change.clone());
@@ -230,7 +232,7 @@ fn reads_go_on_beside_writes_that_never_end() {
             });
         }
         for _ in 0..100 {
-            assert_eq!(held(&durable, 0, b"a"), Ok(vec![Reply::Nothing]));
+            assert_eq!(held(&durable, 0, b"a"), Ok(vec![MapReply::Nothing]));
         }
     });
 }
@@ -241,7 +243,7 @@ fn deletions_go_on_where_the_store_is_full() {
     let (_scant, durable) = opened_over(usize::MAX, 0);
     let (mut deletes, mut writes) = (Vec::new(), Vec::new());
     for client in 0..20 {
-        let delete = |number| Request::Delete(key(client, number));
+        let delete = |number| MapRequest::Delete(key(client, number));
         writes.push(submit(&durable, Begin::Write(texts(client, 1)), None));
         let both = vec![delete(1), delete(2)];
         deletes.push(submit(&durable, Begin::Write(both), None));
@@ -251,7 +253,7 @@ fn deletions_go_on_where_the_store_is_full() {
     }
     let _control = led(&durable);
     for it in &deletes {
-        assert_eq!(told(it), Ok(vec![Reply::Nothing; 2]));
+        assert_eq!(told(it), Ok(vec![MapReply::Nothing; 2]));
     }
     for it in &writes {
         let outcome = told(it);
@@ -269,8 +271,8 @@ fn deletions_have_a_full_store_make_room_beside_refused_writes() {
     scant.room.store(0, Ordering::Release);
     let refused = write(&durable, 0, texts(1, 1));
     assert!(matches!(refused, Err(NotDone::Full(_))), "{refused:?}");
-    let deletes = (0..8).map(|it| Request::Delete(key(0, it))).collect();
-    assert_eq!(write(&durable, 0, deletes), Ok(vec![Reply::Done; 8]));
+    let deletes = (0..8).map(|it| MapRequest::Delete(key(0, it))).collect();
+    assert_eq!(write(&durable, 0, deletes), Ok(vec![MapReply::Done; 8]));
     let batches = || scant.store.read_keys(b"batch/", b"batch0").unwrap().len();
     let end = Instant::now() + Duration::from_secs(60);
     while batches() > 0 {
@@ -291,7 +293,8 @@ fn a_base_without_room_is_not_begun() {
     assert!(write(&durable, 0, texts(0, 8)).is_ok());
     let parts = || scant.store.read_keys(b"base/", b"base0").unwrap().len();
     scant.left.store(8 * TEXT as u64, Ordering::Release);
-    durable.compact().expect("it is tried");
+    let told = durable.compact();
+    assert!(matches!(told, Err(CompactFault::NoBase(1))), "{told:?}");
     assert_eq!(parts(), 0);
     scant.left.store(16 * TEXT as u64, Ordering::Release);
     durable.compact().expect("it is done");

@@ -6,15 +6,12 @@ mod common;
 
 use beside::Member;
 use common::{held, opened};
-use durkenzo_driver::{keys, Command, Control, Durable, Reply};
+use durkenzo_driver::{keys, ControlCommand, Durable, DurableControl, MapReply};
 use durkenzo_store::{Embedded, Outcome, Store, Sync, Transaction};
 use std::collections::BTreeMap;
 use std::fs;
 use std::path::{Path, PathBuf};
 use std::sync::Arc;
-
-/// The states of servers, by their numbers.
-const STATES: [&str; 5] = ["up", "asked", "approved", "stopped", "failed"];
 
 /// The folders of the versions.
 fn versions() -> Vec<PathBuf> {
@@ -91,17 +88,19 @@ fn is_read(store: Arc<dyn Store>, told: &Told) {
     let settings = String::from_utf8(settings).expect("settings");
     let line = settings.split_once('\n').expect("a rule and a line").1;
     let durable = Arc::new(opened(&store, told.shards.len() as u16));
-    let mut control = Control::lead(durable.clone(), line).expect("a control");
+    let mut control = DurableControl::lead(durable.clone(), line).expect("a control");
     for (shard, wanted) in &told.shards {
         assert_eq!(&standing(&durable, *shard), wanted, "shard {shard}");
     }
     for (server, wanted) in &told.servers {
         let state = control.state_of(*server).expect("a state");
-        assert_eq!(STATES[usize::from(state)], wanted, "server {server}");
+        assert_eq!(state.name(), wanted, "server {server}");
     }
     for (shard, stood) in &told.shards {
         if stood.starts_with("Paused") {
-            control.command(Command::Resume(*shard)).expect("a change");
+            control
+                .command(ControlCommand::Resume(*shard))
+                .expect("a change");
         }
     }
     for (key, (shard, wanted)) in &told.values {
@@ -109,9 +108,9 @@ fn is_read(store: Arc<dyn Store>, told: &Told) {
             .expect("a reply")
             .remove(0);
         let found = match reply {
-            Reply::Nothing => None,
-            Reply::Text(text) => Some(text),
-            Reply::Count(count) => Some(count.to_string().into_bytes()),
+            MapReply::Nothing => None,
+            MapReply::Text(text) => Some(text),
+            MapReply::Count(count) => Some(count.to_string().into_bytes()),
             other => panic!("{key}: {other:?}"),
         };
         assert_eq!(&found, wanted, "{key}");

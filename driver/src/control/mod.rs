@@ -1,9 +1,10 @@
-mod wishing;
+mod intents;
 
-use crate::command::{Command, Next};
-use crate::proved::{Director, Sending};
-use crate::{keys, CoreFault, Durable, Live, Refused};
-use durkenzo::{word, Record, Stand};
+use crate::command::{ControlCommand, Next};
+use crate::plan::planned;
+use crate::proved::{CommandTransaction, Director};
+use crate::{keys, CoreFault, Durable, Live, Refused, ServerState};
+use durkenzo::{word, Plan, Record, Stand};
 use durkenzo_store::{Outcome, Reading, Revision, Transaction, WriteError};
 use std::fmt;
 use std::sync::Arc;
@@ -11,33 +12,32 @@ use std::sync::Arc;
 /// How often a command is sent again that another one came before, or of which it isn't known what became.
 const TRIES: u32 = 8;
 
-/// The number of the state of a server that is up.
-const UP: u8 = 0;
-
 /// The control over a store for this process: what it sends and what comes next, the proved one decides.
-pub struct Control {
+pub struct DurableControl {
     durable: Arc<Durable>,
     director: Director,
+    /// The settings, as a line.
+    line: Box<str>,
     servers: u16,
     /// The revision of the leader's key.
     elected: Revision,
     /// When records and states were written, as far as the director has read or made them.
-    written: Written,
+    written: WrittenRevisions,
     /// Whether all is to be read again.
     is_behind: bool,
     /// How often servers' keys had changed when it was read who follows; none where that is to be read again.
     followers: Option<u64>,
 }
 
-impl Control {
+impl DurableControl {
     /// Has this process lead the store that the line of settings describes, whoever led it.
     ///
     /// # Errors
     ///
     /// Where the store can't be read or written, or what lies there isn't of these settings.
-    pub fn lead(durable: Arc<Durable>, line: &str) -> Result<Control, Refused> {
+    pub fn lead(durable: Arc<Durable>, line: &str) -> Result<DurableControl, Refused> {
         let elected = elect(&durable)?;
-        Control::elected(durable, line, elected)
+        DurableControl::elected(durable, line, elected)
     }
 
     /// Has this process lead the store that the line of settings describes, where no other one does: its key lies under
@@ -45,23 +45,28 @@ impl Control {
     ///
     /// # Errors
     ///
-    /// As for [`Control::lead`]; `NotLeader` where the process has no server with a lease now.
-    pub fn campaign(durable: Arc<Durable>, line: &str) -> Result<Option<Control>, Refused> {
+    /// As for [`DurableControl::lead`]; `NotLeader` where the process has no server with a lease now.
+    pub fn campaign(durable: Arc<Durable>, line: &str) -> Result<Option<DurableControl>, Refused> {
         match campaigned(&durable)? {
-            Some(elected) => Control::elected(durable, line, elected).map(Some),
+            Some(elected) => DurableControl::elected(durable, line, elected).map(Some),
             None => Ok(None),
         }
     }
 
-    fn elected(durable: Arc<Durable>, line: &str, elected: Revision) -> Result<Control, Refused> {
+    fn elected(
+        durable: Arc<Durable>,
+        line: &str,
+        elected: Revision,
+    ) -> Result<DurableControl, Refused> {
         let director = Director::new(line, durable.process(), elected).map_err(Refused::of)?;
         let servers = u16::try_from(director.servers()).unwrap_or(u16::MAX);
-        let mut control = Control {
+        let mut control = DurableControl {
             durable,
             director,
+            line: line.into(),
             servers,
             elected,
-            written: Written::default(),
+            written: WrittenRevisions::default(),
             is_behind: true,
             followers: None,
         };
@@ -72,7 +77,8 @@ impl Control {
         Ok(control)
     }
 
-    /// The first server to which requests go and that isn't there: [`Command::Fail`] says that it has failed.
+    /// The first server to which requests go and that isn't there: [`ControlCommand::Fail`] says that it has failed,
+    /// and is refused if it is there again.
     ///
     /// # Errors
     ///
@@ -83,9 +89,14 @@ impl Control {
         self.director.fallen().map_err(Refused::of)
     }
 
-    /// The number of servers.
+    /// Returns the number of servers.
     pub fn servers(&self) -> u16 {
         self.servers
+    }
+
+    /// Returns the number of shards.
+    pub fn shards(&self) -> u16 {
+        self.durable.shards()
     }
 
     /// Reads records and states where that is due.
@@ -123,7 +134,7 @@ impl Control {
         let mut pairs = reading.pairs.iter().peekable();
         let mut next = |key: &[u8]| pairs.next_if(|it| it.key == key);
         let placed = next(keys::COMMANDS).map_or(Revision::NEVER, |it| it.revision);
-        self.written = Written::default();
+        self.written = WrittenRevisions::default();
         for shard in 0..self.durable.shards() {
             let pair = next(&keys::record(shard));
             let stood = pair.map_or(Revision::NEVER, |it| it.revision);
@@ -161,8 +172,9 @@ impl Control {
         let reading = self.durable.store().read_all(keys::SERVERS)?;
         let pairs = reading.pairs.iter();
         let there = pairs.filter_map(|it| {
-            let live = Live::of(&it.value)?;
-            Some((keys::server_of(&it.key)?, live.followed))
+            // If its bytes can't be read the server is there all the same, and nothing waits for what it has read.
+            let followed = Live::of(&it.value).map_or(reading.revision, |live| live.followed);
+            Some((keys::server_of(&it.key)?, followed))
         });
         let known = there.filter(|it| (1..=self.servers).contains(&it.0));
         self.director.follow(known).map_err(Refused::of)?;
@@ -183,7 +195,7 @@ impl Control {
     /// # Errors
     ///
     /// As [`Refused`] says.
-    pub fn command(&mut self, command: Command) -> Result<(), Refused> {
+    pub fn command(&mut self, command: ControlCommand) -> Result<(), Refused> {
         let mut doubtful = None;
         for _ in 0..TRIES {
             self.catch_up()?;
@@ -191,17 +203,17 @@ impl Control {
                 self.is_behind = true;
                 return Ok(());
             }
-            if let Command::DropShard(shard) = command {
+            if let ControlCommand::DropShard(shard) = command {
                 self.follow_if_taken(shard)?;
             }
             self.director.command(command).map_err(Refused::of)?;
             let sending = self.director.sending().map_err(Refused::of)?;
-            let (number, is_state) = (sending.number, sending.is_state);
+            let (number, is_state, absent) = (sending.number, sending.is_state, sending.absent);
             let sent = (sending.key(), sending.written.clone());
             self.is_behind = true;
             match self.send(sending) {
                 Ok(Outcome::Made(revision)) => return self.made(number, is_state, revision),
-                Ok(Outcome::Lost(_)) => self.look_at_leader()?,
+                Ok(Outcome::Lost(reading)) => self.look_at_lost(absent, &reading)?,
                 Err(WriteError::Unknown(_)) => doubtful = Some(sent),
                 Err(error) => return Err(error.into()),
             }
@@ -230,16 +242,31 @@ impl Control {
         }
     }
 
-    fn send(&self, sending: Sending) -> Result<Outcome, WriteError> {
-        let transaction = Transaction::new()
+    fn send(&self, sending: CommandTransaction) -> Result<Outcome, WriteError> {
+        let mut transaction = Transaction::new()
             .compare(keys::LEADER, sending.elected)
             .compare(keys::COMMANDS, sending.placed)
             .put(sending.key(), sending.written)
             .put(keys::COMMANDS, sending.commands)
             .with_kept_room();
+        if let Some(key) = sending.absent.map(keys::server) {
+            transaction = transaction
+                .compare(key.clone(), Revision::NEVER)
+                .or_read(key);
+        }
         match sending.is_state {
             true => self.durable.store().make(transaction),
             false => self.durable.change(sending.number, transaction),
+        }
+    }
+
+    /// Refuses where another process leads, or the server's key was there that must not be: with one that is back
+    /// nothing is to be done.
+    fn look_at_lost(&self, absent: Option<u16>, found: &Reading) -> Result<(), Refused> {
+        self.look_at_leader()?;
+        match absent.filter(|it| found.get(&keys::server(*it)).is_some()) {
+            Some(server) => Err(Refused::StillThere(server)),
+            None => Ok(()),
         }
     }
 
@@ -276,6 +303,17 @@ impl Control {
         self.director.next_of_drain(server).map_err(Refused::of)
     }
 
+    /// Plans where the shards of the server go, or for 0 the vacant shards, as if each move were made in its turn.
+    pub fn plan(&mut self, server: u16) -> Result<Plan, Refused> {
+        let mut stands = Vec::new();
+        for shard in 0..self.durable.shards() {
+            stands.push(self.record(shard)?.map_or(Stand::Vacant, |it| it.stand));
+        }
+        let states = (1..=self.servers).map(|it| self.state_of(it));
+        let states = states.collect::<Result<Vec<_>, _>>()?;
+        planned(&self.line, &stands, &states, server)
+    }
+
     /// The paused shards whose owners came back after that, so that nothing is under way of them: one that was paused
     /// as its owner was to stop or had failed, where who led then went no further.
     pub fn left_paused(&mut self) -> Result<Vec<u16>, Refused> {
@@ -285,7 +323,7 @@ impl Control {
             let Some(Stand::Paused(owner)) = stand else {
                 continue;
             };
-            if self.state_of(owner)? == UP && self.written.is_before(shard, owner) {
+            if self.state_of(owner)? == ServerState::Up && self.written.is_before(shard, owner) {
                 left.push(shard);
             }
         }
@@ -299,8 +337,8 @@ impl Control {
         Ok(word::record(word))
     }
 
-    /// The number of the server's state: 0 up, 1 asked, 2 approved, 3 stopped, 4 failed.
-    pub fn state_of(&mut self, server: u16) -> Result<u8, Refused> {
+    /// Returns how far the server's restart has come.
+    pub fn state_of(&mut self, server: u16) -> Result<ServerState, Refused> {
         self.catch_up()?;
         self.director.state_of(server).map_err(Refused::of)
     }
@@ -308,12 +346,12 @@ impl Control {
 
 /// The revisions of shards' records, and of servers' states from the first one on.
 #[derive(Default)]
-struct Written {
+struct WrittenRevisions {
     records: Vec<Revision>,
     states: Vec<Revision>,
 }
 
-impl Written {
+impl WrittenRevisions {
     /// Notes what a command wrote: the server's state, or the shard's record.
     fn note(&mut self, number: u16, is_state: bool, revision: Revision) {
         let place = match is_state {
@@ -338,7 +376,7 @@ impl Written {
     }
 }
 
-impl fmt::Debug for Control {
+impl fmt::Debug for DurableControl {
     fn fmt(&self, f: &mut fmt::Formatter<'_>) -> fmt::Result {
         f.debug_struct("Control")
             .field("servers", &self.servers)

@@ -29,6 +29,14 @@ impl LeaseClock {
         }
     }
 
+    /// Begins at what the function tells as the time since some beginning, which never goes back.
+    pub(crate) fn by(passed: impl Fn() -> Duration + Send + Sync + 'static) -> LeaseClock {
+        LeaseClock::new(move || {
+            let passed = passed();
+            Look::of(passed, passed, passed)
+        })
+    }
+
     /// Returns this moment, which isn't before any that was returned earlier.
     pub(crate) fn now(&self) -> Moment {
         let mut seen = self.seen.lock().unwrap_or_else(PoisonError::into_inner);

@@ -1,9 +1,8 @@
-use crate::decision::{Answer, Base, Decision, Passing, Sent};
-use crate::key_index::KeyIndex;
+use crate::decision::{Base, ClientReply, Decision, Passing, ServerTransaction};
 use crate::size::Size;
-use crate::{CoreFault, Numbered, Reply};
+use crate::{CoreFault, Key, MapReply, Numbered};
 use durkenzo_store::Revision;
-use durkenzo_store_sys::{self as sys, Asked, Code, Limits, Server, Told};
+use durkenzo_store_sys::{self as sys, Code, Limits, Server, ServerRequest, Told};
 
 /// How much a server takes: of a batch as much as a round has at most, and of what waits more, so that what is given
 /// together is sent together. Of so many clients the last request is kept: those of 16 processes, of which each has as
@@ -16,40 +15,35 @@ const LIMITS: Limits = Limits {
     clients: 16 * Size::MOST.requests + Numbered::MOST_KEPT,
 };
 
-/// A request, as a server takes it.
-pub(crate) struct Item<'a> {
-    pub(crate) client: u64,
-    pub(crate) number: u64,
-    /// The server that forwarded it, or 0, and how often it was forwarded.
-    pub(crate) from: u16,
-    pub(crate) hops: u8,
-    /// The number below which clients are forgotten once it is made.
-    pub(crate) forgets: u64,
-    pub(crate) request: &'a [u8],
-}
-
-/// A proved server of one shard, and which keys it has.
+/// A proved server of one shard.
 pub(crate) struct Core {
     server: Server,
-    keys: KeyIndex,
 }
 
 impl Core {
     /// Server `me` of the shard, one of so many, which has read nothing yet.
     pub(crate) fn new(me: u16, shard: u16, count: u16) -> Result<Core, CoreFault> {
         let server = Server::new(me, shard, u64::from(count), LIMITS)?;
-        let keys = KeyIndex::default();
-        Ok(Core { server, keys })
+        Ok(Core { server })
     }
 
-    /// Its keys, after all that is made.
-    pub(crate) fn keys(&self) -> &KeyIndex {
-        &self.keys
+    /// Returns how many keys hold something after all requests that are made.
+    pub(crate) fn count(&mut self) -> Result<u64, CoreFault> {
+        Ok(self.server.count()?)
+    }
+
+    /// Returns the first of these keys from `low` on and below `high`, or up to the last one, at most so many.
+    pub(crate) fn scan(
+        &mut self,
+        low: &[u8],
+        high: Option<&[u8]>,
+        most: usize,
+    ) -> Result<Vec<Key>, CoreFault> {
+        Ok(self.server.scan(low, high, most)?)
     }
 
     /// Adds the next part that was read of the base.
     pub(crate) fn add_part(&mut self, bytes: &[u8]) -> Result<(), CoreFault> {
-        self.keys.add_part(bytes)?;
         Ok(self.server.add_part(bytes)?)
     }
 
@@ -75,7 +69,6 @@ impl Core {
 
     /// Adds the next batch that was read.
     pub(crate) fn add_batch(&mut self, bytes: &[u8]) -> Result<(), CoreFault> {
-        self.keys.add_batch(bytes)?;
         Ok(self.server.add_batch(bytes)?)
     }
 
@@ -90,29 +83,16 @@ impl Core {
 
     /// The record was seen. What waits here is to be given again.
     pub(crate) fn record(&mut self, record: &[u8], stood: Revision) -> Result<(), CoreFault> {
-        self.keys.forget_waiting();
         Ok(self.server.record(record, stood.0)?)
     }
 
     /// What is decided of a request.
-    pub(crate) fn take(&mut self, item: &Item<'_>) -> Result<Decision, CoreFault> {
-        let asked = Asked {
-            client: item.client,
-            number: item.number,
-            from: item.from,
-            hops: item.hops,
-            forgets: item.forgets,
-            request: item.request,
-        };
-        Ok(match self.server.take(&asked)? {
+    pub(crate) fn take(&mut self, request: &ServerRequest<'_>) -> Result<Decision, CoreFault> {
+        Ok(match self.server.take(request)? {
             sys::Decision::Replied(reply) => {
-                Decision::Replied(Reply::of(reply.kind, reply.value, &[]))
+                Decision::Replied(MapReply::of(reply.kind, reply.value, &[]))
             }
-            sys::Decision::Waits => {
-                let (client, number) = (item.client, item.number);
-                self.keys.note_waiting(client, number, item.request);
-                Decision::Waits
-            }
+            sys::Decision::Waits => Decision::Waits,
             sys::Decision::Forwards(server, hops) => Decision::Forwards(server, hops),
             sys::Decision::Passed => Decision::Passed,
             sys::Decision::Forgotten => Decision::Forgotten,
@@ -126,9 +106,9 @@ impl Core {
     }
 
     /// What is sent.
-    pub(crate) fn sending(&mut self) -> Result<Sent, CoreFault> {
+    pub(crate) fn sending(&mut self) -> Result<ServerTransaction, CoreFault> {
         let sent = self.server.sending()?;
-        Ok(Sent {
+        Ok(ServerTransaction {
             stood: Revision(sent.stood),
             logged: Revision(sent.logged),
             number: sent.number,
@@ -138,12 +118,9 @@ impl Core {
     }
 
     /// What was sent was made at this revision: the answers to requests, and to reads.
-    pub(crate) fn made(&mut self, revision: Revision) -> Result<Vec<Answer>, CoreFault> {
+    pub(crate) fn made(&mut self, revision: Revision) -> Result<Vec<ClientReply>, CoreFault> {
         let (made, read) = self.server.made(revision.0)?;
-        let mut answers: Vec<_> = made.into_iter().map(answer).collect();
-        answers.iter().for_each(|it| self.keys.note_made(it));
-        answers.extend(read.into_iter().map(answer));
-        Ok(answers)
+        Ok(made.into_iter().chain(read).map(answer).collect())
     }
 }
 
@@ -158,10 +135,10 @@ fn refusal(code: Code) -> Result<Decision, CoreFault> {
     }
 }
 
-fn answer(told: Told) -> Answer {
-    Answer {
+fn answer(told: Told) -> ClientReply {
+    ClientReply {
         client: told.client,
         number: told.number,
-        reply: Reply::of(told.reply.kind, told.reply.value, &told.text),
+        reply: MapReply::of(told.reply.kind, told.reply.value, &told.text),
     }
 }

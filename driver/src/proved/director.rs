@@ -1,13 +1,15 @@
-use crate::command::{Command, Next};
-use crate::{keys, CoreFault};
+use crate::command::{ControlCommand, Next};
+use crate::{keys, CoreFault, ServerState};
 use durkenzo_store::Revision;
-use durkenzo_store_sys::{self as sys, Code, Step};
+use durkenzo_store_sys::{self as sys, Code, DirectorStep};
 
 /// What a command's transaction compares and writes.
 #[derive(Debug)]
-pub(crate) struct Sending {
+pub(crate) struct CommandTransaction {
     pub(crate) elected: Revision,
     pub(crate) placed: Revision,
+    /// The server whose key isn't there, if that is compared.
+    pub(crate) absent: Option<u16>,
     /// The shard whose record is written, or the server whose state is.
     pub(crate) number: u16,
     pub(crate) is_state: bool,
@@ -15,7 +17,7 @@ pub(crate) struct Sending {
     pub(crate) commands: Vec<u8>,
 }
 
-impl Sending {
+impl CommandTransaction {
     /// The key of the record or the state.
     pub(crate) fn key(&self) -> Vec<u8> {
         match self.is_state {
@@ -26,6 +28,7 @@ impl Sending {
 }
 
 /// A proved control of a store.
+#[derive(Debug)]
 pub(crate) struct Director {
     control: sys::Director,
 }
@@ -63,17 +66,20 @@ impl Director {
     }
 
     /// Judges the command: it is to be sent, or refused by the first fault that applies.
-    pub(crate) fn command(&mut self, command: Command) -> Result<(), CoreFault> {
+    pub(crate) fn command(&mut self, command: ControlCommand) -> Result<(), CoreFault> {
         let (kind, shard, server) = command.parts();
-        Ok(self.control.command(Step::of_shard(kind, shard, server))?)
+        Ok(self
+            .control
+            .command(DirectorStep::of_shard(kind, shard, server))?)
     }
 
     /// What is sent.
-    pub(crate) fn sending(&mut self) -> Result<Sending, CoreFault> {
+    pub(crate) fn sending(&mut self) -> Result<CommandTransaction, CoreFault> {
         let sent = self.control.sending()?;
-        Ok(Sending {
+        Ok(CommandTransaction {
             elected: Revision(sent.elected),
             placed: Revision(sent.placed),
+            absent: Some(sent.absent).filter(|it| *it > 0),
             number: sent.number,
             is_state: sent.is_state,
             written: sent.written,
@@ -129,14 +135,15 @@ impl Director {
         Ok(self.control.record_of(shard)?.0)
     }
 
-    /// The number of the server's state.
-    pub(crate) fn state_of(&mut self, server: u16) -> Result<u8, CoreFault> {
-        Ok(self.control.state_of(server)?)
+    /// How far the server's restart has come.
+    pub(crate) fn state_of(&mut self, server: u16) -> Result<ServerState, CoreFault> {
+        let number = self.control.state_of(server)?;
+        ServerState::of_number(number).ok_or(CoreFault(Code::BAD_ARGUMENT))
     }
 }
 
-fn next(step: Result<Step, Code>) -> Result<Next, CoreFault> {
-    let Step {
+fn next(step: Result<DirectorStep, Code>) -> Result<Next, CoreFault> {
+    let DirectorStep {
         shard,
         server,
         kind,

@@ -2,5 +2,6 @@
 mod core;
 mod director;
 
-pub(crate) use core::{Core, Item};
-pub(crate) use director::{Director, Sending};
+pub(crate) use core::Core;
+pub(crate) use director::{CommandTransaction, Director};
+pub(crate) use durkenzo_store_sys::ServerRequest;

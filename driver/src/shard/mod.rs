@@ -1,77 +1,32 @@
+mod action;
+mod base;
 mod base_pause;
-mod basing;
-mod leasing;
-mod parting;
+mod destination;
+mod lease_reads;
+mod lister;
+mod replica_state;
+mod retry;
 mod rounds;
-mod routing;
-mod sending;
+mod transaction;
 
-use crate::proved::Core;
-use crate::reading::{LogSize, Read};
-use crate::round::{Decided, Origin, Round, Run, MOST_BYTES};
-use crate::work::{self, NotDone, Step, Work};
-use crate::{Came, Elsewhere, Member, Standing, Tuning};
+use crate::recovery::{LogSize, Recovered, RecoveryFault};
+use crate::round::{Round, MOST_BYTES};
+use crate::run::{DecidedChange, Origin, Run};
+use crate::work::{NotDone, WorkStep};
+use crate::{Came, Elsewhere, Member, StoredRecord, Tuning};
+pub(crate) use action::{Action, Ticket};
+use base::{BaseDemand, BaseProgress};
 use base_pause::BasePause;
-use basing::{BaseWish, Basing};
-use durkenzo_store::{Revision, Transaction};
-use leasing::Leasing;
+use durkenzo_store::Revision;
+use lease_reads::LeaseReads;
+pub(crate) use lister::Lister;
+use replica_state::{ReplicaState, Revisions, TransactionPayload};
 use std::collections::{BTreeMap, BTreeSet, VecDeque};
 use std::sync::Arc;
 use std::time::{Duration, Instant};
 
-/// What is to be done outside of the shard.
-pub(crate) enum Deed {
-    /// Sends the transaction of a server, and says by its ticket what became of it.
-    Submit(Ticket, Transaction),
-    /// Reads the shard for a server, and says by its ticket what was read.
-    Read(Ticket),
-    /// Writes the parts of a server's base, at these keys, and says by its ticket whether all were.
-    WriteBase(Ticket, Vec<(Vec<u8>, Vec<u8>)>),
-    /// Looks for what may be behind the base of this server.
-    Sweep(u16),
-    /// Deletes these keys.
-    Delete(Vec<Vec<u8>>),
-    /// Tells what became of work.
-    Tell(Box<dyn Work>, work::Outcome),
-    /// Has another process's server get the steps.
-    HandOver(Elsewhere, Vec<Step>),
-    /// Reads the record.
-    Look,
-    /// Takes another number of a process, as what has this one is forgotten.
-    Renew,
-    /// Says that no transaction is under way.
-    Hold(Box<dyn FnOnce() + Send>),
-    /// The store has ended.
-    StoreEnded(String),
-}
-
-/// Of which transaction, or which reading, something is told.
-#[derive(Clone, Copy, Debug, PartialEq, Eq)]
-pub(crate) struct Ticket {
-    pub(crate) server: u16,
-    number: u64,
-}
-
-/// The revisions of the record and of the log's head that a server goes by.
-#[derive(Clone, Copy, Debug, PartialEq, Eq)]
-struct At {
-    stood: Revision,
-    logged: Revision,
-}
-
-/// How far a server is with the shard.
-enum Seat {
-    /// It has read nothing, and is to be read from then on.
-    Unread(Option<Instant>),
-    /// The reading with this number is under way.
-    Reading(u64),
-    Ready(Core, At),
-    /// The transaction with this number is under way, and whether it writes the head.
-    Sent(Core, At, u64, bool),
-}
-
-/// A shard, with the proved servers that it has in this process. It decides nothing: it has them decide, in rounds, and
-/// says what is to be sent, read and told.
+/// A shard, with the proved servers that this process runs of it. The servers decide, in rounds; the shard says what is
+/// to be sent, read and told, by [`Action`]s. It does no I/O.
 pub(crate) struct Shard {
     number: u16,
     /// The number of this process, which its clients' numbers begin with.
@@ -86,16 +41,16 @@ pub(crate) struct Shard {
     looked: Option<Instant>,
     /// The revision of the log's head as it was known last.
     logged: Revision,
-    /// By what a transaction compared of which the outcome isn't known.
-    unknown_at: Option<At>,
-    standing: Standing,
-    seats: BTreeMap<u16, Seat>,
+    /// The revisions that a transaction compared whose outcome isn't known.
+    unknown_at: Option<Revisions>,
+    stored: StoredRecord,
+    replicas: BTreeMap<u16, ReplicaState>,
     /// What the store told when a server read the shard last, where it gave nothing.
     unanswered: Option<String>,
     /// Servers that no request reaches.
     away: BTreeSet<u16>,
     runs: VecDeque<Run>,
-    decided: VecDeque<Decided>,
+    decided: VecDeque<DecidedChange>,
     round: Option<Round>,
     /// How many bytes several steps write together at most, as far as the store takes that.
     most_bytes: usize,
@@ -107,17 +62,17 @@ pub(crate) struct Shard {
     /// How long the log is behind its base.
     log: LogSize,
     /// The server that makes a base, and how far it is.
-    base: Option<(u16, Basing)>,
+    base: Option<(u16, BaseProgress)>,
     /// How long the log was when that began.
     log_before: LogSize,
     /// How long none begins after one failed.
     base_pause: BasePause,
     /// What the next one is wished for.
-    base_wish: BaseWish,
+    base_demand: BaseDemand,
     /// How often it is looked for what is behind a base.
     sweeps: usize,
     tuning: Tuning,
-    leasing: Leasing,
+    lease_reads: LeaseReads,
     /// How many hold it, and who is told once nothing is under way.
     holds: usize,
     holders: Vec<Box<dyn FnOnce() + Send>>,
@@ -148,8 +103,8 @@ impl Shard {
             looked: None,
             logged: Revision::NEVER,
             unknown_at: None,
-            standing: Standing::vacant(),
-            seats: BTreeMap::new(),
+            stored: StoredRecord::vacant(),
+            replicas: BTreeMap::new(),
             unanswered: None,
             away: BTreeSet::new(),
             runs: VecDeque::new(),
@@ -164,58 +119,61 @@ impl Shard {
             base: None,
             log_before: LogSize::default(),
             base_pause: BasePause::default(),
-            base_wish: BaseWish::default(),
+            base_demand: BaseDemand::default(),
             sweeps: 0,
             tuning,
-            leasing: Leasing::default(),
+            lease_reads: LeaseReads::default(),
             holds: 0,
             holders: Vec::new(),
         }
     }
 
     /// The record, as it was seen last.
-    pub(crate) fn standing(&self) -> &Standing {
-        &self.standing
+    pub(crate) fn stored(&self) -> &StoredRecord {
+        &self.stored
     }
 
     /// Of how many clients the last request is kept by the server here that keeps most.
     pub(crate) fn clients(&mut self) -> usize {
-        let cores = self.seats.values_mut().filter_map(|seat| match seat {
-            Seat::Unread(_) | Seat::Reading(_) => None,
-            Seat::Ready(core, _) | Seat::Sent(core, _, _, _) => Some(core),
-        });
+        let cores = self
+            .replicas
+            .values_mut()
+            .filter_map(|replica| match replica {
+                ReplicaState::Unread(_) | ReplicaState::Reading(_) => None,
+                ReplicaState::Ready(core, _) | ReplicaState::Sent(core, _, _, _) => Some(core),
+            });
         // One that can't tell is closed at its next step.
         cores.filter_map(|it| it.clients().ok()).max().unwrap_or(0)
     }
 
     /// Takes steps of one client, in their order.
-    pub(crate) fn take(&mut self, steps: Vec<Step>, now: Instant, deeds: &mut Vec<Deed>) {
-        self.take_run(steps, None, (Revision::NEVER, now), now, deeds);
+    pub(crate) fn take(&mut self, steps: Vec<WorkStep>, now: Instant, actions: &mut Vec<Action>) {
+        self.take_run(steps, None, (Revision::NEVER, now), now, actions);
     }
 
     /// Takes steps that came from another process, and have waited since then.
     pub(crate) fn take_from(
         &mut self,
-        steps: Vec<Step>,
+        steps: Vec<WorkStep>,
         came: Came,
         since: Instant,
         now: Instant,
-        deeds: &mut Vec<Deed>,
+        actions: &mut Vec<Action>,
     ) {
-        self.take_run(steps, Some(came), (came.revision, since), now, deeds);
+        self.take_run(steps, Some(came), (came.revision, since), now, actions);
     }
 
     fn take_run(
         &mut self,
-        steps: Vec<Step>,
+        steps: Vec<WorkStep>,
         came: Option<Came>,
         (after, since): (Revision, Instant),
         now: Instant,
-        deeds: &mut Vec<Deed>,
+        actions: &mut Vec<Action>,
     ) {
         if self.runs.len() >= MOST_RUNS {
-            let refused = |it: Step| Deed::Tell(it.work, Err(NotDone::Crowded));
-            return deeds.extend(steps.into_iter().map(refused));
+            let refused = |it: WorkStep| Action::Tell(it.work, Err(NotDone::Crowded));
+            return actions.extend(steps.into_iter().map(refused));
         }
         self.runs_begun += 1;
         let run = Run {
@@ -229,16 +187,16 @@ impl Shard {
             not_before: None,
             leaves: None,
         };
-        self.route_one(run, now, deeds);
+        self.route_one(run, now, actions);
         if self.round.is_none() {
-            self.go_on(now, deeds);
+            self.go_on(now, actions);
         }
     }
 
     /// Takes back steps that were to go elsewhere, which wait for a record of this revision.
     pub(crate) fn take_back(
         &mut self,
-        steps: Vec<Step>,
+        steps: Vec<WorkStep>,
         elsewhere: &Elsewhere,
         after: Revision,
         now: Instant,
@@ -264,10 +222,10 @@ impl Shard {
     }
 
     /// Has later requests have clients of this number of a process.
-    pub(crate) fn renew(&mut self, process: u64, now: Instant, deeds: &mut Vec<Deed>) {
+    pub(crate) fn renew(&mut self, process: u64, now: Instant, actions: &mut Vec<Action>) {
         self.process = self.process.max(process);
         self.renews = false;
-        self.go_on(now, deeds);
+        self.go_on(now, actions);
     }
 
     /// Has requests reach the server, or not. One that they don't reach forgets what it read.
@@ -276,66 +234,67 @@ impl Shard {
         server: u16,
         is_away: bool,
         now: Instant,
-        deeds: &mut Vec<Deed>,
+        actions: &mut Vec<Action>,
     ) {
         match is_away {
             true => drop(self.away.insert(server)),
             false => drop(self.away.remove(&server)),
         }
         self.catch_up();
-        self.go_on(now, deeds);
+        self.go_on(now, actions);
     }
 
     /// Has no further transaction be sent until it is released, and tells once none is under way.
-    pub(crate) fn hold(&mut self, holder: Box<dyn FnOnce() + Send>, deeds: &mut Vec<Deed>) {
+    pub(crate) fn hold(&mut self, holder: Box<dyn FnOnce() + Send>, actions: &mut Vec<Action>) {
         self.holds += 1;
         self.holders.push(holder);
-        self.tell_holders(deeds);
+        self.tell_holders(actions);
     }
 
     /// Lets transactions be sent again.
-    pub(crate) fn release(&mut self, now: Instant, deeds: &mut Vec<Deed>) {
+    pub(crate) fn release(&mut self, now: Instant, actions: &mut Vec<Action>) {
         self.holds = self.holds.saturating_sub(1);
-        self.go_on(now, deeds);
+        self.go_on(now, actions);
     }
 
     /// Sees the record, by the watch or where it was read.
-    pub(crate) fn see(&mut self, standing: Standing, now: Instant, deeds: &mut Vec<Deed>) {
-        if standing.revision() <= self.standing.revision() {
+    pub(crate) fn see(&mut self, stored: StoredRecord, now: Instant, actions: &mut Vec<Action>) {
+        if stored.revision() <= self.stored.revision() {
             return;
         }
-        self.standing = standing;
+        self.stored = stored;
         self.catch_up();
-        self.go_on(now, deeds);
+        self.go_on(now, actions);
     }
 
     /// Has each server that is ready go by the last record, and lets those go that it doesn't name.
     pub(super) fn catch_up(&mut self) {
-        let (standing, away, round) = (&self.standing, &self.away, &self.round);
+        let (stored, away, round) = (&self.stored, &self.away, &self.round);
         // By what it reads it is found out what became of the round.
         let finds_out = round.as_ref().is_some_and(|it| it.may_be_made);
-        let stays = |it: &u16| finds_out || standing.names(*it) && !away.contains(it);
-        self.seats
-            .retain(|server, seat| matches!(seat, Seat::Sent(..)) || stays(server));
+        let stays = |it: &u16| finds_out || stored.names(*it) && !away.contains(it);
+        self.replicas
+            .retain(|server, replica| matches!(replica, ReplicaState::Sent(..)) || stays(server));
         let mut behind = Vec::new();
-        for (server, seat) in &mut self.seats {
-            if let Seat::Ready(core, at) = seat {
-                if at.stood < standing.revision() {
+        for (server, replica) in &mut self.replicas {
+            if let ReplicaState::Ready(core, at) = replica {
+                if at.stood < stored.revision() {
                     behind.push(*server);
                     if self.unknown_at.is_some() {
                         // It may be made until the record changed: that is read.
-                        *seat = Seat::Unread(None);
+                        *replica = ReplicaState::Unread(None);
                         continue;
                     }
-                    match core.record(standing.bytes(), standing.revision()) {
-                        Ok(()) => at.stood = standing.revision(),
-                        Err(_) => *seat = Seat::Unread(None),
+                    match core.record(stored.bytes(), stored.revision()) {
+                        Ok(()) => at.stood = stored.revision(),
+                        Err(_) => *replica = ReplicaState::Unread(None),
                     }
                 }
             }
         }
         // A server that reads anew knows nothing of the base that it made.
-        let is_unread = |it: u16| matches!(self.seats.get(&it), Some(Seat::Unread(_)) | None);
+        let is_unread =
+            |it: u16| matches!(self.replicas.get(&it), Some(ReplicaState::Unread(_)) | None);
         self.base = self.base.filter(|it| !is_unread(it.0));
         if let Some(round) = &mut self.round {
             behind.into_iter().for_each(|it| round.take_back(it));
@@ -346,79 +305,83 @@ impl Shard {
     pub(crate) fn on_read(
         &mut self,
         ticket: Ticket,
-        read: Result<Read, NotRead>,
+        read: Result<Recovered, RecoveryFault>,
         now: Instant,
-        deeds: &mut Vec<Deed>,
+        actions: &mut Vec<Action>,
     ) {
         let Ticket { server, number } = ticket;
-        if !matches!(self.seats.get(&server), Some(Seat::Reading(it)) if *it == number) {
+        if !matches!(self.replicas.get(&server), Some(ReplicaState::Reading(it)) if *it == number) {
             return;
         }
         match read {
             Ok(read) => {
-                self.seat(server, read);
-                if std::mem::take(&mut self.base_wish.is_wanted) {
-                    self.want_base(self.base_wish.is_alone, now, deeds);
+                self.make_ready(server, read);
+                if std::mem::take(&mut self.base_demand.is_wanted) {
+                    self.want_base(self.base_demand.is_alone, now, actions);
                 }
             }
-            Err(later @ (NotRead::Later | NotRead::Unanswered(_))) => {
-                if let NotRead::Unanswered(told) = later {
+            Err(later @ (RecoveryFault::Later | RecoveryFault::Unanswered(_))) => {
+                if let RecoveryFault::Unanswered(told) = later {
                     self.unanswered = Some(told);
                 }
-                let again = Seat::Unread(Some(now + READ_AGAIN));
-                self.seats.insert(server, again);
+                let again = ReplicaState::Unread(Some(now + READ_AGAIN));
+                self.replicas.insert(server, again);
             }
-            Err(NotRead::Ended(why)) => {
-                self.base_wish.is_wanted = false;
-                self.seats.insert(server, Seat::Unread(None));
-                self.give_up(&NotDone::Stopped, deeds);
-                deeds.push(Deed::StoreEnded(why));
+            Err(RecoveryFault::Ended(why)) => {
+                self.base_demand.is_wanted = false;
+                self.replicas.insert(server, ReplicaState::Unread(None));
+                self.give_up(&NotDone::Stopped, actions);
+                actions.push(Action::StoreEnded(why));
             }
-            Err(NotRead::Damaged(why)) => {
-                self.base_wish.is_wanted = false;
-                self.seats.insert(server, Seat::Unread(None));
-                self.give_up(&NotDone::Damaged(why), deeds);
+            Err(RecoveryFault::Damaged(why)) => {
+                self.base_demand.is_wanted = false;
+                self.replicas.insert(server, ReplicaState::Unread(None));
+                self.give_up(&NotDone::Damaged(why), actions);
             }
         }
-        self.go_on(now, deeds);
+        self.go_on(now, actions);
     }
 
-    /// Has the server go on from what was read.
-    fn seat(&mut self, server: u16, read: Read) {
-        let Read {
+    /// Makes the server ready by what it read.
+    fn make_ready(&mut self, server: u16, read: Recovered) {
+        let Recovered {
             core,
-            standing,
+            stored,
             logged,
             log,
         } = read;
         self.log = log;
         // What was read may have deletions.
-        self.base_wish.has_freed |= log.batches > 0;
+        self.base_demand.has_freed |= log.batches > 0;
         self.unanswered = None;
-        let stood = standing.revision();
-        let at = At { stood, logged };
-        self.seats.insert(server, Seat::Ready(core, at));
+        let stood = stored.revision();
+        let at = Revisions { stood, logged };
+        self.replicas.insert(server, ReplicaState::Ready(core, at));
         // What was sent by other revisions can't be made any more, and what was made is read.
         self.unknown_at = self.unknown_at.filter(|it| *it == at);
         self.note_head(logged);
-        if stood > self.standing.revision() {
-            self.standing = standing;
+        if stood > self.stored.revision() {
+            self.stored = stored;
         }
         self.catch_up();
     }
 
     /// Refuses what has waited for so long, where no transaction is under way for it.
-    pub(crate) fn tick(&mut self, now: Instant, wait: Duration, deeds: &mut Vec<Deed>) {
+    pub(crate) fn tick(&mut self, now: Instant, wait: Duration, actions: &mut Vec<Action>) {
         let is_sent = self.is_sent();
         let is_idle = self.runs.is_empty() && self.decided.is_empty() && self.round.is_none();
         if is_idle || is_sent || self.holds > 0 {
             return;
         }
-        let reads_again = |it: &Seat| matches!(it, Seat::Unread(Some(at)) if *at <= now);
-        if self.seats.values().any(reads_again) {
-            self.go_on(now, deeds);
+        let reads_again =
+            |it: &ReplicaState| matches!(it, ReplicaState::Unread(Some(at)) if *at <= now);
+        if self.replicas.values().any(reads_again) {
+            self.go_on(now, actions);
         }
-        let is_reading = self.seats.values().any(|it| matches!(it, Seat::Reading(_)));
+        let is_reading = self
+            .replicas
+            .values()
+            .any(|it| matches!(it, ReplicaState::Reading(_)));
         let why = self.why_not();
         let may_soon = matches!(why, NotDone::Busy | NotDone::Unread | NotDone::NotMade(_));
         // Whoever reads the shard will soon execute.
@@ -427,19 +390,19 @@ impl Shard {
             false => wait,
         };
         if self.round.as_ref().is_some_and(|it| now >= it.since + wait) {
-            self.give_up_round(&why, deeds);
+            self.give_up_round(&why, actions);
         }
         // What another process is to do is refused by who can't ask it, and says why.
-        self.route(now, deeds);
+        self.route(now, actions);
         let (late, runs) = std::mem::take(&mut self.runs)
             .into_iter()
             .partition(|it: &Run| it.is_due(now) && now >= it.origin.since + wait);
         self.runs = runs;
         for step in late.into_iter().flat_map(|it: Run| it.steps) {
-            deeds.push(Deed::Tell(step.work, Err(why.clone())));
+            actions.push(Action::Tell(step.work, Err(why.clone())));
         }
-        self.look(now, deeds);
-        self.go_on(now, deeds);
+        self.look(now, actions);
+        self.go_on(now, actions);
     }
 
     /// Whether something waits that a later tick may go on with, or refuse, if the store is full or isn't.
@@ -450,7 +413,7 @@ impl Shard {
 
     /// Why nobody executes.
     fn why_not(&self) -> NotDone {
-        let record = self.standing.record();
+        let record = self.stored.record();
         let owner = record.and_then(|it| it.owner());
         if self.is_crowded {
             return NotDone::TooManyClients;
@@ -475,22 +438,22 @@ impl Shard {
 
     /// Whether a server is still to read the shard.
     fn is_unread(&self) -> bool {
-        let mut seats = self.seats.values();
-        seats.any(|it| matches!(it, Seat::Unread(_) | Seat::Reading(_)))
+        let mut replicas = self.replicas.values();
+        replicas.any(|it| matches!(it, ReplicaState::Unread(_) | ReplicaState::Reading(_)))
     }
 
     /// Refuses all that waits.
-    pub(crate) fn give_up(&mut self, why: &NotDone, deeds: &mut Vec<Deed>) {
-        self.give_up_round(why, deeds);
+    pub(crate) fn give_up(&mut self, why: &NotDone, actions: &mut Vec<Action>) {
+        self.give_up_round(why, actions);
         for step in self.runs.drain(..).flat_map(|it| it.steps) {
-            deeds.push(Deed::Tell(step.work, Err(why.clone())));
+            actions.push(Action::Tell(step.work, Err(why.clone())));
         }
     }
 
     /// Refuses what is in the round. What waits at a server won't be sent any more, and what was sent may be made.
-    pub(super) fn give_up_round(&mut self, why: &NotDone, deeds: &mut Vec<Deed>) {
+    pub(super) fn give_up_round(&mut self, why: &NotDone, actions: &mut Vec<Action>) {
         for it in std::mem::take(&mut self.decided) {
-            deeds.push(Deed::Tell(it.step.work, Err(why.clone())));
+            actions.push(Action::Tell(it.step.work, Err(why.clone())));
         }
         let Some(round) = self.round.take() else {
             return;
@@ -498,8 +461,8 @@ impl Shard {
         self.unknown_at = None;
         let mut may_be_made = round.may_be_made;
         for server in round.waits_at() {
-            match self.seats.get(&server) {
-                Some(Seat::Sent(..)) => may_be_made = true,
+            match self.replicas.get(&server) {
+                Some(ReplicaState::Sent(..)) => may_be_made = true,
                 _ => self.read_again(server),
             }
         }
@@ -509,26 +472,13 @@ impl Shard {
             (true, _) => NotDone::Unknown(why.to_string()),
         };
         for (work, outcome) in round.given_up(&why) {
-            deeds.push(Deed::Tell(work, outcome));
+            actions.push(Action::Tell(work, outcome));
         }
     }
 
-    pub(super) fn tell_holders(&mut self, deeds: &mut Vec<Deed>) {
+    pub(super) fn tell_holders(&mut self, actions: &mut Vec<Action>) {
         if self.holds > 0 && !self.is_sent() {
-            deeds.extend(self.holders.drain(..).map(Deed::Hold));
+            actions.extend(self.holders.drain(..).map(Action::Hold));
         }
     }
-}
-
-/// Why a shard wasn't read.
-#[derive(Clone, Debug)]
-pub(crate) enum NotRead {
-    /// It may be later.
-    Later,
-    /// It may be once the store answers, which told this.
-    Unanswered(String),
-    /// What lies there is wrong.
-    Damaged(String),
-    /// The store has ended.
-    Ended(String),
 }

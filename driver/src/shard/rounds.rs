@@ -1,64 +1,64 @@
-use super::routing::Way;
-use super::{Deed, Seat, Shard, Ticket};
+use super::destination::RunDestination;
+use super::{Action, Lister, ReplicaState, Shard, Ticket};
 use crate::decision::Decision;
-use crate::listing::Listing;
-use crate::proved::Item;
-use crate::round::{Asked, Ended, Round, Takes, PLACE_BITS};
-use crate::{Came, NotDone, Reply};
+use crate::proved::ServerRequest;
+use crate::round::{Round, StepFilter, PLACE_BITS};
+use crate::round_step::{FinishedStep, RoundRequest};
+use crate::{Came, MapReply, NotDone};
 use durkenzo_store::Revision;
 use std::collections::VecDeque;
 use std::time::Instant;
 
-/// What was found of a request.
-enum Found {
-    Replied(Reply),
+/// What the servers decided of a request.
+enum RequestVerdict {
+    Replied(MapReply),
     Waits(u16),
     /// Nobody executes it now.
     Nobody,
-    /// This server of another process does, to which it was then forwarded so often.
+    /// This server of another process executes it, to which it was then forwarded so often.
     Leaves(u16, u8),
-    /// Another server does, to which this one doesn't forward it.
+    /// Another server executes it, to which this one doesn't forward it.
     Back,
     /// A later number of its client is made.
     Passed,
     /// Its client is forgotten.
     Forgotten,
-    /// As many clients are kept as may.
+    /// The shard keeps as many clients as it may.
     Crowded,
 }
 
-/// What was found of a round.
-enum Judged {
+/// What the servers decided of a round.
+enum RoundVerdict {
     /// Each request has its reply, or waits at a server.
     Whole,
-    /// Some of it goes no further here: it is to be taken apart.
-    Parts,
+    /// Some of it goes no further here, so the round is aborted.
+    Aborts,
     /// Nobody executes it now.
     Nobody,
-    /// It isn't known what became of it, and won't be.
+    /// Its outcome isn't known, and never will be.
     Unknown,
 }
 
-/// Of which runs what goes where: to this server, forwarded so often.
-type Leaving = Vec<(u64, u16, u8)>;
+/// Runs that go to another process: the run, its server, and how often the run was then forwarded.
+type ForwardedRuns = Vec<(u64, u16, u8)>;
 
 impl Shard {
     /// Goes on as far as that is possible now: ends the round and forms the next, has servers decide, and sends.
-    pub(super) fn go_on(&mut self, now: Instant, deeds: &mut Vec<Deed>) {
+    pub(super) fn go_on(&mut self, now: Instant, actions: &mut Vec<Action>) {
         loop {
             if self.round.as_ref().is_some_and(Round::is_replied) {
-                self.end_round(deeds);
+                self.end_round(actions);
             }
-            self.tell_holders(deeds);
+            self.tell_holders(actions);
             if self.holds > 0 {
                 return;
             }
-            self.route(now, deeds);
-            self.part_if_unwanted(deeds);
+            self.route(now, actions);
+            self.abort_if_unwanted(actions);
             if self.round.is_none() && !self.form(now) {
-                return self.name_base(deeds);
+                return self.name_base(actions);
             }
-            if let Err(server) = self.decide(now, deeds) {
+            if let Err(server) = self.decide(now, actions) {
                 self.read_again(server);
                 continue;
             }
@@ -68,11 +68,11 @@ impl Shard {
         }
     }
 
-    fn end_round(&mut self, deeds: &mut Vec<Deed>) {
-        for it in self.round.take().into_iter().flat_map(Round::ended) {
+    fn end_round(&mut self, actions: &mut Vec<Action>) {
+        for it in self.round.take().into_iter().flat_map(Round::finished) {
             match it {
-                Ended::Told(work, outcome) => deeds.push(Deed::Tell(work, outcome)),
-                Ended::Decided(decided) => self.decided.push_back(decided),
+                FinishedStep::Told(work, outcome) => actions.push(Action::Tell(work, outcome)),
+                FinishedStep::Decided(decided) => self.decided.push_back(decided),
             }
         }
     }
@@ -87,13 +87,13 @@ impl Shard {
         let makes_room = self.makes_room();
         let is_scant = std::mem::take(&mut self.is_unwritten) || makes_room;
         let first = match (self.is_leased(), is_scant) {
-            (_, true) => Takes::NoGrowth,
-            (true, false) => Takes::OnlyReads,
-            (false, false) => Takes::All,
+            (_, true) => StepFilter::NoGrowth,
+            (true, false) => StepFilter::OnlyReads,
+            (false, false) => StepFilter::All,
         };
         let mut round = self.filled(first, now);
-        if first != Takes::All && round.is_empty() && !makes_room {
-            round = self.filled(Takes::All, now);
+        if first != StepFilter::All && round.is_empty() && !makes_room {
+            round = self.filled(StepFilter::All, now);
         }
         let is_formed = !round.is_empty();
         self.round = Some(round).filter(|_| is_formed);
@@ -101,9 +101,9 @@ impl Shard {
     }
 
     /// A round with what waits here, as far as it takes that.
-    fn filled(&mut self, takes: Takes, now: Instant) -> Round {
+    fn filled(&mut self, takes: StepFilter, now: Instant) -> Round {
         let mut round = Round::new(self.rounds, self.process, self.most_bytes, now);
-        round.takes = takes;
+        round.filter = takes;
         round.take_decided(&mut self.decided);
         self.fill(&mut round, now);
         round
@@ -114,14 +114,15 @@ impl Shard {
     /// first in the next one.
     fn fill(&mut self, round: &mut Round, now: Instant) {
         let mut runs = std::mem::take(&mut self.runs);
-        let listing = self.listing();
+        let mut lister = self.take_lister();
         let (mut firsts, mut again) = (0..runs.len(), VecDeque::new());
         loop {
-            let first = firsts.find(|it| self.way_of(&runs[*it], now) == Way::Here);
+            let first =
+                firsts.find(|it| self.destination_of(&runs[*it], now) == RunDestination::Here);
             let Some(place) = first.or_else(|| again.pop_front()) else {
                 break;
             };
-            if runs[place].give(round, listing) {
+            if runs[place].give(round, lister.as_mut()) {
                 again.push_back(place);
             }
             if round.is_full() {
@@ -131,59 +132,73 @@ impl Shard {
         }
         runs.retain(|it| !it.steps.is_empty());
         self.runs = runs;
+        if let Some(lister) = lister {
+            self.end_lister(lister, round);
+        }
     }
 
-    /// The keys of the server that executes, where it is ready.
-    fn listing(&self) -> Option<Listing<'_>> {
-        let server = self.standing.record()?.executor()?;
-        match self.seats.get(&server)? {
-            Seat::Ready(core, at) => Some(Listing {
-                server,
-                logged: at.logged,
-                keys: core.keys(),
-            }),
-            _ => None,
+    /// Has the server of the lister be among the others again. If a call failed, the server reads the shard again, and
+    /// the round that it listed for lists anew.
+    fn end_lister(&mut self, lister: Lister, round: &mut Round) {
+        let (server, state, has_failed) = lister.end();
+        self.replicas.insert(server, state);
+        if has_failed {
+            self.read_again(server);
+            round.take_back(server);
+        }
+    }
+
+    /// Has the server that executes list keys, if it is ready. It isn't among the others until it ends that.
+    fn take_lister(&mut self) -> Option<Lister> {
+        let server = self.stored.record()?.executor()?;
+        let state = self.replicas.remove(&server)?;
+        match Lister::new(server, state) {
+            Ok(lister) => Some(lister),
+            Err(state) => {
+                self.replicas.insert(server, state);
+                None
+            }
         }
     }
 
     /// The revision of the head that the server goes by, where it is ready.
     fn logged_of(&self, server: u16) -> Option<Revision> {
-        match self.seats.get(&server)? {
-            Seat::Ready(_, at) => Some(at.logged),
-            _ => None,
+        match self.replicas.get(&server)? {
+            ReplicaState::Ready(_, at) => Some(at.logged),
+            ReplicaState::Unread(_) | ReplicaState::Reading(_) | ReplicaState::Sent(..) => None,
         }
     }
 
     /// Has servers decide all requests of the round that wait nowhere, and sends what they send; or says which server
     /// is to be read again.
-    fn decide(&mut self, now: Instant, deeds: &mut Vec<Deed>) -> Result<(), u16> {
+    fn decide(&mut self, now: Instant, actions: &mut Vec<Action>) -> Result<(), u16> {
         let Some(mut round) = self.round.take() else {
             return Ok(());
         };
-        let mut leaving = Leaving::new();
-        let judged = self.judge(&mut round, &mut leaving, now, deeds);
+        let mut leaving = ForwardedRuns::new();
+        let judged = self.judge(&mut round, &mut leaving, now, actions);
         self.round = Some(round);
         match judged? {
             // What is written together is sent together: nothing, while some of it is with nobody.
-            Judged::Nobody => return Ok(()),
-            Judged::Unknown => {
-                self.end_unknown(deeds);
+            RoundVerdict::Nobody => return Ok(()),
+            RoundVerdict::Unknown => {
+                self.end_unknown(actions);
                 return Ok(());
             }
-            Judged::Parts => {
-                self.part(deeds);
-                self.let_leave(&leaving);
+            RoundVerdict::Aborts => {
+                self.abort_round(actions);
+                self.note_forwarded(&leaving);
                 return Ok(());
             }
-            Judged::Whole => {}
+            RoundVerdict::Whole => {}
         }
-        let ready: Vec<u16> = self.seats.keys().copied().collect();
-        ready.into_iter().try_for_each(|it| self.send(it, deeds))
+        let ready: Vec<u16> = self.replicas.keys().copied().collect();
+        ready.into_iter().try_for_each(|it| self.send(it, actions))
     }
 
     /// Notes where runs go that this process's server forwards.
-    fn let_leave(&mut self, leaving: &Leaving) {
-        let revision = self.standing.revision();
+    fn note_forwarded(&mut self, leaving: &ForwardedRuns) {
+        let revision = self.stored.revision();
         for run in &mut self.runs {
             let found = leaving.iter().find(|it| it.0 == run.origin.run);
             if let Some((_, to, hops)) = found {
@@ -196,40 +211,42 @@ impl Shard {
     fn judge(
         &mut self,
         round: &mut Round,
-        leaving: &mut Leaving,
+        leaving: &mut ForwardedRuns,
         now: Instant,
-        deeds: &mut Vec<Deed>,
-    ) -> Result<Judged, u16> {
-        let record = self.standing.record();
+        actions: &mut Vec<Action>,
+    ) -> Result<RoundVerdict, u16> {
+        let record = self.stored.record();
         let (own, owner) = (self.me(), record.and_then(|it| it.owner()));
         let is_sent = self.is_sent();
-        let is_foreign = own.is_some_and(|it| !self.standing.names(it));
+        let is_foreign = own.is_some_and(|it| !self.stored.names(it));
         if is_foreign && !round.may_be_made && !is_sent {
-            return Ok(Judged::Parts);
+            return Ok(RoundVerdict::Aborts);
         }
         let Some(server) = own.or(owner) else {
-            return Ok(Judged::Nobody);
+            return Ok(RoundVerdict::Nobody);
         };
-        let found = self.judge_each(round, server, leaving, (now, deeds))?;
-        if matches!(found, Judged::Nobody | Judged::Unknown) {
+        let found = self.judge_each(round, server, leaving, (now, actions))?;
+        if matches!(found, RoundVerdict::Nobody | RoundVerdict::Unknown) {
             return Ok(found);
         }
         if is_sent {
-            return Ok(Judged::Nobody);
+            return Ok(RoundVerdict::Nobody);
         }
         if round.may_be_made && self.unknown_at.is_some() {
             // A copy that comes late may be made yet: it goes on as it was sent.
             return match found {
-                Judged::Whole => Ok(found),
-                _ => Ok(Judged::Nobody),
+                RoundVerdict::Whole => Ok(found),
+                RoundVerdict::Aborts | RoundVerdict::Nobody | RoundVerdict::Unknown => {
+                    Ok(RoundVerdict::Nobody)
+                }
             };
         }
         round.may_be_made = false;
         let is_stale = std::mem::take(&mut round.is_broken) && round.has_undone_change();
-        let is_whole = matches!(found, Judged::Whole);
+        let is_whole = matches!(found, RoundVerdict::Whole);
         let is_listed_anew = is_whole && round.is_listed_elsewhere(|it| self.logged_of(it));
         match is_stale || is_listed_anew {
-            true => Ok(Judged::Parts),
+            true => Ok(RoundVerdict::Aborts),
             false => Ok(found),
         }
     }
@@ -238,63 +255,65 @@ impl Shard {
         &mut self,
         round: &mut Round,
         server: u16,
-        leaving: &mut Leaving,
-        (now, deeds): (Instant, &mut Vec<Deed>),
-    ) -> Result<Judged, u16> {
+        leaving: &mut ForwardedRuns,
+        (now, actions): (Instant, &mut Vec<Action>),
+    ) -> Result<RoundVerdict, u16> {
         self.is_crowded = false;
-        let mut judged = Judged::Whole;
-        for place in 0..round.asked.len() {
-            let asked = &round.asked[place];
-            if asked.reply.is_some() || asked.waits_at.is_some() {
+        let mut judged = RoundVerdict::Whole;
+        for place in 0..round.requests.len() {
+            let request = &round.requests[place];
+            if request.reply.is_some() || request.waits_at.is_some() {
                 continue;
             }
             let finds_out = round.may_be_made;
-            let found = self.decide_one(round, asked, (server, finds_out), now, deeds)?;
-            if let Some(judged) = self.note_found(round, place, found, leaving, deeds) {
+            let found = self.decide_one(round, request, (server, finds_out), now, actions)?;
+            if let Some(judged) = self.note_verdict(round, place, found, leaving, actions) {
                 return Ok(judged);
             }
-            if !round.asked[place].is_placed() {
-                judged = Judged::Parts;
+            if !round.requests[place].is_placed() {
+                judged = RoundVerdict::Aborts;
             }
         }
         Ok(judged)
     }
 
     /// Notes what was found of the request in this place; returns how the whole round is judged, where that tells.
-    fn note_found(
+    fn note_verdict(
         &mut self,
         round: &mut Round,
         place: usize,
-        found: Found,
-        leaving: &mut Leaving,
-        deeds: &mut Vec<Deed>,
-    ) -> Option<Judged> {
-        let asked = &round.asked[place];
-        let (step, is_numbered) = (asked.step, round.is_numbered(asked));
-        let origin = round.origin_of(asked);
+        found: RequestVerdict,
+        leaving: &mut ForwardedRuns,
+        actions: &mut Vec<Action>,
+    ) -> Option<RoundVerdict> {
+        let request = &round.requests[place];
+        let (step, is_numbered) = (request.step, round.is_numbered(request));
+        let origin = round.origin_of(request);
         let run = origin.map_or(0, |it| it.run);
         match found {
-            Found::Replied(reply) => round.asked[place].reply = Some(reply),
-            Found::Waits(server) => round.asked[place].waits_at = Some(server),
-            Found::Nobody => return Some(Judged::Nobody),
-            Found::Leaves(to, hops) => leaving.push((run, to, hops)),
-            Found::Back if origin.is_some_and(|it| it.came.is_some()) => {
-                round.end_run(run, &NotDone::Moved(self.standing.revision()));
+            RequestVerdict::Replied(reply) => round.requests[place].reply = Some(reply),
+            RequestVerdict::Waits(server) => round.requests[place].waits_at = Some(server),
+            RequestVerdict::Nobody => return Some(RoundVerdict::Nobody),
+            RequestVerdict::Leaves(to, hops) => leaving.push((run, to, hops)),
+            RequestVerdict::Back if origin.is_some_and(|it| it.came.is_some()) => {
+                round.end_run(run, &NotDone::Moved(self.stored.revision()));
             }
             // What a client gave here goes to the owner.
-            Found::Back => {}
-            Found::Passed if is_numbered => round.end_step(step, NotDone::Passed),
-            Found::Crowded if is_numbered => round.end_step(step, NotDone::TooManyClients),
-            Found::Crowded => {
+            RequestVerdict::Back => {}
+            RequestVerdict::Passed if is_numbered => round.end_step(step, NotDone::Passed),
+            RequestVerdict::Crowded if is_numbered => round.end_step(step, NotDone::TooManyClients),
+            RequestVerdict::Crowded => {
                 self.is_crowded = true;
-                return Some(Judged::Nobody);
+                return Some(RoundVerdict::Nobody);
             }
-            Found::Forgotten if !round.may_be_made => {
+            RequestVerdict::Forgotten if !round.may_be_made => {
                 self.renews = true;
-                deeds.push(Deed::Renew);
-                return Some(Judged::Parts);
+                actions.push(Action::Renew);
+                return Some(RoundVerdict::Aborts);
             }
-            Found::Passed | Found::Forgotten => return Some(Judged::Unknown),
+            RequestVerdict::Passed | RequestVerdict::Forgotten => {
+                return Some(RoundVerdict::Unknown)
+            }
         }
         None
     }
@@ -303,42 +322,42 @@ impl Shard {
     fn decide_one(
         &mut self,
         round: &Round,
-        asked: &Asked,
+        request: &RoundRequest,
         (first, finds_out): (u16, bool),
         now: Instant,
-        deeds: &mut Vec<Deed>,
-    ) -> Result<Found, u16> {
-        let came = round.origin_of(asked).and_then(|it| it.came);
+        actions: &mut Vec<Action>,
+    ) -> Result<RequestVerdict, u16> {
+        let came = round.origin_of(request).and_then(|it| it.came);
         let Came { from, hops, .. } = came.unwrap_or(Came::HERE);
-        let mut item = Item {
-            client: asked.client,
-            number: asked.number,
+        let mut asked = ServerRequest {
+            client: request.client,
+            number: request.number,
             from,
             hops,
             forgets: self.lowest().min(round.process) << PLACE_BITS,
-            request: &asked.bytes,
+            request: &request.bytes,
         };
         let mut server = first;
         loop {
             if self.away.contains(&server) && !finds_out {
-                return Ok(Found::Nobody);
+                return Ok(RequestVerdict::Nobody);
             }
-            let Some(core) = self.ready_core(server, now, deeds) else {
-                return Ok(Found::Nobody);
+            let Some(core) = self.ready_core(server, now, actions) else {
+                return Ok(RequestVerdict::Nobody);
             };
-            match core.take(&item).map_err(|_| server)? {
-                Decision::Replied(reply) => return Ok(Found::Replied(reply)),
-                Decision::Waits => return Ok(Found::Waits(server)),
+            match core.take(&asked).map_err(|_| server)? {
+                Decision::Replied(reply) => return Ok(RequestVerdict::Replied(reply)),
+                Decision::Waits => return Ok(RequestVerdict::Waits(server)),
                 Decision::Refused | Decision::TooFar => return Ok(self.refused()),
                 Decision::NotRead => return Err(server),
-                Decision::Passed => return Ok(Found::Passed),
-                Decision::Forgotten => return Ok(Found::Forgotten),
-                Decision::TooManyClients => return Ok(Found::Crowded),
+                Decision::Passed => return Ok(RequestVerdict::Passed),
+                Decision::Forgotten => return Ok(RequestVerdict::Forgotten),
+                Decision::TooManyClients => return Ok(RequestVerdict::Crowded),
                 Decision::Forwards(to, hops) if self.own.is_some() => {
-                    return Ok(Found::Leaves(to, hops));
+                    return Ok(RequestVerdict::Leaves(to, hops));
                 }
                 Decision::Forwards(to, hops) => {
-                    (item.from, item.hops) = (server, hops);
+                    (asked.from, asked.hops) = (server, hops);
                     server = to;
                 }
             }
@@ -350,30 +369,33 @@ impl Shard {
         &mut self,
         server: u16,
         now: Instant,
-        deeds: &mut Vec<Deed>,
+        actions: &mut Vec<Action>,
     ) -> Option<&mut crate::proved::Core> {
-        let seat = self.seats.entry(server).or_insert(Seat::Unread(None));
-        match seat {
-            Seat::Ready(core, _) => Some(core),
-            Seat::Unread(later) => {
+        let replica = self
+            .replicas
+            .entry(server)
+            .or_insert(ReplicaState::Unread(None));
+        match replica {
+            ReplicaState::Ready(core, _) => Some(core),
+            ReplicaState::Unread(later) => {
                 if later.is_none_or(|it| it <= now) {
                     self.tickets += 1;
                     let number = self.tickets;
-                    *seat = Seat::Reading(number);
-                    deeds.push(Deed::Read(Ticket { server, number }));
+                    *replica = ReplicaState::Reading(number);
+                    actions.push(Action::Read(Ticket { server, number }));
                 }
                 None
             }
-            Seat::Reading(_) | Seat::Sent(..) => None,
+            ReplicaState::Reading(_) | ReplicaState::Sent(..) => None,
         }
     }
 
     /// What a refusal means: nobody executes now, or a server of another process does.
-    fn refused(&self) -> Found {
-        let owner = self.standing.record().and_then(|it| it.owner());
+    fn refused(&self) -> RequestVerdict {
+        let owner = self.stored.record().and_then(|it| it.owner());
         match self.me().zip(owner) {
-            Some((me, owner)) if me != owner => Found::Back,
-            _ => Found::Nobody,
+            Some((me, owner)) if me != owner => RequestVerdict::Back,
+            _ => RequestVerdict::Nobody,
         }
     }
 

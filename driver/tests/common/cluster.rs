@@ -2,8 +2,8 @@
 use super::handing::{Handed, Handing};
 use super::{ask, Decide, Told};
 use durkenzo_driver::{
-    Addresses, Begin, Command, Control, Durable, Elsewhere, Member, Next, NotDone, Outcome, Own,
-    Reads, Reply, Request, Step, Tuning, Work,
+    Addresses, Begin, ControlCommand, Durable, DurableControl, Elsewhere, MapReply, MapRequest,
+    Member, Next, NotDone, Own, Reads, Tuning, Work, WorkOutcome, WorkStep,
 };
 use durkenzo_store::{
     Done, LeaseError, LeaseId, ReadError, Reading, Store, Transaction, Watch, Watcher, WriteError,
@@ -131,7 +131,7 @@ pub struct Net {
     places: Mutex<BTreeMap<u16, Place>>,
 }
 
-type Message = (Elsewhere, Vec<Step>);
+type Message = (Elsewhere, Vec<WorkStep>);
 
 /// A process with one server.
 pub struct Node {
@@ -145,14 +145,14 @@ pub struct Node {
 
 /// Work that came from another process.
 struct Remote {
-    step: Option<Step>,
+    step: Option<WorkStep>,
     sender: Weak<Durable>,
     elsewhere: Elsewhere,
     is_cut: Arc<AtomicBool>,
 }
 
 impl Work for Remote {
-    fn decide(&mut self, held: Vec<Reply>) -> Vec<Request> {
+    fn decide(&mut self, held: Vec<MapReply>) -> Vec<MapRequest> {
         self.step.as_mut().expect("a step").work.decide(held)
     }
 
@@ -167,7 +167,7 @@ impl Work for Remote {
 
     fn answered(self: Box<Self>, _answer: &[u8]) {}
 
-    fn end(mut self: Box<Self>, outcome: Outcome) {
+    fn end(mut self: Box<Self>, outcome: WorkOutcome) {
         let step = self.step.take().expect("a step");
         if self.is_cut.load(Ordering::Acquire) {
             let why = NotDone::Unknown("the other process is gone".to_owned());
@@ -241,7 +241,7 @@ impl Net {
             let target = place.and_then(|(it, is_cut)| Some((it.upgrade()?, is_cut)));
             match (target, sender.upgrade()) {
                 (Some((target, is_cut)), _) => {
-                    let remote = steps.into_iter().map(|step| Step {
+                    let remote = steps.into_iter().map(|step| WorkStep {
                         begin: step.begin.clone(),
                         work: Box::new(Remote {
                             step: Some(step),
@@ -288,10 +288,10 @@ pub fn kill(node: &Node) {
 }
 
 /// Leads as soon as nobody else does.
-pub fn campaign(node: &Node) -> Control {
+pub fn campaign(node: &Node) -> DurableControl {
     let end = Instant::now() + Duration::from_secs(20);
     loop {
-        match Control::campaign(
+        match DurableControl::campaign(
             node.durable.clone(),
             &super::line_of(node.durable.shards(), 3),
         ) {
@@ -303,14 +303,14 @@ pub fn campaign(node: &Node) -> Control {
 }
 
 /// Has each shard that nobody owns be owned in turn.
-pub fn assign(control: &mut Control, shards: u16) {
+pub fn assign(control: &mut DurableControl, shards: u16) {
     for shard in 0..shards {
-        let _ = control.command(Command::Assign(shard, shard % 3 + 1));
+        let _ = control.command(ControlCommand::Assign(shard, shard % 3 + 1));
     }
 }
 
 /// Goes on with the shard until nothing is under way.
-pub fn settle(control: &mut Control, shard: u16) {
+pub fn settle(control: &mut DurableControl, shard: u16) {
     let end = Instant::now() + Duration::from_secs(20);
     loop {
         match control.next_of_shard(shard) {
@@ -326,15 +326,15 @@ pub fn settle(control: &mut Control, shard: u16) {
 /// A change that appends a word to the list of a key, by what it reads there.
 pub fn append(durable: &Durable, shard: u16, key: &[u8], word: &str) -> Told {
     let (at, word) = (key.to_vec(), word.to_owned());
-    let decide = move |held: Vec<Reply>| {
+    let decide = move |held: Vec<MapReply>| {
         let mut text = match &held[..] {
-            [Reply::Text(text)] => text.clone(),
-            [Reply::Nothing] => Vec::new(),
+            [MapReply::Text(text)] => text.clone(),
+            [MapReply::Nothing] => Vec::new(),
             other => panic!("{other:?}"),
         };
         text.extend(word.bytes());
         text.push(b' ');
-        vec![Request::Put(at.clone().into(), text)]
+        vec![MapRequest::Put(at.clone().into(), text)]
     };
     let begin = Begin::Change(vec![key.into()]);
     ask(durable, shard, begin, Some(Box::new(decide) as Decide))

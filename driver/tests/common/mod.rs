@@ -6,7 +6,8 @@ pub mod late;
 pub mod withheld;
 
 use durkenzo_driver::{
-    Begin, Command, Control, Durable, Key, NotDone, Reply, Request, Step, Tuning, Work,
+    Begin, ControlCommand, Durable, DurableControl, Key, MapReply, MapRequest, NotDone, Tuning,
+    Work, WorkStep,
 };
 use durkenzo_store::{Done, Store, Transaction, WriteError};
 use handing::{Handed, Handing};
@@ -15,10 +16,10 @@ use std::sync::mpsc::{self, Receiver, Sender};
 use std::sync::Arc;
 use std::time::Duration;
 
-pub type Told = Result<Vec<Reply>, NotDone>;
+pub type Told = Result<Vec<MapReply>, NotDone>;
 
 /// What a change writes of what its keys hold.
-pub type Decide = Box<dyn FnMut(Vec<Reply>) -> Vec<Request> + Send>;
+pub type Decide = Box<dyn FnMut(Vec<MapReply>) -> Vec<MapRequest> + Send>;
 
 struct Asking {
     decide: Option<Decide>,
@@ -26,7 +27,7 @@ struct Asking {
 }
 
 impl Work for Asking {
-    fn decide(&mut self, held: Vec<Reply>) -> Vec<Request> {
+    fn decide(&mut self, held: Vec<MapReply>) -> Vec<MapRequest> {
         self.decide.as_mut().map_or_else(Vec::new, |it| it(held))
     }
 
@@ -46,10 +47,10 @@ impl Work for Asking {
 }
 
 /// A step, and where what becomes of it is told.
-pub fn step(begin: Begin, decide: Option<Decide>) -> (Step, Receiver<Told>) {
+pub fn step(begin: Begin, decide: Option<Decide>) -> (WorkStep, Receiver<Told>) {
     let (tell, told) = mpsc::channel();
     let work = Box::new(Asking { decide, tell });
-    (Step { begin, work }, told)
+    (WorkStep { begin, work }, told)
 }
 
 /// What becomes of work that is given alone.
@@ -60,12 +61,12 @@ pub fn ask(durable: &Durable, shard: u16, begin: Begin, decide: Option<Decide>) 
         .expect("an answer")
 }
 
-pub fn write(durable: &Durable, shard: u16, requests: Vec<Request>) -> Told {
+pub fn write(durable: &Durable, shard: u16, requests: Vec<MapRequest>) -> Told {
     ask(durable, shard, Begin::Write(requests), None)
 }
 
 pub fn add(durable: &Durable, shard: u16, key: &[u8], amount: i64) -> Told {
-    write(durable, shard, vec![Request::Add(key.into(), amount)])
+    write(durable, shard, vec![MapRequest::Add(key.into(), amount)])
 }
 
 /// What the key holds.
@@ -106,12 +107,12 @@ pub fn line_of(shards: u16, servers: u16) -> String {
 }
 
 /// The control of these shards, which server 1 owns where nobody did.
-pub fn led(durable: &Arc<Durable>) -> Control {
+pub fn led(durable: &Arc<Durable>) -> DurableControl {
     let shards = durable.shards();
-    let mut control = Control::lead(durable.clone(), &line(shards)).expect("a control");
+    let mut control = DurableControl::lead(durable.clone(), &line(shards)).expect("a control");
     for shard in 0..shards {
         // One that has an owner keeps it.
-        let _ = control.command(Command::Assign(shard, 1));
+        let _ = control.command(ControlCommand::Assign(shard, 1));
     }
     control
 }

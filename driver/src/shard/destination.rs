@@ -1,12 +1,12 @@
-use super::{Deed, Shard, READ_AGAIN};
-use crate::round::Run;
+use super::{Action, Shard, READ_AGAIN};
+use crate::run::Run;
 use crate::{Came, Elsewhere, NotDone};
 use durkenzo_store::Revision;
 use std::time::Instant;
 
 /// Where a run goes.
 #[derive(Clone, Copy, Debug, PartialEq, Eq)]
-pub(super) enum Way {
+pub(super) enum RunDestination {
     /// This process's servers are asked.
     Here,
     /// It waits until others have written or answered.
@@ -38,13 +38,13 @@ impl Shard {
     }
 
     /// Where the run goes by the record, as it was seen last.
-    pub(super) fn way_of(&self, run: &Run, now: Instant) -> Way {
+    pub(super) fn destination_of(&self, run: &Run, now: Instant) -> RunDestination {
         let Some(me) = self.me() else {
-            return Way::Here;
+            return RunDestination::Here;
         };
-        let revision = self.standing.revision();
+        let revision = self.stored.revision();
         if run.after > revision || !run.is_due(now) {
-            return Way::Waits;
+            return RunDestination::Waits;
         }
         if let Some((to, hops, by)) = run.leaves.filter(|it| it.2 == revision) {
             let came = Came {
@@ -55,12 +55,12 @@ impl Shard {
             return self.if_reached(to, came);
         }
         match (
-            self.standing.record().and_then(|it| it.owner()),
+            self.stored.record().and_then(|it| it.owner()),
             run.origin.came,
         ) {
-            (None, _) => Way::Waits,
-            (Some(owner), _) if owner == me && self.is_replaced() => Way::Waits,
-            (Some(owner), _) if owner == me => Way::Here,
+            (None, _) => RunDestination::Waits,
+            (Some(owner), _) if owner == me && self.is_replaced() => RunDestination::Waits,
+            (Some(owner), _) if owner == me => RunDestination::Here,
             (Some(owner), None) => self.if_reached(
                 owner,
                 Came {
@@ -68,34 +68,34 @@ impl Shard {
                     ..Came::HERE
                 },
             ),
-            (Some(_), Some(_)) if self.standing.names(me) => Way::Here,
-            (Some(_), Some(_)) => Way::Back,
+            (Some(_), Some(_)) if self.stored.names(me) => RunDestination::Here,
+            (Some(_), Some(_)) => RunDestination::Back,
         }
     }
 
-    fn if_reached(&self, server: u16, came: Came) -> Way {
+    fn if_reached(&self, server: u16, came: Came) -> RunDestination {
         match self.is_reached(server) {
-            true => Way::Elsewhere(server, came),
-            false => Way::Waits,
+            true => RunDestination::Elsewhere(server, came),
+            false => RunDestination::Waits,
         }
     }
 
     /// Hands over what other processes' servers are to do.
-    pub(super) fn route(&mut self, now: Instant, deeds: &mut Vec<Deed>) {
+    pub(super) fn route(&mut self, now: Instant, actions: &mut Vec<Action>) {
         if self.own.is_none() {
             return;
         }
         for run in std::mem::take(&mut self.runs) {
-            self.route_one(run, now, deeds);
+            self.route_one(run, now, actions);
         }
     }
 
     /// Hands over the run, or has it wait behind the others.
-    pub(super) fn route_one(&mut self, mut run: Run, now: Instant, deeds: &mut Vec<Deed>) {
-        match self.way_of(&run, now) {
-            Way::Here | Way::Waits => self.runs.push_back(run),
-            Way::Elsewhere(..) if !run.keep_wanted() => {}
-            Way::Elsewhere(server, came) => {
+    pub(super) fn route_one(&mut self, mut run: Run, now: Instant, actions: &mut Vec<Action>) {
+        match self.destination_of(&run, now) {
+            RunDestination::Here | RunDestination::Waits => self.runs.push_back(run),
+            RunDestination::Elsewhere(..) if !run.keep_wanted() => {}
+            RunDestination::Elsewhere(server, came) => {
                 let elsewhere = Elsewhere {
                     shard: self.number,
                     server,
@@ -103,23 +103,23 @@ impl Shard {
                     since: run.origin.since,
                     first_came: run.origin.came,
                 };
-                deeds.push(Deed::HandOver(elsewhere, run.steps.into()));
+                actions.push(Action::HandOver(elsewhere, run.steps.into()));
             }
-            Way::Back => {
-                let why = NotDone::Moved(self.standing.revision());
+            RunDestination::Back => {
+                let why = NotDone::Moved(self.stored.revision());
                 let steps = run.steps.into_iter();
-                deeds.extend(steps.map(|it| Deed::Tell(it.work, Err(why.clone()))));
+                actions.extend(steps.map(|it| Action::Tell(it.work, Err(why.clone()))));
             }
         }
     }
 
     /// Has the record be read where somebody has seen a later one.
-    pub(super) fn look(&mut self, now: Instant, deeds: &mut Vec<Deed>) {
+    pub(super) fn look(&mut self, now: Instant, actions: &mut Vec<Action>) {
         let latest = self.runs.iter().map(|it| it.after).max();
-        let is_behind = latest.unwrap_or(Revision::NEVER) > self.standing.revision();
+        let is_behind = latest.unwrap_or(Revision::NEVER) > self.stored.revision();
         if is_behind && self.looked.is_none_or(|it| now >= it + READ_AGAIN) {
             self.looked = Some(now);
-            deeds.push(Deed::Look);
+            actions.push(Action::Look);
         }
     }
 }

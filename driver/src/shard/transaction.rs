@@ -1,7 +1,7 @@
-use super::basing::Basing;
-use super::{At, Deed, Seat, Shard, Ticket};
+use super::base::BaseProgress;
+use super::{Action, ReplicaState, Revisions, Shard, Ticket, TransactionPayload};
 use crate::core_fault::CoreFault;
-use crate::decision::Sent;
+use crate::decision::ServerTransaction;
 use crate::keys;
 use crate::lease_clock::Moment;
 use crate::proved::Core;
@@ -12,12 +12,14 @@ use std::time::Instant;
 
 impl Shard {
     pub(super) fn is_sent(&self) -> bool {
-        self.seats.values().any(|it| matches!(it, Seat::Sent(..)))
+        self.replicas
+            .values()
+            .any(|it| matches!(it, ReplicaState::Sent(..)))
     }
 
     /// Sends what waits at the server.
-    pub(super) fn send(&mut self, server: u16, deeds: &mut Vec<Deed>) -> Result<(), u16> {
-        let Some(Seat::Ready(core, _)) = self.seats.get_mut(&server) else {
+    pub(super) fn send(&mut self, server: u16, actions: &mut Vec<Action>) -> Result<(), u16> {
+        let Some(ReplicaState::Ready(core, _)) = self.replicas.get_mut(&server) else {
             return Ok(());
         };
         if !core.flush().map_err(|_| server)? {
@@ -30,28 +32,40 @@ impl Shard {
         }
         self.tickets += 1;
         let number = self.tickets;
-        let writes = !sent.head.is_empty();
-        if let Some(Seat::Ready(core, at)) = self.seats.remove(&server) {
-            self.seats
-                .insert(server, Seat::Sent(core, at, number, writes));
+        let payload = self.payload_of(&sent);
+        if let Some(ReplicaState::Ready(core, at)) = self.replicas.remove(&server) {
+            self.replicas
+                .insert(server, ReplicaState::Sent(core, at, number, payload));
         }
-        if sent.number > 0 {
-            self.log.batches += 1;
-            self.log.bytes += sent.batch.len() as u64;
-        } else if !sent.head.is_empty() {
-            self.base = Some((server, Basing::Named(number)));
-            self.log.batches = self.log.batches.saturating_sub(self.log_before.batches);
-            self.log.bytes = self.log.bytes.saturating_sub(self.log_before.bytes);
+        match payload {
+            TransactionPayload::Reads => {}
+            TransactionPayload::Batch(_) => {
+                self.log.batches += 1;
+                self.log.bytes += sent.batch.len() as u64;
+            }
+            TransactionPayload::Base => {
+                self.base = Some((server, BaseProgress::Named(number)));
+                self.log.batches = self.log.batches.saturating_sub(self.log_before.batches);
+                self.log.bytes = self.log.bytes.saturating_sub(self.log_before.bytes);
+            }
         }
         // What only names a base compares the head alone.
-        self.note_sent(sent.number > 0 || sent.head.is_empty());
+        self.note_sent(payload != TransactionPayload::Base);
         let ticket = Ticket { server, number };
-        deeds.push(Deed::Submit(ticket, self.transaction(sent)));
+        actions.push(Action::Submit(ticket, self.transaction(sent)));
         Ok(())
     }
 
+    fn payload_of(&self, sent: &ServerTransaction) -> TransactionPayload {
+        match (sent.number, sent.head.is_empty()) {
+            (0, true) => TransactionPayload::Reads,
+            (0, false) => TransactionPayload::Base,
+            _ => TransactionPayload::Batch(self.round.as_ref().map_or(0, |it| it.number)),
+        }
+    }
+
     /// The transaction of what a server sends.
-    fn transaction(&self, sent: Sent) -> Transaction {
+    fn transaction(&self, sent: ServerTransaction) -> Transaction {
         let (record, head) = (keys::record(self.number), keys::head(self.number));
         let mut transaction = Transaction::new().compare(head.clone(), sent.logged);
         // What only names a base compares the head alone.
@@ -77,69 +91,73 @@ impl Shard {
         ticket: Ticket,
         outcome: Result<Outcome, WriteError>,
         now: Instant,
-        deeds: &mut Vec<Deed>,
+        actions: &mut Vec<Action>,
     ) {
         let server = ticket.server;
-        let (core, at, writes) = match self.seats.remove(&server) {
-            Some(Seat::Sent(core, at, number, writes)) if number == ticket.number => {
-                (core, at, writes)
+        let (core, at, payload) = match self.replicas.remove(&server) {
+            Some(ReplicaState::Sent(core, at, number, payload)) if number == ticket.number => {
+                (core, at, payload)
             }
             other => {
-                self.seats.extend(other.map(|it| (server, it)));
+                self.replicas.extend(other.map(|it| (server, it)));
                 return;
             }
         };
-        let sent_at = self.leasing.take_sent();
+        let sent_at = self.lease_reads.take_sent();
         match outcome {
             Ok(Outcome::Made(revision)) => {
-                self.on_sent_made(ticket, (core, at, writes), (revision, sent_at), deeds);
+                self.on_sent_made(ticket, (core, at, payload), (revision, sent_at), actions);
             }
             Ok(Outcome::Lost(_)) => self.read_again(server),
             Err(WriteError::Unknown(_)) => {
-                self.note_may_be_made(at, writes);
+                self.note_may_be_made(at, payload);
                 self.read_again(server);
             }
             Err(error) => {
-                if matches!(self.base, Some((it, Basing::Named(_))) if it == server) {
-                    self.base_pause.begin(now);
-                }
                 self.read_again(server);
-                self.refused_by_store(&error, deeds);
+                match payload {
+                    // Nothing of the round was sent, so it goes on.
+                    TransactionPayload::Base => self.base_pause.begin(now),
+                    TransactionPayload::Reads | TransactionPayload::Batch(_) => {
+                        self.refused_by_store(&error, actions)
+                    }
+                }
+                note_ended(&error, actions);
             }
         }
         self.catch_up();
-        self.go_on(now, deeds);
+        self.go_on(now, actions);
     }
 
     /// Has the server go on from its transaction, which was sent then and made at this revision.
     fn on_sent_made(
         &mut self,
         ticket: Ticket,
-        (mut core, mut at, writes): (Core, At, bool),
+        (mut core, mut at, payload): (Core, Revisions, TransactionPayload),
         (revision, sent_at): (Revision, Option<Moment>),
-        deeds: &mut Vec<Deed>,
+        actions: &mut Vec<Action>,
     ) {
         let server = ticket.server;
         if self.on_made(&mut core, revision).is_err() {
             // It was made: a server that reads anew tells that.
-            self.note_may_be_made(at, writes);
+            self.note_may_be_made(at, payload);
             return self.read_again(server);
         }
-        if writes {
+        if payload != TransactionPayload::Reads {
             at.logged = revision;
-            self.base_wish.has_freed |= self.round.as_ref().is_some_and(Round::frees);
+            self.base_demand.has_freed |= self.round.as_ref().is_some_and(Round::frees);
             self.logged = self.logged.max(revision);
             // Copies that come late compare what was there before.
             self.unknown_at = None;
         }
-        self.leasing.note_held(at, sent_at);
-        self.seats.insert(server, Seat::Ready(core, at));
+        self.lease_reads.note_held(at, sent_at);
+        self.replicas.insert(server, ReplicaState::Ready(core, at));
         self.end_failed_base(server);
-        if self.base == Some((server, Basing::Named(ticket.number))) {
+        if self.base == Some((server, BaseProgress::Named(ticket.number))) {
             self.base_pause.end();
             self.base = None;
             self.sweeps += 1;
-            deeds.push(Deed::Sweep(server));
+            actions.push(Action::Sweep(server));
         }
     }
 
@@ -155,8 +173,8 @@ impl Shard {
             return Ok(count);
         };
         for answer in answers {
-            if let Some(asked) = round.asked_by(answer.client, answer.number) {
-                asked.reply = Some(answer.reply);
+            if let Some(request) = round.request_by(answer.client, answer.number) {
+                request.reply = Some(answer.reply);
             }
         }
         Ok(count)
@@ -165,37 +183,46 @@ impl Shard {
     /// Has the server forget what it read. What it held is to be decided again.
     pub(super) fn read_again(&mut self, server: u16) {
         self.base = self.base.filter(|it| it.0 != server);
-        self.seats.insert(server, Seat::Unread(None));
+        self.replicas.insert(server, ReplicaState::Unread(None));
         self.round.iter_mut().for_each(|it| it.take_back(server));
     }
 
-    /// What compared so may be made, where it writes: what the server reads anew tells.
-    fn note_may_be_made(&mut self, at: At, writes: bool) {
-        if writes {
-            self.unknown_at = Some(at);
-            self.round.iter_mut().for_each(|it| it.may_be_made = true);
-        }
+    /// A batch that compared so may be made: what the server reads anew tells whether the round with it is.
+    fn note_may_be_made(&mut self, at: Revisions, payload: TransactionPayload) {
+        let TransactionPayload::Batch(number) = payload else {
+            return;
+        };
+        self.unknown_at = Some(at);
+        let round = self.round.as_mut().filter(|it| it.number == number);
+        round.into_iter().for_each(|it| it.may_be_made = true);
     }
 
     /// The store says that the transaction won't be made: nothing of the round is. Where it takes others, only what
     /// was to be written ends so.
-    fn refused_by_store(&mut self, error: &WriteError, deeds: &mut Vec<Deed>) {
+    fn refused_by_store(&mut self, error: &WriteError, actions: &mut Vec<Action>) {
         let told = error.to_string();
         let why = match error {
-            WriteError::Full(_) => NotDone::Full(told.clone()),
-            WriteError::TooLarge(_) => NotDone::TooLarge(told.clone()),
+            WriteError::Full(_) => NotDone::Full(told),
+            WriteError::TooLarge(_) => NotDone::TooLarge(told),
             WriteError::Damaged(why) => NotDone::Damaged(why.clone()),
-            _ => NotDone::NotMade(told.clone()),
+            WriteError::Unknown(_)
+            | WriteError::Unreachable(_)
+            | WriteError::Unavailable(_)
+            | WriteError::LeaseEnded
+            | WriteError::Denied(_)
+            | WriteError::Stopped => NotDone::NotMade(told),
         };
         match error {
-            WriteError::TooLarge(_) if self.may_halve() => self.part(deeds),
+            WriteError::TooLarge(_) if self.may_halve() => self.abort_round(actions),
             WriteError::TooLarge(_) | WriteError::Full(_) | WriteError::Denied(_) => {
-                self.end_writes(&why, deeds);
+                self.end_writes(&why, actions);
             }
-            _ => self.give_up_round(&why, deeds),
-        }
-        if matches!(error, WriteError::Stopped | WriteError::Unreachable(_)) {
-            deeds.push(Deed::StoreEnded(told));
+            WriteError::Unknown(_)
+            | WriteError::Unreachable(_)
+            | WriteError::Unavailable(_)
+            | WriteError::LeaseEnded
+            | WriteError::Damaged(_)
+            | WriteError::Stopped => self.give_up_round(&why, actions),
         }
     }
 
@@ -213,7 +240,7 @@ impl Shard {
     }
 
     /// Ends what was to be written of the round; all else begins anew, first of all.
-    fn end_writes(&mut self, why: &NotDone, deeds: &mut Vec<Deed>) {
+    fn end_writes(&mut self, why: &NotDone, actions: &mut Vec<Action>) {
         let is_sent = self.is_sent();
         let ends = self.round.as_mut().filter(|_| !is_sent).is_some_and(|it| {
             it.end_writes(&match it.may_be_made {
@@ -224,9 +251,16 @@ impl Shard {
         match ends {
             true => {
                 self.is_unwritten = true;
-                self.part(deeds);
+                self.abort_round(actions);
             }
-            false => self.give_up_round(why, deeds),
+            false => self.give_up_round(why, actions),
         }
+    }
+}
+
+/// Says that the store has ended, if this error means that.
+fn note_ended(error: &WriteError, actions: &mut Vec<Action>) {
+    if matches!(error, WriteError::Stopped | WriteError::Unreachable(_)) {
+        actions.push(Action::StoreEnded(error.to_string()));
     }
 }

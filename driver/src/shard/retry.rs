@@ -1,11 +1,13 @@
-use super::{Deed, Seat, Shard};
-use crate::round::{Decided, Origin, Parted, Round, Run};
-use crate::{NotDone, Step};
+use super::{Action, ReplicaState, Shard};
+use crate::round::Round;
+use crate::round_step::AbortedStep;
+use crate::run::{DecidedChange, Origin, Run};
+use crate::{NotDone, WorkStep};
 use durkenzo_store::Revision;
 use std::collections::{BTreeMap, VecDeque};
 
 /// Steps that begin anew, of each run in their order.
-type Again = BTreeMap<u64, (Origin, VecDeque<Step>)>;
+type Retries = BTreeMap<u64, (Origin, VecDeque<WorkStep>)>;
 
 impl Shard {
     /// Notes the head of the log as it was read. Where it isn't as this process left it, somebody else has written
@@ -16,16 +18,16 @@ impl Shard {
         }
         self.logged = logged;
         self.round.iter_mut().for_each(|it| it.is_broken = true);
-        let mut again = Again::new();
-        for Decided { origin, step, .. } in std::mem::take(&mut self.decided) {
+        let mut again = Retries::new();
+        for DecidedChange { origin, step, .. } in std::mem::take(&mut self.decided) {
             put(&mut again, origin, step);
         }
         self.begin_again(again);
     }
 
-    /// Takes the round apart, of which nothing is made or will be but what is replied: that is told, and all else
-    /// begins anew, or comes to its end.
-    pub(super) fn part(&mut self, deeds: &mut Vec<Deed>) {
+    /// Aborts the round. Nothing of it is made or will be, except what has its reply: that is told. All else begins
+    /// anew, or ends with its reason.
+    pub(super) fn abort_round(&mut self, actions: &mut Vec<Action>) {
         let Some(round) = self.round.take() else {
             return;
         };
@@ -33,43 +35,43 @@ impl Shard {
         for server in round.waits_at() {
             self.forget_waiting(server);
         }
-        let mut again = Again::new();
-        for it in round.parted() {
+        let mut again = Retries::new();
+        for it in round.aborted() {
             match it {
-                Parted::Told(work, outcome) => deeds.push(Deed::Tell(work, outcome)),
-                Parted::Again(origin, step) => put(&mut again, origin, step),
+                AbortedStep::Told(work, outcome) => actions.push(Action::Tell(work, outcome)),
+                AbortedStep::Again(origin, step) => put(&mut again, origin, step),
             }
         }
         self.begin_again(again);
     }
 
     /// Drops what nobody waits for any more.
-    pub(crate) fn drop_unwanted(&mut self, deeds: &mut Vec<Deed>) {
-        self.part_if_unwanted(deeds);
+    pub(crate) fn drop_unwanted(&mut self, actions: &mut Vec<Action>) {
+        self.abort_if_unwanted(actions);
         self.runs.retain_mut(Run::keep_wanted);
     }
 
-    /// Takes the round apart if nobody waits any more for some of it, unless something of it may be made.
-    pub(super) fn part_if_unwanted(&mut self, deeds: &mut Vec<Deed>) {
+    /// Aborts the round if nobody waits any more for some of it, unless something of it may be made.
+    pub(super) fn abort_if_unwanted(&mut self, actions: &mut Vec<Action>) {
         let may_be_made = self.is_sent() || self.unknown_at.is_some();
         if !may_be_made && self.round.as_ref().is_some_and(Round::has_unwanted) {
-            self.part(deeds);
+            self.abort_round(actions);
         }
     }
 
     /// Has nothing wait at the server any more.
     fn forget_waiting(&mut self, server: u16) {
-        let standing = &self.standing;
-        if let Some(Seat::Ready(core, at)) = self.seats.get_mut(&server) {
-            match core.record(standing.bytes(), standing.revision()) {
-                Ok(()) => at.stood = standing.revision(),
+        let stored = &self.stored;
+        if let Some(ReplicaState::Ready(core, at)) = self.replicas.get_mut(&server) {
+            match core.record(stored.bytes(), stored.revision()) {
+                Ok(()) => at.stood = stored.revision(),
                 Err(_) => self.read_again(server),
             }
         }
     }
 
     /// Has these steps come before what else waits of their runs.
-    fn begin_again(&mut self, again: Again) {
+    fn begin_again(&mut self, again: Retries) {
         for (number, (origin, mut steps)) in again.into_iter().rev() {
             match self.runs.iter_mut().find(|it| it.origin.run == number) {
                 Some(run) => {
@@ -88,16 +90,16 @@ impl Shard {
     }
 
     /// Ends the round, as it isn't known what became of it.
-    pub(super) fn end_unknown(&mut self, deeds: &mut Vec<Deed>) {
+    pub(super) fn end_unknown(&mut self, actions: &mut Vec<Action>) {
         self.round.iter_mut().for_each(|it| it.may_be_made = true);
         self.give_up_round(
             &NotDone::Unknown("the store keeps no note of it".to_owned()),
-            deeds,
+            actions,
         );
     }
 }
 
-fn put(again: &mut Again, origin: Origin, step: Step) {
+fn put(again: &mut Retries, origin: Origin, step: WorkStep) {
     let (_, steps) = again.entry(origin.run).or_insert((origin, VecDeque::new()));
     steps.push_back(step);
 }

@@ -1,10 +1,9 @@
-//! How a shard is read: its record and the head of its log at one moment, and then what the head names: the parts of
-//! the base, and the batches after it.
+//! How a server recovers a shard from the store: it reads the record and the head of the log at one moment, then the
+//! parts of the base that the head names, and the batches after the base.
 use crate::decision::Passing;
 use crate::keys;
 use crate::proved::Core;
-use crate::shard::NotRead;
-use crate::{core_fault::CoreFault, Standing};
+use crate::{core_fault::CoreFault, StoredRecord};
 use durkenzo_store::{Pair, ReadError, Reading, Revision, Store};
 use durkenzo_store_sys::Head;
 
@@ -15,32 +14,45 @@ const PARTS: u64 = 4;
 const MOST: u64 = 256;
 const SMALL: u64 = 1 << 20;
 
-impl From<ReadError> for NotRead {
-    fn from(error: ReadError) -> NotRead {
+/// Why a server didn't recover a shard.
+#[derive(Clone, Debug)]
+pub(crate) enum RecoveryFault {
+    /// It may succeed later.
+    Later,
+    /// It may succeed once the store answers. This is what the store told.
+    Unanswered(String),
+    /// What lies in the store is wrong.
+    Damaged(String),
+    /// The store has ended.
+    Ended(String),
+}
+
+impl From<ReadError> for RecoveryFault {
+    fn from(error: ReadError) -> RecoveryFault {
         match error {
-            ReadError::Stopped => NotRead::Ended(error.to_string()),
-            ReadError::Damaged(why) => NotRead::Damaged(why),
+            ReadError::Stopped => RecoveryFault::Ended(error.to_string()),
+            ReadError::Damaged(why) => RecoveryFault::Damaged(why),
             ReadError::Unavailable(_) | ReadError::Denied(_) => {
-                NotRead::Unanswered(error.to_string())
+                RecoveryFault::Unanswered(error.to_string())
             }
         }
     }
 }
 
-impl From<CoreFault> for NotRead {
-    fn from(fault: CoreFault) -> NotRead {
+impl From<CoreFault> for RecoveryFault {
+    fn from(fault: CoreFault) -> RecoveryFault {
         match fault.is_damage() {
-            true => NotRead::Damaged(fault.to_string()),
-            false => NotRead::Later,
+            true => RecoveryFault::Damaged(fault.to_string()),
+            false => RecoveryFault::Later,
         }
     }
 }
 
 /// A server that has read the shard.
-pub(crate) struct Read {
+pub(crate) struct Recovered {
     pub(crate) core: Core,
     /// The record that it read, and the revision of the log's head.
-    pub(crate) standing: Standing,
+    pub(crate) stored: StoredRecord,
     pub(crate) logged: Revision,
     pub(crate) log: LogSize,
 }
@@ -56,12 +68,12 @@ pub(crate) struct LogSize {
 }
 
 /// A server of the shard, one of so many, that has read it.
-pub(crate) fn read(
+pub(crate) fn recover(
     store: &dyn Store,
     server: u16,
     shard: u16,
     count: u16,
-) -> Result<Read, NotRead> {
+) -> Result<Recovered, RecoveryFault> {
     let (record, head) = (keys::record(shard), keys::head(shard));
     let reading = store.read(&[&record, &head])?;
     let (record, stood) = found(&reading, &record, &keys::VACANT);
@@ -75,9 +87,9 @@ pub(crate) fn read(
     let (from, end) = (batch(named.base), batch(named.batches));
     let bytes = each(store, from, &end, BATCHES, |it| core.add_batch(&it.value))?;
     core.read((&record, stood), (&head, logged))?;
-    Ok(Read {
+    Ok(Recovered {
         core,
-        standing: Standing::new(record, stood),
+        stored: StoredRecord::new(record, stood),
         logged,
         log: LogSize {
             base,
@@ -104,7 +116,7 @@ fn each(
     end: &[u8],
     first: u64,
     mut give: impl FnMut(&Pair) -> Result<(), CoreFault>,
-) -> Result<u64, NotRead> {
+) -> Result<u64, RecoveryFault> {
     let (mut bytes, mut most) = (0, first);
     while from.as_slice() < end {
         let pairs = match store.read_range(&from, end, most as usize) {
@@ -133,7 +145,7 @@ fn each(
 
 /// What may be behind the base that the head names: all parts of bases, and the batches up to the base that are there,
 /// in their order.
-pub(crate) fn passing(store: &dyn Store, shard: u16) -> Result<Vec<Passing>, NotRead> {
+pub(crate) fn passing(store: &dyn Store, shard: u16) -> Result<Vec<Passing>, RecoveryFault> {
     let key = keys::head(shard);
     let reading = store.read(&[&key])?;
     let named = Head::of(&found(&reading, &key, &keys::EMPTY).0).map_err(CoreFault)?;

@@ -4,20 +4,20 @@ use durkenzo_store::Revision;
 
 /// A shard's record as it lies in the store.
 #[derive(Clone, Debug, PartialEq, Eq)]
-pub struct Standing {
+pub struct StoredRecord {
     bytes: Vec<u8>,
     revision: Revision,
 }
 
-impl Standing {
+impl StoredRecord {
     /// That of a shard that was never changed.
-    pub(crate) fn vacant() -> Standing {
-        Standing::new(keys::VACANT.to_vec(), Revision::NEVER)
+    pub(crate) fn vacant() -> StoredRecord {
+        StoredRecord::new(keys::VACANT.to_vec(), Revision::NEVER)
     }
 
     /// These bytes, of this revision.
-    pub(crate) fn new(bytes: Vec<u8>, revision: Revision) -> Standing {
-        Standing { bytes, revision }
+    pub(crate) fn new(bytes: Vec<u8>, revision: Revision) -> StoredRecord {
+        StoredRecord { bytes, revision }
     }
 
     /// Its bytes.

@@ -1,36 +1,36 @@
-//! What a control wishes for lies in the store, so that whoever leads next goes on with it.
-use super::{Control, TRIES};
-use crate::{keys, Refused, Wish};
+//! The intents of a control lie in the store, so that whoever leads next goes on with them.
+use super::{DurableControl, TRIES};
+use crate::{keys, Intent, Refused};
 use durkenzo_store::{Outcome, Revision, Transaction, WriteError};
 
-/// How many wishes are written or taken back at once.
+/// How many intents are written or withdrawn at once.
 const MOST_AT_ONCE: usize = 64;
 
-impl Control {
-    /// What was wished for and not taken back.
+impl DurableControl {
+    /// Returns all intents that weren't withdrawn.
     ///
     /// # Errors
     ///
     /// As [`Refused`] says; so it is of the calls below.
-    pub fn wishes(&mut self) -> Result<Vec<Wish>, Refused> {
+    pub fn intents(&mut self) -> Result<Vec<Intent>, Refused> {
         self.catch_up()?;
-        let mut wishes = Vec::new();
+        let mut intents = Vec::new();
         for prefix in [keys::DRAINS, keys::HOMES] {
             let reading = self.durable.store().read_all(prefix)?;
             let pairs = reading.pairs.iter();
-            wishes.extend(pairs.filter_map(|it| Wish::of(&it.key, &it.value)));
+            intents.extend(pairs.filter_map(|it| Intent::of(&it.key, &it.value)));
         }
-        Ok(wishes)
+        Ok(intents)
     }
 
-    /// Has the wishes lie in the store; where one of the same server or shard lies there already, that one stays.
-    pub fn wish(&mut self, wishes: &[Wish]) -> Result<(), Refused> {
+    /// Writes the intents to the store. If one of the same server or shard lies there already, that one stays.
+    pub fn intend(&mut self, intents: &[Intent]) -> Result<(), Refused> {
         self.catch_up()?;
-        let mut wishes = wishes.chunks(MOST_AT_ONCE);
-        wishes.try_for_each(|some| self.wish_for(some.to_vec()))
+        let mut intents = intents.chunks(MOST_AT_ONCE);
+        intents.try_for_each(|some| self.intend_some(some.to_vec()))
     }
 
-    fn wish_for(&self, mut left: Vec<Wish>) -> Result<(), Refused> {
+    fn intend_some(&self, mut left: Vec<Intent>) -> Result<(), Refused> {
         for _ in 0..TRIES {
             let all = Transaction::new().compare(keys::LEADER, self.elected);
             let all = all.with_kept_room();
@@ -54,17 +54,17 @@ impl Control {
         Err(Refused::in_vain())
     }
 
-    /// Takes the wishes back: they have come true, or nobody has them any more.
-    pub fn take_back(&mut self, wishes: &[Wish]) -> Result<(), Refused> {
+    /// Withdraws the intents: they are done, or nobody has them any more.
+    pub fn withdraw(&mut self, intents: &[Intent]) -> Result<(), Refused> {
         self.catch_up()?;
-        let mut wishes = wishes.chunks(MOST_AT_ONCE);
-        wishes.try_for_each(|some| self.take_some_back(some))
+        let mut intents = intents.chunks(MOST_AT_ONCE);
+        intents.try_for_each(|some| self.withdraw_some(some))
     }
 
-    fn take_some_back(&self, wishes: &[Wish]) -> Result<(), Refused> {
+    fn withdraw_some(&self, intents: &[Intent]) -> Result<(), Refused> {
         for _ in 0..TRIES {
             let all = Transaction::new().compare(keys::LEADER, self.elected);
-            let transaction = wishes.iter().fold(all, |all, it| all.delete(it.key()));
+            let transaction = intents.iter().fold(all, |all, it| all.delete(it.key()));
             match self.durable.store().make(transaction) {
                 Ok(Outcome::Made(_)) => return Ok(()),
                 Ok(Outcome::Lost(_)) | Err(WriteError::Unknown(_)) => self.look_at_leader()?,

@@ -4,12 +4,12 @@ mod common;
 use common::cluster::{campaign, kill, Net};
 use common::handing::{Handed, Handing};
 use common::{line, opened};
-use durkenzo_driver::{keys, Command, Control, Refused, Wish};
+use durkenzo_driver::{keys, ControlCommand, DurableControl, Intent, Refused};
 use durkenzo_store::{Done, Embedded, Outcome, Store, Transaction, WriteError};
 use std::sync::atomic::{AtomicU64, Ordering};
 use std::sync::Arc;
 
-/// A store that doesn't tell what became of two of three transactions on wishes, or of commands: it makes one of these
+/// A store that doesn't tell what became of two of three transactions on intents, or of commands: it makes one of these
 /// two.
 struct Doubtful {
     store: Embedded,
@@ -47,92 +47,94 @@ fn doubtful() -> Arc<dyn Store> {
     }))
 }
 
-fn assert_wishes(control: &mut Control, wishes: &[Wish]) {
-    assert_eq!(control.wishes().unwrap(), wishes);
+fn assert_intents(control: &mut DurableControl, intents: &[Intent]) {
+    assert_eq!(control.intents().unwrap(), intents);
 }
 
 #[test]
-fn wishes_lie_there_until_they_are_taken_back() {
+fn intents_lie_there_until_they_are_withdrawn() {
     let store = doubtful();
     let durable = Arc::new(opened(&store, 2));
-    let lead = || Control::lead(durable.clone(), &line(2)).unwrap();
+    let lead = || DurableControl::lead(durable.clone(), &line(2)).unwrap();
     let mut control = lead();
-    assert_wishes(&mut control, &[]);
-    control.wish(&[Wish::Drain(2)]).unwrap();
-    control.wish(&[Wish::Home(1, 2)]).unwrap();
+    assert_intents(&mut control, &[]);
+    control.intend(&[Intent::Drain(2)]).unwrap();
+    control.intend(&[Intent::Home(1, 2)]).unwrap();
     // The first home of a shard stays.
-    control.wish(&[Wish::Home(0, 1), Wish::Home(1, 1)]).unwrap();
-    control.wish(&[Wish::Drain(2)]).unwrap();
-    let all = [Wish::Drain(2), Wish::Home(0, 1), Wish::Home(1, 2)];
-    assert_wishes(&mut control, &all);
+    control
+        .intend(&[Intent::Home(0, 1), Intent::Home(1, 1)])
+        .unwrap();
+    control.intend(&[Intent::Drain(2)]).unwrap();
+    let all = [Intent::Drain(2), Intent::Home(0, 1), Intent::Home(1, 2)];
+    assert_intents(&mut control, &all);
     // What a later version may write is passed over.
     let later = Transaction::new().put("home/00009", [2, 0, 1]);
     let later = later.put("drain/00001", [2]);
     let mut made = (0..3).map(|_| store.make(later.clone()));
     assert!(made.any(|it| matches!(it, Ok(Outcome::Made(_)))));
-    assert_wishes(&mut lead(), &all);
+    assert_intents(&mut lead(), &all);
     let mut control = lead();
     control
-        .take_back(&[Wish::Home(1, 2), Wish::Home(0, 1)])
+        .withdraw(&[Intent::Home(1, 2), Intent::Home(0, 1)])
         .unwrap();
-    assert_wishes(&mut control, &[Wish::Drain(2)]);
-    control.take_back(&[Wish::Drain(2)]).unwrap();
-    control.take_back(&[Wish::Drain(2)]).unwrap();
-    control.take_back(&[]).unwrap();
-    assert_wishes(&mut control, &[]);
+    assert_intents(&mut control, &[Intent::Drain(2)]);
+    control.withdraw(&[Intent::Drain(2)]).unwrap();
+    control.withdraw(&[Intent::Drain(2)]).unwrap();
+    control.withdraw(&[]).unwrap();
+    assert_intents(&mut control, &[]);
 }
 
 #[test]
 fn a_command_that_was_made_is_not_refused() {
     let store = doubtful();
     let durable = Arc::new(opened(&store, 1));
-    let mut control = Control::lead(durable, &line(1)).unwrap();
-    control.command(Command::Assign(0, 1)).unwrap();
+    let mut control = DurableControl::lead(durable, &line(1)).unwrap();
+    control.command(ControlCommand::Assign(0, 1)).unwrap();
     for (to, from) in [(2, 1), (1, 2)] {
         for command in [
-            Command::PrepareAddShard(0, to),
-            Command::PrepareDropShard(0),
-            Command::AddShard(0),
-            Command::DropShard(0),
-            Command::Ask(from),
-            Command::Approve(from),
-            Command::Stopped(from),
-            Command::Back(from),
+            ControlCommand::PrepareAddShard(0, to),
+            ControlCommand::PrepareDropShard(0),
+            ControlCommand::AddShard(0),
+            ControlCommand::DropShard(0),
+            ControlCommand::Ask(from),
+            ControlCommand::Approve(from),
+            ControlCommand::Stopped(from),
+            ControlCommand::Back(from),
         ] {
             control.command(command).unwrap();
         }
     }
     // What isn't to be made is refused as ever.
-    let again = control.command(Command::Back(1));
+    let again = control.command(ControlCommand::Back(1));
     assert!(matches!(again, Err(Refused::Judged(_))), "{again:?}");
 }
 
 #[test]
-fn many_wishes_lie_there() {
+fn many_intents_lie_there() {
     let store: Arc<dyn Store> = Arc::new(Embedded::in_memory());
     let durable = Arc::new(opened(&store, 1));
-    let mut control = Control::lead(durable, &line(1)).unwrap();
-    let wishes: Vec<_> = (0..500).map(|it| Wish::Home(it, 1)).collect();
-    control.wish(&wishes[..130]).unwrap();
-    control.wish(&wishes).unwrap();
-    assert_wishes(&mut control, &wishes);
-    control.take_back(&wishes).unwrap();
-    assert_wishes(&mut control, &[]);
+    let mut control = DurableControl::lead(durable, &line(1)).unwrap();
+    let intents: Vec<_> = (0..500).map(|it| Intent::Home(it, 1)).collect();
+    control.intend(&intents[..130]).unwrap();
+    control.intend(&intents).unwrap();
+    assert_intents(&mut control, &intents);
+    control.withdraw(&intents).unwrap();
+    assert_intents(&mut control, &[]);
 }
 
 #[test]
-fn who_leads_no_more_wishes_for_nothing() {
+fn who_leads_no_more_intends_nothing() {
     let store: Arc<dyn Store> = Arc::new(Embedded::in_memory());
     let nodes = Net::of_three(&store, 1);
     let mut before = campaign(&nodes[0]);
-    before.wish(&[Wish::Drain(1)]).unwrap();
+    before.intend(&[Intent::Drain(1)]).unwrap();
     // Its lease ends, and it doesn't see that.
     nodes[0].is_deaf.store(true, Ordering::Release);
     nodes[0].durable.member().unwrap().leave();
     let mut control = campaign(&nodes[1]);
     let is_refused = |it| matches!(it, Err(Refused::NotLeader));
-    assert!(is_refused(before.wish(&[Wish::Drain(2)])));
-    assert!(is_refused(before.take_back(&[Wish::Drain(1)])));
-    assert_wishes(&mut control, &[Wish::Drain(1)]);
+    assert!(is_refused(before.intend(&[Intent::Drain(2)])));
+    assert!(is_refused(before.withdraw(&[Intent::Drain(1)])));
+    assert_intents(&mut control, &[Intent::Drain(1)]);
     kill(&nodes[0]);
 }

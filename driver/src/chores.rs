@@ -1,0 +1,54 @@
+use crate::durable::{DurableInner, ReadBack, ReaderJob};
+use std::fmt;
+use std::sync::mpsc::Receiver;
+use std::sync::Arc;
+
+/// What the threads of a process do, of one that was opened by [`Durable::open_without_threads`]: whoever simulates the
+/// process does it, one piece after another.
+///
+/// [`Durable::open_without_threads`]: crate::Durable::open_without_threads
+pub struct Chores {
+    inner: Arc<DurableInner>,
+    handed: Receiver<ReaderJob>,
+    /// What is to be read, in the order in which it was asked for.
+    jobs: Vec<ReaderJob>,
+}
+
+impl Chores {
+    pub(crate) fn new(inner: Arc<DurableInner>, handed: Receiver<ReaderJob>) -> Chores {
+        Chores {
+            inner,
+            handed,
+            jobs: Vec::new(),
+        }
+    }
+
+    /// Returns how many readings of the store are due.
+    pub fn readings(&mut self) -> usize {
+        self.jobs.extend(self.handed.try_iter());
+        self.jobs.len()
+    }
+
+    /// Reads the store for the reading at this place of those that are due. Returns the call that tells the process
+    /// what was read, which may come later: four threads read at once. None if no reading is due at this place.
+    pub fn read(&mut self, place: usize) -> Option<ReadBack> {
+        let is_due = place < self.readings();
+        is_due.then(|| self.inner.read(self.jobs.remove(place)))
+    }
+
+    /// Has each shard refuse what has waited in vain, and begin the base that is due. A process does so each 10 ms.
+    pub fn tick(&self) {
+        self.inner.tick_shards();
+    }
+
+    /// Takes another number for the process, if many others have begun since. A process does so each second.
+    pub fn keep_number(&self) {
+        self.inner.keep_number();
+    }
+}
+
+impl fmt::Debug for Chores {
+    fn fmt(&self, f: &mut fmt::Formatter<'_>) -> fmt::Result {
+        f.debug_struct("Chores").finish_non_exhaustive()
+    }
+}

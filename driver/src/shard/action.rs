@@ -1,0 +1,37 @@
+use crate::work::{self, Work, WorkStep};
+use crate::Elsewhere;
+use durkenzo_store::Transaction;
+
+/// What a shard has its driver do. The shard itself does no I/O.
+pub(crate) enum Action {
+    /// Sends a server's transaction. The outcome is told by [`super::Shard::on_outcome`], with this ticket.
+    Submit(Ticket, Transaction),
+    /// Recovers the shard for a server. What was read is told by [`super::Shard::on_read`], with this ticket.
+    Read(Ticket),
+    /// Writes the parts of a server's base at these keys. Whether all were written is told by
+    /// [`super::Shard::on_base`], with this ticket.
+    WriteBase(Ticket, Vec<(Vec<u8>, Vec<u8>)>),
+    /// Looks for what may be behind the base of this server.
+    Sweep(u16),
+    /// Deletes these keys.
+    Delete(Vec<Vec<u8>>),
+    /// Tells the work its outcome.
+    Tell(Box<dyn Work>, work::WorkOutcome),
+    /// Forwards the steps to another process's server.
+    HandOver(Elsewhere, Vec<WorkStep>),
+    /// Reads the record.
+    Look,
+    /// Takes another number of a process, because the store has forgotten the clients of this one.
+    Renew,
+    /// Tells the holder that no transaction is under way.
+    Hold(Box<dyn FnOnce() + Send>),
+    /// Notes why the store has ended.
+    StoreEnded(String),
+}
+
+/// Names the transaction, the recovery or the base of a server whose outcome is told.
+#[derive(Clone, Copy, Debug, PartialEq, Eq)]
+pub(crate) struct Ticket {
+    pub(crate) server: u16,
+    pub(super) number: u64,
+}

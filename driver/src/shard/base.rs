@@ -1,0 +1,354 @@
+use super::{Action, ReplicaState, Shard, Ticket};
+use crate::decision::{Base, Passing};
+use crate::keys;
+use crate::recovery::LogSize;
+use std::time::Instant;
+
+/// How far a base is.
+#[derive(Clone, Copy, Debug, PartialEq, Eq)]
+pub(super) enum BaseProgress {
+    /// Its parts are being written: those of the base with this number of a ticket.
+    Writes(u64),
+    /// One wasn't written: once no transaction is under way the server is read anew, which makes none then.
+    Failed,
+    /// They are written, so the next transaction names it.
+    Names,
+    /// The transaction with this number does.
+    Named(u64),
+}
+
+/// What a base is wished for.
+#[derive(Debug, Default)]
+pub(super) struct BaseDemand {
+    /// Whether one is to begin as soon as its server has read the shard.
+    pub(super) is_wanted: bool,
+    /// Whether it is to make room, so that nothing else that takes some is sent meanwhile.
+    pub(super) is_alone: bool,
+    /// Whether keys were deleted since the last one.
+    pub(super) has_freed: bool,
+}
+
+/// How many bytes a log has at least before it gets another base for their number.
+const LEAST_BYTES: u64 = 1 << 20;
+/// How many bytes are read in the time that it takes to read a batch beside its own.
+const BATCH_BYTES: u64 = 1 << 10;
+
+impl Shard {
+    /// Begins a base where one is due.
+    pub(crate) fn begin_base(&mut self, is_full: bool, now: Instant, actions: &mut Vec<Action>) {
+        let may_begin = self.base.is_none() && self.base_pause.is_over(now);
+        if self.base_demand.is_wanted || self.is_base_due(is_full) && may_begin {
+            self.want_base(is_full, now, actions);
+        }
+    }
+
+    /// Whether the log is to get another base: it is long, or the store is full and keys were deleted.
+    pub(super) fn is_base_due(&self, is_full: bool) -> bool {
+        self.base_demand.is_wanted || self.is_log_long() || is_full && self.base_demand.has_freed
+    }
+
+    /// Whether the log is to get another base.
+    fn is_log_long(&self) -> bool {
+        let LogSize {
+            base,
+            batches,
+            bytes,
+        } = self.log;
+        let cost = bytes + batches * BATCH_BYTES;
+        batches >= self.tuning.most_batches || cost >= LEAST_BYTES.max(2 * base)
+    }
+
+    /// Begins a base, where the server that executes is of this process and makes none. Where it hasn't read the shard,
+    /// it reads that first. If the store is full, nothing that takes room is sent until it is over: what is refused has
+    /// the server be read anew, and so its base begun anew.
+    pub(crate) fn want_base(&mut self, is_full: bool, now: Instant, actions: &mut Vec<Action>) {
+        self.base_demand.is_wanted = false;
+        if self.base.is_some() {
+            self.base_demand.is_alone |= is_full;
+            return;
+        }
+        self.base_demand.is_alone = is_full;
+        let Some(server) = self.base_server() else {
+            return;
+        };
+        let core = match self.replicas.get_mut(&server) {
+            Some(ReplicaState::Ready(core, _)) => core,
+            Some(ReplicaState::Sent(core, ..)) if !is_full => core,
+            // What is sent may be refused, so a base begins after it.
+            Some(ReplicaState::Sent(..)) => {
+                self.base_demand.is_wanted = true;
+                return;
+            }
+            Some(ReplicaState::Unread(_) | ReplicaState::Reading(_)) | None => {
+                self.base_demand.is_wanted = true;
+                self.ready_core(server, now, actions);
+                return;
+            }
+        };
+        // Where it fails, the log stays as long as it is, and it is tried again.
+        if let Ok(Some(Base { number, parts })) = core.base() {
+            self.log.base = parts.iter().map(|it| it.len() as u64).sum();
+            self.log_before = self.log;
+            // What is deleted from now on needs another one; where this one fails, the log is read again.
+            self.base_demand.has_freed = false;
+            self.tickets += 1;
+            let ticket = Ticket {
+                server,
+                number: self.tickets,
+            };
+            self.base = Some((server, BaseProgress::Writes(ticket.number)));
+            let places = parts.into_iter().enumerate();
+            let keyed = places
+                .map(|(place, it)| (keys::part(self.number, number, place as u64), it))
+                .collect();
+            actions.push(Action::WriteBase(ticket, keyed));
+        }
+    }
+
+    /// Whether a base is made, or what is behind it isn't deleted yet.
+    pub(crate) fn makes_base(&self) -> bool {
+        self.base.is_some() || self.base_demand.is_wanted || self.sweeps > 0
+    }
+
+    /// Whether a base is made, or is to be made soon, in order to make room; or what is behind it isn't deleted yet, as
+    /// a server that is read anew wouldn't do that.
+    pub(super) fn makes_room(&self) -> bool {
+        self.base_demand.is_alone && self.makes_base()
+    }
+
+    /// The server that makes bases, if it is of this process and isn't away.
+    fn base_server(&self) -> Option<u16> {
+        let owner = self.stored.record().and_then(|it| it.owner());
+        let is_other = |it: &u16| self.me().is_some_and(|me| me != *it);
+        owner.filter(|it| !is_other(it) && !self.away.contains(it))
+    }
+
+    /// Whether one is still made, or the last one that began wasn't written and this process would make the next.
+    pub(crate) fn lacks_base(&self) -> bool {
+        self.makes_base() || (self.base_pause.is_some() && self.base_server().is_some())
+    }
+
+    /// The parts of the base that was begun so were written, or weren't. One that was given up meanwhile is no more.
+    pub(crate) fn on_base(
+        &mut self,
+        ticket: Ticket,
+        is_written: bool,
+        now: Instant,
+        actions: &mut Vec<Action>,
+    ) {
+        let Ticket { server, number } = ticket;
+        if self.base != Some((server, BaseProgress::Writes(number))) {
+            return;
+        }
+        let Some(ReplicaState::Ready(core, _) | ReplicaState::Sent(core, ..)) =
+            self.replicas.get_mut(&server)
+        else {
+            self.base = None;
+            return;
+        };
+        if is_written && core.parts_made().is_ok() {
+            self.base = Some((server, BaseProgress::Names));
+        } else {
+            self.base = Some((server, BaseProgress::Failed));
+            self.base_pause.begin(now);
+            self.end_failed_base(server);
+        }
+        self.go_on(now, actions);
+    }
+
+    /// Has a server be read anew whose base failed, where nothing that it sent is under way.
+    pub(super) fn end_failed_base(&mut self, server: u16) {
+        let is_ready = matches!(self.replicas.get(&server), Some(ReplicaState::Ready(..)));
+        if is_ready && self.base == Some((server, BaseProgress::Failed)) {
+            self.read_again(server);
+        }
+    }
+
+    /// Sends what names a base, where nothing else is to be sent.
+    pub(super) fn name_base(&mut self, actions: &mut Vec<Action>) {
+        if let Some((server, BaseProgress::Names)) = self.base {
+            if self.send(server, actions).is_err() {
+                self.read_again(server);
+            }
+        }
+    }
+
+    /// Deletes of what was found what is behind the base.
+    pub(crate) fn on_swept(&mut self, server: u16, found: &[Passing], actions: &mut Vec<Action>) {
+        self.sweeps = self.sweeps.saturating_sub(1);
+        let Some(ReplicaState::Ready(core, _) | ReplicaState::Sent(core, ..)) =
+            self.replicas.get_mut(&server)
+        else {
+            return;
+        };
+        let mut behind = Vec::new();
+        for it in found {
+            if let Ok(true) = core.is_behind(*it) {
+                behind.push(match *it {
+                    Passing::Batch(number) => keys::batch(self.number, number),
+                    Passing::Part(number, place) => keys::part(self.number, number, place),
+                });
+            }
+        }
+        actions.push(Action::Delete(behind));
+    }
+}
+
+#[cfg(test)]
+#[allow(clippy::disallowed_methods)]
+mod tests {
+    use super::*;
+    use crate::proved::Core;
+    use crate::shard::Revisions;
+    use crate::work::WorkOutcome;
+    use crate::{
+        recovery, Begin, ControlCommand, Durable, DurableControl, MapReply, MapRequest, Range,
+        StoredRecord, Tuning, Work, WorkStep,
+    };
+    use durkenzo_store::{Embedded, Revision, Store, WriteError};
+    use std::sync::mpsc::{self, Receiver, Sender};
+    use std::sync::Arc;
+
+    const LINE: &str = concat!(
+        r#"{"version":1,"bounds":[""],"servers":[{"id":1,"domain":0,"capacity":9}],"#,
+        r#""groups":[{"limit":9,"down":9}],"shards":[{"group":0,"load":1,"cap":1}],"#,
+        r#""ops":1,"kept":9,"ceiling":99,"workers":1}"#
+    );
+
+    /// A store with a shard of server 1.
+    fn written() -> Arc<dyn Store> {
+        let store: Arc<dyn Store> = Arc::new(Embedded::in_memory());
+        let open = Durable::open(store.clone(), 1, Tuning::default(), Box::new(|| {}));
+        let mut control = DurableControl::lead(Arc::new(open.unwrap()), LINE).unwrap();
+        control.command(ControlCommand::Assign(0, 1)).unwrap();
+        store
+    }
+
+    #[test]
+    fn a_base_ends_where_its_server_reads_anew() {
+        let (store, now) = (written(), Instant::now());
+        let mut shard = Shard::new(0, 1, None, Tuning::default());
+        let read = recovery::recover(&*store, 1, 0, 1).unwrap();
+        let (bytes, stood) = (read.stored.bytes().to_vec(), read.stored.revision());
+        let logged = read.logged;
+        shard.replicas.insert(1, ReplicaState::Reading(1));
+        let ticket = Ticket {
+            server: 1,
+            number: 1,
+        };
+        shard.on_read(ticket, Ok(read), now, &mut Vec::new());
+        shard.base = Some((1, BaseProgress::Writes(2)));
+        // The record changes while it isn't known what became of a transaction.
+        shard.unknown_at = Some(Revisions { stood, logged });
+        let changed = StoredRecord::new(bytes, Revision(stood.0 + 1));
+        shard.see(changed, now, &mut Vec::new());
+        assert!(matches!(
+            shard.replicas.get(&1),
+            Some(ReplicaState::Unread(_))
+        ));
+        assert_eq!(shard.base, None);
+    }
+
+    #[test]
+    fn a_base_ends_where_its_server_could_not_list() {
+        let (store, now) = (written(), Instant::now());
+        let (mut shard, mut actions) = (Shard::new(0, 1, None, Tuning::default()), Vec::new());
+        let pair = store.read(&[&keys::record(0)]).unwrap().pairs.remove(0);
+        let (stood, logged) = (pair.revision, Revision::NEVER);
+        shard.see(StoredRecord::new(pair.value, stood), now, &mut actions);
+        // A server that has read nothing refuses to list.
+        let core = Core::new(1, 0, 1).unwrap();
+        let ready = ReplicaState::Ready(core, Revisions { stood, logged });
+        shard.replicas.insert(1, ready);
+        shard.base = Some((1, BaseProgress::Writes(2)));
+        let (count, counted) = step(Begin::Count);
+        shard.take(vec![count], now, &mut actions);
+        assert_eq!(shard.base, None);
+        carried_out((&mut shard, &*store), now, actions);
+        assert_eq!(counted.recv().unwrap(), Ok(vec![MapReply::Count(0)]));
+    }
+
+    struct Asking(Sender<WorkOutcome>);
+
+    impl Work for Asking {
+        fn decide(&mut self, _held: Vec<MapReply>) -> Vec<MapRequest> {
+            Vec::new()
+        }
+
+        fn is_wanted(&self) -> bool {
+            true
+        }
+
+        fn spell(&self) -> Vec<u8> {
+            Vec::new()
+        }
+
+        fn answered(self: Box<Self>, _answer: &[u8]) {}
+
+        fn end(self: Box<Self>, outcome: WorkOutcome) {
+            self.0.send(outcome).unwrap();
+        }
+    }
+
+    fn step(begin: Begin) -> (WorkStep, Receiver<WorkOutcome>) {
+        let (tell, told) = mpsc::channel();
+        let work = Box::new(Asking(tell));
+        (WorkStep { begin, work }, told)
+    }
+
+    /// Carries out what the shard has to do, but for what names a base: returns the ticket of that.
+    fn carried_out(
+        (shard, store): (&mut Shard, &dyn Store),
+        now: Instant,
+        mut actions: Vec<Action>,
+    ) -> Option<Ticket> {
+        let mut naming = None;
+        while let Some(action) = actions.pop() {
+            match action {
+                Action::Submit(ticket, transaction) if transaction.compares.len() == 1 => {
+                    naming = Some(ticket);
+                }
+                Action::Submit(ticket, transaction) => {
+                    let outcome = store.make(transaction);
+                    shard.on_outcome(ticket, outcome, now, &mut actions);
+                }
+                Action::Read(ticket) => {
+                    let read = recovery::recover(store, 1, 0, 1);
+                    shard.on_read(ticket, read, now, &mut actions);
+                }
+                Action::WriteBase(ticket, _) => shard.on_base(ticket, true, now, &mut actions),
+                Action::Tell(work, outcome) => work.end(outcome),
+                _ => panic!("nothing else is to be done"),
+            }
+        }
+        naming
+    }
+
+    #[test]
+    fn keys_are_listed_anew_after_a_base_of_which_it_is_unknown_whether_it_is_named() {
+        let (store, now) = (written(), Instant::now());
+        let (mut shard, mut actions) = (Shard::new(0, 1, None, Tuning::default()), Vec::new());
+        let pair = store.read(&[&keys::record(0)]).unwrap().pairs.remove(0);
+        let stored = StoredRecord::new(pair.value, pair.revision);
+        shard.see(stored, now, &mut actions);
+        let put = MapRequest::Put(b"key".as_slice().into(), b"text".to_vec());
+        let (write, written) = step(Begin::Write(vec![put]));
+        shard.take(vec![write], now, &mut actions);
+        carried_out((&mut shard, &*store), now, actions);
+        assert_eq!(written.recv().unwrap(), Ok(vec![MapReply::Done]));
+        let mut actions = Vec::new();
+        shard.want_base(false, now, &mut actions);
+        let naming = carried_out((&mut shard, &*store), now, actions).expect("a base");
+
+        let (low, high, most) = (Box::from([]), None, 9);
+        let (scan, scanned) = step(Begin::Scan(Range { low, high, most }));
+        let mut actions = Vec::new();
+        shard.take(vec![scan], now, &mut actions);
+        let unknown = Err(WriteError::Unknown("a test".to_owned()));
+        shard.on_outcome(naming, unknown, now, &mut actions);
+        carried_out((&mut shard, &*store), now, actions);
+        let text = Box::new(MapReply::Text(b"text".to_vec()));
+        let found = MapReply::Pair(b"key".as_slice().into(), text);
+        assert_eq!(scanned.recv().unwrap(), Ok(vec![found]));
+    }
+}

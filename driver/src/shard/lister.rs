@@ -1,0 +1,59 @@
+use super::replica_state::{ReplicaState, Revisions};
+use crate::key_list::{Found, KeyList};
+use crate::proved::Core;
+use crate::work::Begin;
+use crate::{CoreFault, Key, Range};
+
+/// The server that executes, while it lists keys for the steps of a round. Its map is that after all requests which are
+/// made, up to the head of its revision.
+pub(crate) struct Lister {
+    server: u16,
+    core: Core,
+    at: Revisions,
+    has_failed: bool,
+}
+
+impl Lister {
+    /// Lists keys at this server, if it is ready; else gives its state back.
+    pub(super) fn new(server: u16, state: ReplicaState) -> Result<Lister, ReplicaState> {
+        match state {
+            ReplicaState::Ready(core, at) => Ok(Lister {
+                server,
+                core,
+                at,
+                has_failed: false,
+            }),
+            ReplicaState::Unread(_) | ReplicaState::Reading(_) | ReplicaState::Sent(..) => {
+                Err(state)
+            }
+        }
+    }
+
+    /// Returns the server, its state, and whether a call failed. After one that failed, the server has to read the
+    /// shard again.
+    pub(super) fn end(self) -> (u16, ReplicaState, bool) {
+        let state = ReplicaState::Ready(self.core, self.at);
+        (self.server, state, self.has_failed)
+    }
+
+    /// Returns what a step lists that begins so; nothing if the step lists no keys, or a call failed.
+    pub(crate) fn list(&mut self, begin: &Begin) -> Option<KeyList> {
+        let found = match begin {
+            Begin::Scan(range) => self.keys(range).map(Found::Pairs),
+            Begin::Keys(range) => self.keys(range).map(Found::Keys),
+            Begin::Count => self.core.count().map(Found::Count),
+            Begin::Read(_) | Begin::Change(_) | Begin::Write(_) | Begin::Numbered(..) => {
+                return None
+            }
+        };
+        self.has_failed |= found.is_err();
+        let logged = self.at.logged;
+        Some(KeyList::new(self.server, logged, found.ok()?))
+    }
+
+    fn keys(&mut self, range: &Range) -> Result<Vec<Key>, CoreFault> {
+        let Range { low, high, most } = range;
+        self.core
+            .scan(low, high.as_deref(), (*most).min(Range::MOST))
+    }
+}
