@@ -1,0 +1,359 @@
+use super::advance::Advance;
+use super::answer::ControlAnswer;
+use super::controller::Controller;
+use super::migration::Migration;
+use super::planned_moves::PlannedMoves;
+use super::progress::{Doing, Share};
+use super::Refusal;
+use durkenzo::Stand;
+use durkenzo_driver::{ControlCommand, Intent, Next};
+use std::time::{Duration, Instant};
+
+/// How long until moves that were refused are planned anew.
+const PAUSE: Duration = Duration::from_millis(10);
+
+/// The migrations of all shards of a server to where the proved plan has them go.
+#[derive(Debug)]
+pub(super) struct Drain {
+    server: u16,
+    /// Whether shards come home when the server is back.
+    is_restart: bool,
+    /// Whether it is an intent, so that whoever leads next goes on with it.
+    is_intended: bool,
+    /// How many shards there are to move; none before it has begun.
+    of: Option<usize>,
+    planned: PlannedMoves,
+    /// The migration that begins or is under way, and where it goes.
+    current: Option<(Migration, u16)>,
+    /// Which shards went where.
+    moved: Vec<(u16, u16)>,
+    /// Until when moves that were refused are planned anew.
+    end: Option<Instant>,
+}
+
+impl Drain {
+    /// The drain of the server, for a restart of it or for good.
+    pub(super) fn new(server: u16, is_restart: bool) -> Drain {
+        Drain {
+            server,
+            is_restart,
+            is_intended: false,
+            of: None,
+            planned: PlannedMoves::of(server),
+            current: None,
+            moved: Vec::new(),
+            end: None,
+        }
+    }
+
+    /// A drain for good that has begun.
+    pub(super) fn going_on(server: u16) -> Drain {
+        Drain {
+            is_intended: true,
+            ..Drain::new(server, false)
+        }
+    }
+
+    /// The server that is drained.
+    pub(super) fn server(&self) -> u16 {
+        self.server
+    }
+
+    /// The shard of which a migration is under way.
+    pub(super) fn shard_under_way(&self) -> Option<u16> {
+        self.current.as_ref().map(|it| it.0.shard())
+    }
+
+    /// Whether whoever leads goes on with it.
+    pub(super) fn is_intended(&self) -> bool {
+        self.is_intended
+    }
+
+    /// Makes the next step, and tells which shards went where at the end.
+    pub(super) fn advance(&mut self, control: &mut Controller) -> Result<Advance, Refusal> {
+        let advanced = self.go_on(control);
+        let is_over = match &advanced {
+            Ok(Advance::Done(_)) => true,
+            Ok(_) => false,
+            Err(refusal) => !refusal.is_of_store(),
+        };
+        if !(is_over && self.is_intended) {
+            return advanced;
+        }
+        let withdrawn = control.backend.withdraw(&[Intent::Drain(self.server)]);
+        match advanced {
+            // It is withdrawn the next time.
+            Ok(Advance::Done(done)) if withdrawn.is_err() => Ok(Advance::Told(done)),
+            advanced => {
+                self.is_intended = false;
+                advanced
+            }
+        }
+    }
+
+    fn go_on(&mut self, control: &mut Controller) -> Result<Advance, Refusal> {
+        if self.of.is_none() {
+            self.of = Some(self.begin(control)?);
+        }
+        match self.step(control) {
+            Err(refusal) if !refusal.is_of_store() => match self.current.take() {
+                Some((migration, _)) => self.put_aside(migration.shard(), refusal),
+                // It is the plan that was refused, and no move.
+                None => Err(refusal),
+            },
+            stepped => stepped,
+        }
+    }
+
+    /// Goes on with other shards, as this one's move was refused; with a plan anew, if that may be why.
+    fn put_aside(&mut self, shard: u16, refusal: Refusal) -> Result<Advance, Refusal> {
+        if self.is_restart && refusal.is_for_good() {
+            return Err(refusal);
+        }
+        if !self.planned.forget() {
+            self.planned.put_aside(shard, refusal);
+        }
+        Ok(Advance::soon())
+    }
+
+    /// Returns how many shards the server is to lose. Refused if there is no such server, or if a shard fits nowhere
+    /// else and can't wait for the server's return.
+    fn begin(&mut self, control: &mut Controller) -> Result<usize, Refusal> {
+        if !(1..=control.backend.servers()).contains(&self.server) {
+            return Err(Refusal::unknown_server());
+        }
+        if !control.backend.lasts() {
+            let plan = control.backend.plan(self.server)?;
+            if let Some(shard) = plan.left.first() {
+                return Err(Refusal::no_room(*shard));
+            }
+        }
+        Ok(self.left(control)?.len())
+    }
+
+    /// The shards that the server still executes alone.
+    fn left(&self, control: &mut Controller) -> Result<Vec<u16>, Refusal> {
+        let mut left = Vec::new();
+        for shard in 0..control.backend.shards() {
+            let record = control.backend.record(shard)?;
+            if record.is_some_and(|it| it.stand == Stand::Serving(self.server)) {
+                left.push(shard);
+            }
+        }
+        Ok(left)
+    }
+
+    fn step(&mut self, control: &mut Controller) -> Result<Advance, Refusal> {
+        if let Some((migration, to)) = &mut self.current {
+            match migration.advance(control)? {
+                // Of a shard that stayed the plan tells what comes next.
+                Advance::Done(_) if control.is_at(migration.shard(), *to)? => {
+                    self.moved.push((migration.shard(), *to));
+                    self.end = None;
+                }
+                Advance::Done(_) => {}
+                other => return Ok(other),
+            }
+            self.current = None;
+        }
+        match self.planned.next(control)? {
+            Next::Waits => return Ok(Advance::Later),
+            Next::Nothing => return self.ended(control),
+            Next::Command(ControlCommand::Pause(shard)) if !control.backend.lasts() => {
+                return Err(Refusal::no_room(shard));
+            }
+            Next::Command(command) => {
+                self.intend(control, command)?;
+                if let later @ Advance::Later = self.make(control, command)? {
+                    return Ok(later);
+                }
+            }
+        }
+        self.tell(control);
+        Ok(Advance::Again)
+    }
+
+    /// Nothing more is to be moved, but for what was refused.
+    fn ended(&mut self, control: &mut Controller) -> Result<Advance, Refusal> {
+        let left = self.left(control)?;
+        if self.planned.refused().is_some() && !left.is_empty() {
+            return self.try_again(control, &left);
+        }
+        let is_for_good = !self.is_restart && !control.backend.lasts();
+        if let Some(shard) = left.first().filter(|_| is_for_good) {
+            return Err(Refusal::no_room(*shard));
+        }
+        Ok(Advance::Done(ControlAnswer::of_moves(self.moved.drain(..))))
+    }
+
+    /// Has moves that were refused be planned anew for a while, as another task may have their shards.
+    fn try_again(&mut self, control: &Controller, left: &[u16]) -> Result<Advance, Refusal> {
+        let end = *self.end.get_or_insert_with(|| control.patience());
+        let refused = self
+            .planned
+            .refused()
+            .map(|(shard, why)| (shard, why.clone()));
+        if Instant::now() < end && self.planned.take_up_aside() {
+            return Ok(Advance::At(Instant::now() + PAUSE));
+        }
+        match refused {
+            Some((_, refusal)) if self.is_restart => Err(refusal),
+            Some((shard, refusal)) => Err(refusal.with_left(shard, self.server, left)),
+            None => Ok(Advance::soon()),
+        }
+    }
+
+    /// Makes the command; goes on with the migration that it begins, also if the store doesn't say that it did.
+    fn make(
+        &mut self,
+        control: &mut Controller,
+        command: ControlCommand,
+    ) -> Result<Advance, Refusal> {
+        if let ControlCommand::PrepareAddShard(shard, to) = command {
+            self.current = Some((Migration::going_on(shard), to));
+        }
+        let stepped = control.step(command);
+        if matches!(stepped, Ok(Advance::Later)) {
+            self.current = None;
+        }
+        stepped
+    }
+
+    /// Keeps as an intent, before its command, what is to be gone on with.
+    fn intend(&mut self, control: &mut Controller, command: ControlCommand) -> Result<(), Refusal> {
+        if self.is_restart {
+            return match command {
+                ControlCommand::PrepareAddShard(shard, _) => {
+                    control.have_come_home(shard, self.server)
+                }
+                _ => Ok(()),
+            };
+        }
+        if !self.is_intended {
+            control.backend.intend(&[Intent::Drain(self.server)])?;
+            self.is_intended = control.backend.lasts();
+        }
+        Ok(())
+    }
+
+    fn tell(&self, control: &Controller) {
+        let done = self.moved.len();
+        let of = done + usize::from(self.current.is_some());
+        let of = of.max(self.of.unwrap_or_default());
+        let doing = Doing::Draining(Share { done, of });
+        control.tell(self.server, doing);
+    }
+
+    /// Ends it where it is: one server has the shard that is under way alone.
+    pub(super) fn give_up(&self, control: &mut Controller) -> Result<(), Refusal> {
+        match &self.current {
+            Some((migration, _)) => migration.give_up(control),
+            None => Ok(()),
+        }
+    }
+}
+
+#[cfg(test)]
+mod tests {
+    use super::super::plain_backend::PlainBackend;
+    use super::*;
+    use std::thread;
+
+    /// Drains server 1 to its end.
+    fn drained(backend: &PlainBackend) -> Result<ControlAnswer, Refusal> {
+        ended(backend, Drain::new(1, false))
+    }
+
+    /// Has the drain go on to its end.
+    fn ended(backend: &PlainBackend, mut drain: Drain) -> Result<ControlAnswer, Refusal> {
+        let mut control = backend.control();
+        loop {
+            match drain.advance(&mut control)? {
+                Advance::Done(answer) => return Ok(answer),
+                Advance::At(due) => thread::sleep(due.saturating_duration_since(Instant::now())),
+                Advance::Again | Advance::Later | Advance::Told(_) => {}
+            }
+        }
+    }
+
+    #[test]
+    fn a_drain_in_memory_is_planned_once() {
+        let backend = PlainBackend::of(50, Stand::Serving(1));
+        let told = drained(&backend).unwrap();
+        assert_eq!(told, ControlAnswer::of_moves((0..50).map(|it| (it, 2))));
+        // Before it begins, for its moves, and to find that nothing is left.
+        assert!(backend.plain().plans <= 4, "{}", backend.plain().plans);
+    }
+
+    #[test]
+    fn what_another_task_moved_meanwhile_stays_there() {
+        let backend = PlainBackend::of(3, Stand::Serving(1));
+        let (mut control, mut drain) = (backend.control(), Drain::new(1, false));
+        drain.advance(&mut control).unwrap();
+        backend.plain().stands[2] = Stand::Serving(2);
+        while backend.plain().stands[1] != Stand::Serving(2) {
+            drain.advance(&mut control).unwrap();
+        }
+        let end = drain.advance(&mut control).unwrap();
+        let Advance::Done(told) = end else {
+            panic!("{end:?}");
+        };
+        assert_eq!(told, ControlAnswer::of_moves([(0, 2), (1, 2)]));
+    }
+
+    #[test]
+    fn vacant_shards_are_planned_once_in_memory() {
+        let backend = PlainBackend::of(50, Stand::Vacant);
+        let told = backend.control().place().unwrap();
+        assert_eq!(told, ControlAnswer::of_moves((0..50).map(|it| (it, 1))));
+        assert!(backend.plain().plans <= 3, "{}", backend.plain().plans);
+    }
+
+    #[test]
+    fn a_store_plans_each_move_by_what_lies_there() {
+        let backend = PlainBackend::of(5, Stand::Serving(1));
+        backend.plain().lasts = true;
+        drained(&backend).unwrap();
+        assert!(backend.plain().plans > 5, "{}", backend.plain().plans);
+    }
+
+    #[test]
+    fn shards_that_cannot_be_moved_hold_no_others_back() {
+        for lasts in [false, true] {
+            let backend = PlainBackend::of(6, Stand::Serving(1));
+            backend.plain().lasts = lasts;
+            backend.plain().spent = [0, 3].into();
+            let told = drained(&backend).unwrap_err().to_string();
+            let wanted =
+                "shard 0: the shard's generations are spent; 2 shards are left at server 1: 0, 3; ";
+            assert!(
+                told.starts_with("REFUSED Spent: ") && told.contains(wanted),
+                "{told}"
+            );
+            let mut stands = [Stand::Serving(2); 6];
+            stands[0] = Stand::Serving(1);
+            stands[3] = Stand::Serving(1);
+            assert_eq!(backend.plain().stands, stands);
+        }
+    }
+
+    #[test]
+    fn what_was_refused_for_a_while_is_moved_after_the_others() {
+        let backend = PlainBackend::of(4, Stand::Serving(1));
+        backend.plain().busy = [(1, 5)].into();
+        let told = drained(&backend).unwrap();
+        assert_eq!(
+            told,
+            ControlAnswer::of_moves([0, 2, 3, 1].map(|it| (it, 2)))
+        );
+    }
+
+    #[test]
+    fn a_restart_is_refused_at_the_first_shard_that_stays_for_good() {
+        let backend = PlainBackend::of(4, Stand::Serving(1));
+        backend.plain().spent = [1].into();
+        let refused = ended(&backend, Drain::new(1, true)).unwrap_err();
+        assert!(refused.is_for_good(), "{refused}");
+        assert_eq!(backend.plain().stands[2], Stand::Serving(1));
+    }
+}

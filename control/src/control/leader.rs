@@ -1,0 +1,389 @@
+//! What the control of several processes does beside answering. It is the failure detector: a server whose key has gone
+//! with its lease has failed, and its shards go to others.
+use super::controller::{Controller, Led, TURN};
+use super::held_command::{HeldCommand, Waiting};
+use super::task::Task;
+use super::{Asked, OtherControls, Refusal};
+use durkenzo_driver::{ControlCommand, Next, ServerState};
+use std::collections::BTreeSet;
+use std::sync::atomic::{AtomicBool, Ordering};
+use std::sync::mpsc::{Receiver, RecvTimeoutError};
+use std::sync::Arc;
+use std::time::{Duration, Instant};
+
+/// How often it is looked who is there.
+const TICK: Duration = Duration::from_millis(50);
+/// How long it isn't looked again after that failed.
+const PAUSE: Duration = Duration::from_millis(500);
+/// How long vacant shards wait for all servers before those that are there get them.
+pub const FIRST_WAIT: Duration = Duration::from_secs(10);
+
+impl Controller {
+    /// Leads several processes, until another one does or nobody can ask any more. Vacant shards get owners, where that
+    /// is wanted, once all servers are there, or have been waited for. Where this process's server is back from a stop
+    /// it is up then.
+    pub(super) fn lead(
+        mut self,
+        peers: &Arc<dyn OtherControls>,
+        assigns: bool,
+        is_back: &Arc<AtomicBool>,
+        (waiting, asked): (&Waiting, &Receiver<Asked>),
+    ) -> Led {
+        self.peers = Some(peers.clone());
+        let mut watch = LeaderWatch::new(assigns, is_back.clone());
+        loop {
+            let left = watch.due.saturating_duration_since(Instant::now());
+            let goes_on = match asked.recv_timeout(self.wait_as_leader().min(left)) {
+                Ok(asked) => {
+                    waiting.hold(asked);
+                    Led::Elsewhere
+                }
+                Err(RecvTimeoutError::Timeout) => Led::Elsewhere,
+                Err(RecvTimeoutError::Disconnected) => Led::Over,
+            };
+            // What waits goes to whoever leads then.
+            if goes_on == Led::Over || self.host.is_stopping() {
+                self.leave();
+                return goes_on;
+            }
+            self.take_waiting(waiting, watch.has_begun);
+            self.run_tasks();
+            if let Err(refusal) = watch.look(&mut self) {
+                tracing::warn!(%refusal, "the control doesn't go on for now");
+                watch.due = Instant::now() + PAUSE;
+            }
+            if self.is_lost || watch.is_led_elsewhere(&**peers) {
+                self.leave();
+                return Led::Elsewhere;
+            }
+        }
+    }
+
+    /// Takes what waits, once all that was under way before it is known: an intent that is read behind a command
+    /// would undo that. Before then what has waited in vain is refused.
+    fn take_waiting(&mut self, waiting: &Waiting, has_begun: bool) {
+        let now = Instant::now();
+        for HeldCommand { until, asked } in waiting.take() {
+            match has_begun {
+                true => self.take(asked),
+                false if until <= now => asked.refuse(Refusal::no_leader()),
+                false => waiting.hold_again(HeldCommand { until, asked }),
+            }
+        }
+    }
+}
+
+/// How far a leader is with what it looks after.
+struct LeaderWatch {
+    /// When it looks next.
+    due: Instant,
+    /// Whether it has looked at all that was under way when it began.
+    has_begun: bool,
+    /// Until when vacant shards wait for all servers; none where they have got owners.
+    assigns: Option<Instant>,
+    /// Whether others know that this process leads.
+    is_known: bool,
+    /// Whether a server may have failed since it went on with the shards of those that had.
+    has_fallen: bool,
+    /// Whether this process's server is back from a stop, and not up yet.
+    is_back: Arc<AtomicBool>,
+}
+
+impl LeaderWatch {
+    fn new(assigns: bool, is_back: Arc<AtomicBool>) -> LeaderWatch {
+        let now = Instant::now();
+        LeaderWatch {
+            due: now,
+            has_begun: false,
+            assigns: assigns.then_some(now + FIRST_WAIT),
+            is_known: false,
+            has_fallen: false,
+            is_back,
+        }
+    }
+
+    /// Whether another process leads, or this one's lease has ended.
+    fn is_led_elsewhere(&mut self, peers: &dyn OtherControls) -> bool {
+        let leads = peers.member().leader() == Some(peers.member().process());
+        self.is_known |= leads;
+        self.is_known && !leads
+    }
+
+    fn look(&mut self, control: &mut Controller) -> Result<(), Refusal> {
+        if Instant::now() < self.due {
+            return Ok(());
+        }
+        self.due = Instant::now() + TICK;
+        if !self.has_begun {
+            begin(control)?;
+            self.has_begun = true;
+        }
+        self.have_own_back(control)?;
+        have_back(control)?;
+        if self.assigns.is_some() {
+            self.assign(control)?;
+        }
+        // While no shard has an owner, who isn't there may only not have come yet.
+        if self.assigns.is_none() || is_owned(control)? {
+            self.have_fail(control)?;
+        }
+        control.resume_left()
+    }
+
+    /// Has servers have failed that aren't there any more, and goes on with their shards: at the next look where the
+    /// store doesn't let it now.
+    fn have_fail(&mut self, control: &mut Controller) -> Result<(), Refusal> {
+        while let Some(server) = control.backend.fallen()? {
+            // It may be made, whatever the store says of it.
+            self.has_fallen = true;
+            match control.make(ControlCommand::Fail(server)) {
+                // It is back under a new lease: the next look reads anew who is there.
+                Err(refusal) if refusal.is_still_there() => {
+                    self.due = Instant::now() + PAUSE;
+                    break;
+                }
+                made => made?,
+            }
+        }
+        if self.has_fallen {
+            go_on_with_shards(control)?;
+            self.has_fallen = false;
+        }
+        Ok(())
+    }
+
+    /// Has this process's server be up, where it was stopped before the process began.
+    fn have_own_back(&self, control: &mut Controller) -> Result<(), Refusal> {
+        let own = control.peers.as_ref().map(|it| it.member().server());
+        if let Some(own) = own.filter(|_| self.is_back.load(Ordering::Acquire)) {
+            if control.backend.state_of(own)? == ServerState::Stopped {
+                control.make(ControlCommand::Back(own))?;
+            }
+            self.is_back.store(false, Ordering::Release);
+        }
+        Ok(())
+    }
+
+    /// Gives vacant shards owners for a while, if it is time.
+    fn assign(&mut self, control: &mut Controller) -> Result<(), Refusal> {
+        let live = live(control);
+        let is_due = self.assigns.is_some_and(|it| it <= Instant::now());
+        let are_all = live.len() == usize::from(control.backend.servers());
+        if !has_vacant(control)? {
+            self.assigns = None;
+            return Ok(());
+        }
+        if live.is_empty() || !(is_due || are_all) {
+            return Ok(());
+        }
+        let live: Vec<u16> = live.into_iter().collect();
+        let end = Instant::now() + TURN;
+        for shard in 0..control.backend.shards() {
+            control.assign(shard, live[usize::from(shard) % live.len()])?;
+            if Instant::now() >= end {
+                self.due = Instant::now();
+                return Ok(());
+            }
+        }
+        control.place()?;
+        self.assigns = None;
+        Ok(())
+    }
+}
+
+/// Whether a shard has no owner.
+fn has_vacant(control: &mut Controller) -> Result<bool, Refusal> {
+    for shard in 0..control.backend.shards() {
+        if control.is_vacant(shard)? {
+            return Ok(true);
+        }
+    }
+    Ok(false)
+}
+
+/// Whether a shard has an owner.
+fn is_owned(control: &mut Controller) -> Result<bool, Refusal> {
+    for shard in 0..control.backend.shards() {
+        if !control.is_vacant(shard)? {
+            return Ok(true);
+        }
+    }
+    Ok(false)
+}
+
+/// The servers that are there.
+fn live(control: &Controller) -> BTreeSet<u16> {
+    let peers = control.peers.as_ref();
+    let members = peers.map(|it| it.member().members());
+    members.iter().flat_map(|it| it.keys().copied()).collect()
+}
+
+/// Goes on where the process that led before was.
+fn begin(control: &mut Controller) -> Result<(), Refusal> {
+    let known: BTreeSet<u16> = control.tasks.iter().filter_map(Task::restarts).collect();
+    for server in 1..=control.backend.servers() {
+        control.note_state(server)?;
+        let state = control.backend.state_of(server)?;
+        let is_under_way = matches!(state, ServerState::Asked | ServerState::Approved);
+        if is_under_way && !known.contains(&server) {
+            control.tasks.push(Task::restart(server));
+        }
+    }
+    go_on_with_shards(control)?;
+    control.go_on_with_intents()
+}
+
+/// Goes on with shards of which something is under way, but for those with which it does already.
+fn go_on_with_shards(control: &mut Controller) -> Result<(), Refusal> {
+    let known: BTreeSet<u16> = control
+        .tasks
+        .iter()
+        .filter_map(Task::shard_going_on)
+        .collect();
+    for shard in 0..control.backend.shards() {
+        if !known.contains(&shard) && control.backend.next_of_shard(shard)? != Next::Nothing {
+            control.tasks.push(Task::going_on(shard));
+        }
+    }
+    Ok(())
+}
+
+/// Has servers be up again that had failed and are there, once all that they owned went elsewhere or can't. One that
+/// was stopped asks for it where its process begins.
+fn have_back(control: &mut Controller) -> Result<(), Refusal> {
+    for server in live(control) {
+        if control.backend.state_of(server)? == ServerState::Failed {
+            have_one_back(control, server)?;
+        }
+    }
+    Ok(())
+}
+
+/// Has this server be up again, unless a shard of it still goes elsewhere. Those that fit on no other server are
+/// resumed then.
+fn have_one_back(control: &mut Controller, server: u16) -> Result<(), Refusal> {
+    for shard in 0..control.backend.shards() {
+        let record = control.backend.record(shard)?;
+        let is_owned = record.is_some_and(|it| it.owner() == Some(server));
+        if is_owned && matches!(control.backend.next_of_shard(shard)?, Next::Command(_)) {
+            return go_on_with_shards(control);
+        }
+    }
+    control.make(ControlCommand::Back(server))
+}
+
+#[cfg(test)]
+mod tests {
+    use super::super::backend::{Backend, BackendFault};
+    use super::super::progress::Doing;
+    use super::super::{ControlHost, ReplyTo};
+    use super::*;
+    use durkenzo::{Plan, PlanFault, Record};
+    use durkenzo_driver::Refused;
+
+    /// A program that shows nothing.
+    struct Silent;
+
+    impl ControlHost for Silent {
+        fn is_stopping(&self) -> bool {
+            false
+        }
+
+        fn pace(&self) -> Duration {
+            Duration::ZERO
+        }
+
+        fn note_state(&self, _server: u16, _state: ServerState) {}
+
+        fn note_progress(&self, _server: u16, _doing: Option<Doing>) {}
+
+        fn note_change(&self, _command: ControlCommand) {}
+
+        fn note_load(&self) {}
+
+        fn shard_line(&self, _shard: u16) -> Option<String> {
+            None
+        }
+
+        fn shard_lines(&self) -> Vec<String> {
+            Vec::new()
+        }
+
+        fn server_lines(&self) -> Vec<String> {
+            Vec::new()
+        }
+
+        fn settings_lines(&self) -> Vec<String> {
+            Vec::new()
+        }
+
+        fn route_lines(&self) -> Vec<String> {
+            Vec::new()
+        }
+
+        fn compact(&self, _reply_to: Box<dyn ReplyTo>) {}
+    }
+
+    /// Two servers without shards, of which the second is always back as it is said to have failed.
+    struct Returning;
+
+    impl Backend for Returning {
+        fn servers(&self) -> u16 {
+            2
+        }
+
+        fn shards(&self) -> u16 {
+            0
+        }
+
+        fn lasts(&self) -> bool {
+            true
+        }
+
+        fn command(&mut self, command: ControlCommand) -> Result<(), BackendFault> {
+            assert_eq!(command, ControlCommand::Fail(2));
+            Err(Refused::StillThere(2).into())
+        }
+
+        fn next_of_shard(&mut self, _shard: u16) -> Result<Next, BackendFault> {
+            Ok(Next::Nothing)
+        }
+
+        fn next_of_server(&mut self, _server: u16) -> Result<Next, BackendFault> {
+            Ok(Next::Nothing)
+        }
+
+        fn next_of_drain(&mut self, _server: u16) -> Result<Next, BackendFault> {
+            Ok(Next::Nothing)
+        }
+
+        fn plan(&mut self, _server: u16) -> Result<Plan, BackendFault> {
+            Err(PlanFault::UnknownServer.into())
+        }
+
+        fn record(&mut self, _shard: u16) -> Result<Option<Record>, BackendFault> {
+            Ok(None)
+        }
+
+        fn state_of(&mut self, _server: u16) -> Result<ServerState, BackendFault> {
+            Ok(ServerState::Up)
+        }
+
+        fn show_state(&mut self, _server: u16, _state: ServerState) {}
+
+        fn fallen(&mut self) -> Result<Option<u16>, BackendFault> {
+            Ok(Some(2))
+        }
+    }
+
+    #[test]
+    fn a_server_that_is_back_holds_up_nothing() {
+        let mut control = Controller::new(Arc::new(Silent), Box::new(Returning));
+        let mut watch = LeaderWatch::new(false, Arc::default());
+        let began = Instant::now();
+        watch.have_fail(&mut control).unwrap();
+        // Who is there is read again at the next look, which comes no sooner.
+        assert!(watch.due >= began + PAUSE);
+        assert!(!watch.has_fallen && !control.is_lost);
+    }
+}

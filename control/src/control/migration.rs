@@ -1,0 +1,137 @@
+use super::advance::Advance;
+use super::answer::ControlAnswer;
+use super::controller::{Controller, PATIENCE};
+use super::Refusal;
+use durkenzo::Stand;
+use durkenzo_driver::{ControlCommand, Next};
+use std::time::Instant;
+
+/// A whole migration of a shard, of which each call makes a step.
+#[derive(Debug)]
+pub(super) struct Migration {
+    shard: u16,
+    /// The server to which somebody has it go.
+    to: Option<u16>,
+    /// Whether it has begun, so that whoever leads goes on with it.
+    has_begun: bool,
+    /// Whether it may have begun all the same, as the store didn't say so.
+    is_doubtful: bool,
+    /// Until when the next step is tried again, while another thread has the shard.
+    end: Option<Instant>,
+}
+
+impl Migration {
+    /// The migration of the shard to this server.
+    pub(super) fn new(shard: u16, server: u16) -> Migration {
+        Migration {
+            to: Some(server),
+            has_begun: false,
+            ..Migration::going_on(shard)
+        }
+    }
+
+    /// A migration that has begun, or what else is under way of the shard.
+    pub(super) fn going_on(shard: u16) -> Migration {
+        Migration {
+            shard,
+            to: None,
+            has_begun: true,
+            is_doubtful: false,
+            end: None,
+        }
+    }
+
+    /// The shard.
+    pub(super) fn shard(&self) -> u16 {
+        self.shard
+    }
+
+    /// Whether it has begun, so that whoever leads goes on with it.
+    pub(super) fn has_begun(&self) -> bool {
+        self.has_begun
+    }
+
+    /// Makes the next step. If another thread keeps it from one before the owner's change, the shard stays.
+    pub(super) fn advance(&mut self, control: &mut Controller) -> Result<Advance, Refusal> {
+        match self.step(control) {
+            Err(refusal) if refusal.is_passing() => {
+                let end = *self.end.get_or_insert_with(|| Instant::now() + PATIENCE);
+                if Instant::now() < end {
+                    return Ok(Advance::soon());
+                }
+                self.cancel(control)?;
+                Err(refusal)
+            }
+            advanced => {
+                self.end = None;
+                advanced
+            }
+        }
+    }
+
+    fn step(&mut self, control: &mut Controller) -> Result<Advance, Refusal> {
+        if let Some(server) = self.to.filter(|_| !self.has_begun) {
+            return self.begin(server, control);
+        }
+        match control.backend.next_of_shard(self.shard)? {
+            Next::Nothing => self.end(control),
+            Next::Waits => Ok(Advance::Later),
+            Next::Command(command) => {
+                if let ControlCommand::Pause(shard) = command {
+                    control.paused.insert(shard);
+                }
+                control.step(command)
+            }
+        }
+    }
+
+    fn begin(&mut self, server: u16, control: &mut Controller) -> Result<Advance, Refusal> {
+        let has_begun =
+            self.is_doubtful && control.backend.next_of_shard(self.shard)? != Next::Nothing;
+        if !has_begun {
+            let made = control.make(ControlCommand::PrepareAddShard(self.shard, server));
+            self.is_doubtful = made.as_ref().is_err_and(Refusal::is_of_store);
+            made?;
+        }
+        self.has_begun = true;
+        Ok(Advance::Again)
+    }
+
+    /// Nothing is under way any more: it is refused if the shard isn't at the server to which it was to go.
+    fn end(&self, control: &mut Controller) -> Result<Advance, Refusal> {
+        match self.to {
+            Some(server) if !control.is_at(self.shard, server)? => {
+                Err(Refusal::not_moved(self.shard, server))
+            }
+            _ => Ok(Advance::Done(ControlAnswer::Done)),
+        }
+    }
+
+    /// Has the shard's owner execute alone again, if the next owner doesn't own it yet.
+    fn cancel(&self, control: &mut Controller) -> Result<(), Refusal> {
+        match self.stand(control)? {
+            Some(Stand::Prepared { .. } | Stand::Forwarding { .. }) => {
+                control.make_patiently(ControlCommand::Cancel(self.shard))
+            }
+            _ => Ok(()),
+        }
+    }
+
+    /// Ends it where it is: one server has the shard alone.
+    pub(super) fn give_up(&self, control: &mut Controller) -> Result<(), Refusal> {
+        if !self.has_begun {
+            return Ok(());
+        }
+        match self.stand(control)? {
+            Some(Stand::Taken { .. }) => {
+                control.make_patiently(ControlCommand::DropShard(self.shard))
+            }
+            _ => self.cancel(control),
+        }
+    }
+
+    fn stand(&self, control: &mut Controller) -> Result<Option<Stand>, Refusal> {
+        let record = control.backend.record(self.shard)?;
+        Ok(record.map(|it| it.stand))
+    }
+}

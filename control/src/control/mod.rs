@@ -1,0 +1,75 @@
+//! The control: who owns a shard, and which server is restarted. It has a thread of its own.
+//!
+//! A [`Controller`] takes commands, [`Asked`], and answers each of them once. It stands on a [`Backend`]: a store, by
+//! [`StoreBackend`], or what else makes commands and has proved code say what comes next. Of several processes that
+//! share a store each has a [`Campaigner`]: it leads with a controller of its own, or has the one that leads answer.
+//!
+//! ```
+//! use durkenzo_control::control::{Asked, ControlAnswer, Refusal, ReplyTo, Words};
+//! use std::sync::mpsc::{channel, Sender};
+//!
+//! /// Answers go to whoever has the other end.
+//! #[derive(Debug)]
+//! struct Teller(Sender<Result<ControlAnswer, Refusal>>);
+//!
+//! impl ReplyTo for Teller {
+//!     fn send(self: Box<Self>, answer: Result<ControlAnswer, Refusal>) {
+//!         // Nobody may wait any more.
+//!         let _ = self.0.send(answer);
+//!     }
+//!
+//!     fn pass_on(self: Box<Self>, _answer: Vec<u8>) {
+//!         unreachable!("there is one process");
+//!     }
+//! }
+//!
+//! let (tell, told) = channel();
+//! let asked = Asked { words: Words::of(["SM", "LOOK", "0"]), reply_to: Box::new(Teller(tell)) };
+//! asked.refuse(Refusal::crowded());
+//! assert!(told.recv()?.unwrap_err().to_string().starts_with("REFUSED Crowded: "));
+//! # Ok::<(), std::sync::mpsc::RecvError>(())
+//! ```
+mod advance;
+mod answer;
+mod asked;
+mod backend;
+mod campaigner;
+mod control_host;
+mod controller;
+mod drain;
+mod held_command;
+mod homes;
+mod leader;
+mod migration;
+mod other_controls;
+#[cfg(test)]
+mod plain_backend;
+mod planned_moves;
+mod progress;
+mod refusal;
+mod refusal_names;
+mod reply_to;
+mod restart;
+mod rolling_restart;
+mod spread;
+mod store_backend;
+mod task;
+mod word_table;
+mod words;
+
+pub use advance::Advance;
+pub use answer::ControlAnswer;
+pub use asked::{Asked, MOST_ASKED};
+pub use backend::{Backend, BackendFault, FileWork, StateWait};
+pub use campaigner::Campaigner;
+pub use control_host::ControlHost;
+pub use controller::{Controller, TURN};
+pub use held_command::{Again, Waiting};
+pub use leader::FIRST_WAIT;
+pub use other_controls::OtherControls;
+pub use progress::{Doing, Progress, Share};
+pub use refusal::Refusal;
+pub use reply_to::ReplyTo;
+pub use store_backend::StoreBackend;
+pub use word_table::is_of_all;
+pub use words::Words;

@@ -1,0 +1,210 @@
+//! What tests have a control stand on: plain records, by which no caps or rooms are judged.
+use super::backend::{Backend, BackendFault};
+use super::controller::Controller;
+use super::progress::Doing;
+use super::{ControlHost, ReplyTo};
+use durkenzo::{ChangeFault, Move, Plan, Record, RestartFault, Stand};
+use durkenzo_driver::{ControlCommand, Next, ServerState, Subject};
+use std::collections::{BTreeMap, BTreeSet};
+use std::sync::{Arc, Mutex, MutexGuard};
+use std::time::Duration;
+
+/// Two servers, of which each takes all shards of the other. What a test looks at or has go wrong, it shares.
+#[derive(Clone, Default)]
+pub(super) struct PlainBackend(Arc<Mutex<Plain>>);
+
+#[derive(Default)]
+pub(super) struct Plain {
+    pub(super) stands: Vec<Stand>,
+    pub(super) lasts: bool,
+    /// How often it planned.
+    pub(super) plans: usize,
+    /// The shards of which no change begins.
+    pub(super) spent: BTreeSet<u16>,
+    /// The shards that are busy, and for how many tries.
+    pub(super) busy: BTreeMap<u16, u32>,
+}
+
+impl PlainBackend {
+    /// So many shards, which all stand so.
+    pub(super) fn of(shards: usize, stand: Stand) -> PlainBackend {
+        let plain = Plain {
+            stands: vec![stand; shards],
+            ..Plain::default()
+        };
+        PlainBackend(Arc::new(Mutex::new(plain)))
+    }
+
+    /// A control that stands on it.
+    pub(super) fn control(&self) -> Controller {
+        Controller::new(Arc::new(QuietHost), Box::new(self.clone()))
+    }
+
+    /// What tests look at.
+    pub(super) fn plain(&self) -> MutexGuard<'_, Plain> {
+        self.0.lock().unwrap()
+    }
+}
+
+impl Plain {
+    fn record(&self, shard: u16) -> Option<Record> {
+        let stand = *self.stands.get(usize::from(shard))?;
+        let (admitted, generation) = (false, 0);
+        Some(Record {
+            stand,
+            admitted,
+            generation,
+        })
+    }
+
+    fn plan(&mut self, server: u16) -> Plan {
+        self.plans += 1;
+        let wanted = match server {
+            0 => Stand::Vacant,
+            server => Stand::Serving(server),
+        };
+        let (shards, server) = ((0..).zip(&self.stands), other(server));
+        let own = shards.filter(|it| *it.1 == wanted).map(|it| it.0);
+        Plan {
+            moves: own.map(|shard| Move { shard, server }).collect(),
+            left: Vec::new(),
+        }
+    }
+
+    fn change(&mut self, command: ControlCommand) -> Result<(), ChangeFault> {
+        let Subject::Shard(shard) = command.subject() else {
+            return Ok(());
+        };
+        let record = self.record(shard).ok_or(ChangeFault::UnknownShard)?;
+        if self.spent.contains(&shard) {
+            return Err(ChangeFault::Spent(record));
+        }
+        if let Some(left) = self.busy.get_mut(&shard).filter(|it| **it > 0) {
+            *left -= 1;
+            return Err(ChangeFault::Busy(record));
+        }
+        self.stands[usize::from(shard)] = match (command, record.stand) {
+            (ControlCommand::Assign(_, owner), Stand::Vacant) => Stand::Serving(owner),
+            (ControlCommand::PrepareAddShard(_, next), Stand::Serving(owner)) => {
+                Stand::Prepared { owner, next }
+            }
+            (ControlCommand::PrepareDropShard(_), Stand::Prepared { owner, next }) => {
+                Stand::Forwarding { owner, next }
+            }
+            (ControlCommand::AddShard(_), Stand::Forwarding { owner, next }) => Stand::Taken {
+                owner: next,
+                previous: owner,
+            },
+            (ControlCommand::DropShard(_), Stand::Taken { owner, .. }) => Stand::Serving(owner),
+            _ => return Err(ChangeFault::WrongPhase),
+        };
+        Ok(())
+    }
+}
+
+/// The server that takes shards of this one.
+fn other(server: u16) -> u16 {
+    server % 2 + 1
+}
+
+impl Backend for PlainBackend {
+    fn servers(&self) -> u16 {
+        2
+    }
+
+    fn shards(&self) -> u16 {
+        u16::try_from(self.plain().stands.len()).unwrap()
+    }
+
+    fn lasts(&self) -> bool {
+        self.plain().lasts
+    }
+
+    fn command(&mut self, command: ControlCommand) -> Result<(), BackendFault> {
+        Ok(self.plain().change(command)?)
+    }
+
+    fn next_of_shard(&mut self, shard: u16) -> Result<Next, BackendFault> {
+        Ok(match self.plain().record(shard).map(|it| it.stand) {
+            Some(Stand::Prepared { .. }) => Next::Command(ControlCommand::PrepareDropShard(shard)),
+            Some(Stand::Forwarding { .. }) => Next::Command(ControlCommand::AddShard(shard)),
+            Some(Stand::Taken { .. }) => Next::Command(ControlCommand::DropShard(shard)),
+            Some(Stand::Vacant | Stand::Serving(_) | Stand::Paused(_)) | None => Next::Nothing,
+        })
+    }
+
+    fn next_of_server(&mut self, _server: u16) -> Result<Next, BackendFault> {
+        Ok(Next::Nothing)
+    }
+
+    fn next_of_drain(&mut self, server: u16) -> Result<Next, BackendFault> {
+        let plan = self.plan(server)?;
+        Ok(match plan.moves.first() {
+            None => Next::Nothing,
+            // As the proved control: what it would refuse, it waits with.
+            Some(it) if self.plain().lasts && self.plain().spent.contains(&it.shard) => Next::Waits,
+            Some(it) if server == 0 => Next::Command(ControlCommand::Assign(it.shard, it.server)),
+            Some(it) => Next::Command(ControlCommand::PrepareAddShard(it.shard, it.server)),
+        })
+    }
+
+    fn plan(&mut self, server: u16) -> Result<Plan, BackendFault> {
+        Ok(self.plain().plan(server))
+    }
+
+    fn record(&mut self, shard: u16) -> Result<Option<Record>, BackendFault> {
+        Ok(self.plain().record(shard))
+    }
+
+    fn state_of(&mut self, server: u16) -> Result<ServerState, BackendFault> {
+        match server {
+            1 | 2 => Ok(ServerState::Up),
+            _ => Err(RestartFault::UnknownServer.into()),
+        }
+    }
+
+    fn show_state(&mut self, _server: u16, _state: ServerState) {}
+}
+
+/// A host that shows nothing, and has no pace.
+struct QuietHost;
+
+impl ControlHost for QuietHost {
+    fn is_stopping(&self) -> bool {
+        false
+    }
+
+    fn pace(&self) -> Duration {
+        Duration::ZERO
+    }
+
+    fn note_state(&self, _server: u16, _state: ServerState) {}
+
+    fn note_progress(&self, _server: u16, _doing: Option<Doing>) {}
+
+    fn note_change(&self, _command: ControlCommand) {}
+
+    fn note_load(&self) {}
+
+    fn shard_line(&self, _shard: u16) -> Option<String> {
+        None
+    }
+
+    fn shard_lines(&self) -> Vec<String> {
+        Vec::new()
+    }
+
+    fn server_lines(&self) -> Vec<String> {
+        Vec::new()
+    }
+
+    fn settings_lines(&self) -> Vec<String> {
+        Vec::new()
+    }
+
+    fn route_lines(&self) -> Vec<String> {
+        Vec::new()
+    }
+
+    fn compact(&self, _reply_to: Box<dyn ReplyTo>) {}
+}

@@ -1,0 +1,95 @@
+use super::controller::Controller;
+use super::Refusal;
+use durkenzo::{Move, Stand};
+use durkenzo_driver::{ControlCommand, Next};
+use std::collections::{BTreeMap, VecDeque};
+
+/// The moves of all shards of a server, or for 0 of the vacant shards, as the proved plan has them. If changes don't
+/// outlive the process, nobody else makes some, and one plan is kept for all its moves: a plan takes as long as there
+/// are shards.
+#[derive(Debug)]
+pub(super) struct PlannedMoves {
+    server: u16,
+    /// The moves of the last plan that weren't begun.
+    left: VecDeque<Move>,
+    /// Whether others of that plan were made before the last one that was told.
+    is_kept: bool,
+    /// The shards whose moves were refused, and why. Others go on.
+    aside: BTreeMap<u16, Refusal>,
+}
+
+impl PlannedMoves {
+    /// The moves of this server's shards, or for 0 of the vacant ones.
+    pub(super) fn of(server: u16) -> PlannedMoves {
+        PlannedMoves {
+            server,
+            left: VecDeque::new(),
+            is_kept: false,
+            aside: BTreeMap::new(),
+        }
+    }
+
+    /// Tells what comes next of the shards that aren't aside.
+    pub(super) fn next(&mut self, control: &mut Controller) -> Result<Next, Refusal> {
+        let is_by_store = control.backend.lasts() && self.left.is_empty() && self.aside.is_empty();
+        if is_by_store {
+            match control.backend.next_of_drain(self.server)? {
+                // The first move is one that would be refused, where others may go on.
+                Next::Waits if self.server > 0 => {}
+                next => return Ok(next),
+            }
+        }
+        self.is_kept = true;
+        if let Some(command) = self.next_left(control)? {
+            return Ok(Next::Command(command));
+        }
+        self.is_kept = false;
+        self.left = control.backend.plan(self.server)?.moves.into();
+        match self.next_left(control)? {
+            Some(command) => Ok(Next::Command(command)),
+            None if self.aside.is_empty() => Ok(control.backend.next_of_drain(self.server)?),
+            None => Ok(Next::Nothing),
+        }
+    }
+
+    /// Has the next move be planned anew, as the last one was refused. Tells whether that may be because much was made
+    /// since the plan of it.
+    pub(super) fn forget(&mut self) -> bool {
+        self.left.clear();
+        std::mem::take(&mut self.is_kept)
+    }
+
+    /// Has others go on, as this shard's move was refused.
+    pub(super) fn put_aside(&mut self, shard: u16, why: Refusal) {
+        self.aside.insert(shard, why);
+    }
+
+    /// The first shard that is aside, and why its move was refused.
+    pub(super) fn refused(&self) -> Option<(u16, &Refusal)> {
+        self.aside.iter().next().map(|(shard, why)| (*shard, why))
+    }
+
+    /// Has those aside be moved that may be later. Tells whether there are some.
+    pub(super) fn take_up_aside(&mut self) -> bool {
+        let aside = self.aside.len();
+        self.aside.retain(|_, why| why.is_for_good());
+        self.aside.len() < aside
+    }
+
+    /// The command of the next move whose shard stands as when it was planned: another task may have moved it.
+    fn next_left(&mut self, control: &mut Controller) -> Result<Option<ControlCommand>, Refusal> {
+        while let Some(Move { shard, server }) = self.left.pop_front() {
+            if self.aside.contains_key(&shard) {
+                continue;
+            }
+            let stand = control.backend.record(shard)?.map(|it| it.stand);
+            if self.server == 0 && stand == Some(Stand::Vacant) {
+                return Ok(Some(ControlCommand::Assign(shard, server)));
+            }
+            if self.server > 0 && stand == Some(Stand::Serving(self.server)) {
+                return Ok(Some(ControlCommand::PrepareAddShard(shard, server)));
+            }
+        }
+        Ok(None)
+    }
+}

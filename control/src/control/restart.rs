@@ -1,0 +1,387 @@
+use super::advance::Advance;
+use super::answer::ControlAnswer;
+use super::backend::StateWait;
+use super::controller::Controller;
+use super::drain::Drain;
+use super::migration::Migration;
+use super::progress::{Doing, Share};
+use super::task::Task;
+use super::Refusal;
+use durkenzo_driver::{ControlCommand, Next, ServerState};
+use std::time::{Duration, Instant};
+
+/// How often it is looked whether threads have noticed how the server stands.
+const LOOK: Duration = Duration::from_micros(100);
+/// How long until a shard that another task has is tried again.
+const PAUSE: Duration = Duration::from_millis(5);
+
+/// A restart of a server, as the proved control lets it go on; then its shards come home. Each call makes a step.
+#[derive(Debug)]
+pub(super) struct Restart {
+    server: u16,
+    phase: Phase,
+    /// What it waits for in this phase: all are to notice how the server stands.
+    wait: Option<Box<dyn StateWait>>,
+    /// Whether somebody may wait for it: it ends then, rather than wait for servers that have failed.
+    is_awaited: bool,
+    drain: Drain,
+    /// Why it is given up, once it is.
+    refused: Option<Refusal>,
+    /// The shards that are still to come home.
+    left: Vec<u16>,
+    home: Share,
+    current: Option<Migration>,
+    /// Until when it waits for a shard that another task has.
+    end: Option<Instant>,
+}
+
+#[derive(Clone, Copy, Debug, PartialEq, Eq)]
+enum Phase {
+    Asks,
+    Leaves,
+    /// It is stopped, and all within this process are to notice that.
+    Stops,
+    /// It is to be up again.
+    Back,
+    /// Its process is to be another one, or all are to notice that it is up.
+    Away,
+    Returns,
+}
+
+impl Restart {
+    /// The restart of the server.
+    pub(super) fn new(server: u16) -> Restart {
+        Restart {
+            server,
+            phase: Phase::Asks,
+            wait: None,
+            is_awaited: true,
+            drain: Drain::new(server, true),
+            refused: None,
+            left: Vec::new(),
+            home: Share { done: 0, of: 0 },
+            current: None,
+            end: None,
+        }
+    }
+
+    /// A restart that was asked for, of another process.
+    pub(super) fn going_on(server: u16) -> Restart {
+        Restart {
+            phase: Phase::Leaves,
+            is_awaited: false,
+            ..Restart::new(server)
+        }
+    }
+
+    /// A restart of which shards still come home.
+    pub(super) fn returning(server: u16) -> Restart {
+        Restart {
+            phase: Phase::Away,
+            ..Restart::new(server)
+        }
+    }
+
+    /// The server.
+    pub(super) fn server(&self) -> u16 {
+        self.server
+    }
+
+    /// Whether it was asked for, so that whoever leads goes on with it.
+    pub(super) fn has_begun(&self) -> bool {
+        self.phase != Phase::Asks
+    }
+
+    /// Makes the next step, and tells at the end what was done.
+    pub(super) fn advance(&mut self, control: &mut Controller) -> Result<Advance, Refusal> {
+        match self.phase {
+            Phase::Asks => self.ask(control),
+            Phase::Leaves => self.leave(control),
+            Phase::Stops => self.stop(control),
+            Phase::Back => self.come_back(control),
+            Phase::Away => self.await_process(control),
+            Phase::Returns => self.come_home(control),
+        }
+    }
+
+    /// Goes on with this phase, in which it waits until all have noticed how the server stands.
+    fn enter(&mut self, phase: Phase, control: &mut Controller) {
+        self.phase = phase;
+        self.wait = control.backend.wait_for_state(self.server);
+    }
+
+    fn is_wait_over(&self) -> Result<bool, Refusal> {
+        self.wait.as_ref().map_or(Ok(true), |it| it.is_over())
+    }
+
+    fn ask(&mut self, control: &mut Controller) -> Result<Advance, Refusal> {
+        let made = control.make(ControlCommand::Ask(self.server));
+        // The store may have made it, whatever it says.
+        if made.as_ref().err().is_none_or(Refusal::is_of_store) {
+            self.phase = Phase::Leaves;
+            *control.restarting.entry(self.server).or_default() += 1;
+        }
+        made.map(|()| Advance::soon())
+    }
+
+    fn leave(&mut self, control: &mut Controller) -> Result<Advance, Refusal> {
+        match control.backend.next_of_server(self.server)? {
+            Next::Command(command) => {
+                if let later @ Advance::Later = control.step(command)? {
+                    return Ok(later);
+                }
+                if let ControlCommand::Stopped(server) = command {
+                    if control.peers.is_some() {
+                        self.enter(Phase::Away, control);
+                        return Ok(Advance::Told(stopped(server)));
+                    }
+                    self.enter(Phase::Stops, control);
+                }
+                Ok(Advance::soon())
+            }
+            // Somebody else had it stop, or be up again.
+            Next::Nothing => {
+                self.enter(Phase::Away, control);
+                let left = self.drain.shard_under_way().map(Task::going_on);
+                control.tasks.extend(left);
+                let is_stopped = control.backend.state_of(self.server)? == ServerState::Stopped;
+                Ok(match is_stopped && control.peers.is_some() {
+                    true => Advance::Told(stopped(self.server)),
+                    false => Advance::soon(),
+                })
+            }
+            Next::Waits if self.is_approved(control)? => match self.drain.advance(control) {
+                Ok(Advance::Done(_)) => self.await_shards(control),
+                Err(refusal) if !refusal.is_of_store() => Ok(self.give_up(refusal)),
+                other => other,
+            },
+            Next::Waits => self.wait(control),
+        }
+    }
+
+    /// Waits for shards that other tasks have, and that name the server still. What doesn't outlive the process may
+    /// have been begun by hand, and nobody goes on with it: then the restart is given up after a while.
+    fn await_shards(&mut self, control: &mut Controller) -> Result<Advance, Refusal> {
+        if control.backend.lasts() {
+            return Ok(Advance::Later);
+        }
+        let end = *self.end.get_or_insert_with(|| control.patience());
+        if Instant::now() < end {
+            return Ok(Advance::Later);
+        }
+        match control.make(ControlCommand::Stopped(self.server)) {
+            Ok(()) => {
+                self.enter(Phase::Stops, control);
+                Ok(Advance::soon())
+            }
+            Err(refusal) => Ok(self.give_up(refusal)),
+        }
+    }
+
+    fn is_approved(&self, control: &mut Controller) -> Result<bool, Refusal> {
+        Ok(control.backend.state_of(self.server)? == ServerState::Approved)
+    }
+
+    /// Waits until the caps let the server go, as they may once others are back from their restarts.
+    fn wait(&mut self, control: &mut Controller) -> Result<Advance, Refusal> {
+        if self.is_awaited && !self.do_others_restart(control)? {
+            return self.refuse(control);
+        }
+        let away = control.away(self.server)?;
+        control.tell(self.server, Doing::Waiting(away));
+        Ok(Advance::Later)
+    }
+
+    /// Whether another server is away for a restart, or may go for one, that goes on.
+    fn do_others_restart(&self, control: &mut Controller) -> Result<bool, Refusal> {
+        for server in 1..=control.backend.servers() {
+            let goes_on = control.backend.lasts() || control.restarting.contains_key(&server);
+            if server == self.server || !goes_on {
+                continue;
+            }
+            if control.backend.state_of(server)?.is_restarting() {
+                return Ok(true);
+            }
+        }
+        Ok(false)
+    }
+
+    /// Gives it up, as the proved control refuses it, and nobody's restart changes that.
+    fn refuse(&mut self, control: &mut Controller) -> Result<Advance, Refusal> {
+        let refusal = match control.make(ControlCommand::Approve(self.server)) {
+            // The caps let it go by now.
+            Ok(()) => return Ok(Advance::soon()),
+            Err(refusal) if refusal.is_of_store() => return Err(refusal),
+            Err(refusal) => refusal,
+        };
+        let failed = control.failed()?;
+        let refusal = refusal.of_failed(&failed, control.peers.is_some());
+        Ok(self.give_up(refusal))
+    }
+
+    /// Has the server be up again, and its shards come home, before the refusal is told.
+    fn give_up(&mut self, refusal: Refusal) -> Advance {
+        self.refused = Some(refusal);
+        self.end = None;
+        self.phase = Phase::Back;
+        Advance::soon()
+    }
+
+    /// Waits until all within this process have noticed that the server is stopped.
+    fn stop(&mut self, control: &mut Controller) -> Result<Advance, Refusal> {
+        match self.is_wait_over() {
+            Ok(true) => self.phase = Phase::Back,
+            Ok(false) => {
+                control.tell(self.server, Doing::Stopping);
+                return Ok(Advance::At(Instant::now() + LOOK));
+            }
+            Err(refusal) => return Ok(self.give_up(refusal)),
+        }
+        Ok(Advance::soon())
+    }
+
+    /// Has the server be up again. If it was stopped, nothing of it holds anything, and it begins with what it reads.
+    fn come_back(&mut self, control: &mut Controller) -> Result<Advance, Refusal> {
+        if control.backend.state_of(self.server)? != ServerState::Up {
+            let made = control.make(ControlCommand::Back(self.server));
+            made.map_err(|refusal| match refusal.is_of_store() {
+                true => refusal,
+                false => self.refused.take().unwrap_or(refusal),
+            })?;
+        }
+        self.enter(Phase::Away, control);
+        Ok(Advance::soon())
+    }
+
+    /// Waits until the server is up again, as it is once another process runs it; if this one runs all, at once.
+    fn await_process(&mut self, control: &mut Controller) -> Result<Advance, Refusal> {
+        match self.is_wait_over() {
+            Ok(true) => {}
+            Ok(false) => return Ok(Advance::At(Instant::now() + LOOK)),
+            // Its shards come home before it is told why the restart was given up.
+            Err(refusal) => drop(self.refused.get_or_insert(refusal)),
+        }
+        let is_of_this = control.peers.is_none();
+        if is_of_this && control.backend.state_of(self.server)? == ServerState::Stopped {
+            self.phase = Phase::Back;
+            return Ok(Advance::soon());
+        }
+        if let Some(advance) = self.unless_up(control)? {
+            return Ok(advance);
+        }
+        // What was paused for it goes on. Whoever is told of a fault goes on from here.
+        control.resume_left()?;
+        self.left = control.shards_of_home(self.server);
+        self.home.of = self.left.len();
+        self.phase = Phase::Returns;
+        Ok(Advance::soon())
+    }
+
+    /// How it goes on if the server isn't up. A restart that was given up is refused.
+    fn unless_up(&mut self, control: &mut Controller) -> Result<Option<Advance>, Refusal> {
+        match control.backend.state_of(self.server)? {
+            ServerState::Up => return Ok(None),
+            ServerState::Stopped => {
+                if control.peers.is_some() {
+                    control.tell(self.server, Doing::Ended);
+                }
+                return Ok(Some(Advance::Later));
+            }
+            ServerState::Failed => control.forget_homes(self.server)?,
+            // A restart was asked for anew: at its end they come home.
+            ServerState::Asked | ServerState::Approved => {}
+        }
+        match self.refused.take() {
+            Some(refusal) => Err(refusal),
+            None => Ok(Some(Advance::Done(ControlAnswer::Done))),
+        }
+    }
+
+    fn come_home(&mut self, control: &mut Controller) -> Result<Advance, Refusal> {
+        if let Some(migration) = &mut self.current {
+            let shard = migration.shard();
+            match migration.advance(control) {
+                Ok(Advance::Done(_)) => self.end = None,
+                Err(refusal) if refusal.is_of_phase() && self.may_try_again(control) => {
+                    self.current = None;
+                    return Ok(Advance::At(Instant::now() + PAUSE));
+                }
+                // It went elsewhere meanwhile, and stays there.
+                Err(refusal) if !refusal.is_of_store() => {
+                    tracing::info!(%refusal, "a shard doesn't come home");
+                    self.left.retain(|it| *it != shard);
+                    self.end = None;
+                }
+                other => return other,
+            }
+            self.current = None;
+        }
+        if let Some(advance) = self.unless_up(control)? {
+            return Ok(advance);
+        }
+        if let Some(shard) = self.left.first() {
+            self.have_come(*shard, control)?;
+            return Ok(Advance::soon());
+        }
+        control.forget_homes(self.server)?;
+        self.told()
+    }
+
+    /// Whether there is still time for a shard that another task has: as when the server to which the shard went is
+    /// drained itself.
+    fn may_try_again(&mut self, control: &Controller) -> bool {
+        let end = *self.end.get_or_insert_with(|| control.patience());
+        Instant::now() < end
+    }
+
+    /// Has the shard come home, once nothing else is under way of it.
+    fn have_come(&mut self, shard: u16, control: &mut Controller) -> Result<(), Refusal> {
+        let is_due = matches!(control.backend.next_of_shard(shard)?, Next::Command(_));
+        let record = control.backend.record(shard)?;
+        if is_due || record.is_some_and(|it| it.other().is_some()) {
+            self.current = Some(Migration::going_on(shard));
+            return Ok(());
+        }
+        if control.homes.get(&shard) != Some(&self.server) {
+            // Somebody had it move elsewhere for good.
+            self.left.retain(|it| *it != shard);
+            self.home.of -= 1;
+            return Ok(());
+        }
+        if record.is_some_and(|it| it.owner() == Some(self.server)) {
+            self.left.retain(|it| *it != shard);
+            self.home.done += 1;
+            return Ok(());
+        }
+        self.current = Some(Migration::new(shard, self.server));
+        control.tell(self.server, Doing::Returning(self.home));
+        Ok(())
+    }
+
+    fn told(&mut self) -> Result<Advance, Refusal> {
+        if let Some(refusal) = self.refused.take() {
+            return Err(refusal);
+        }
+        let (server, home) = (self.server, self.home);
+        let shards = match home.done == home.of {
+            true => format!("its {} shards", home.of),
+            false => format!("{home} shards"),
+        };
+        let told = format!("server {server} is back, with {shards}");
+        Ok(Advance::Done(ControlAnswer::Line(told)))
+    }
+
+    /// Ends it where it is, as the process ends: one server has the shard that is under way alone.
+    pub(super) fn give_up_where_it_is(&self, control: &mut Controller) -> Result<(), Refusal> {
+        match &self.current {
+            Some(migration) => migration.give_up(control),
+            None => self.drain.give_up(control),
+        }
+    }
+}
+
+/// What is told of a server that is stopped, whose process is another one.
+fn stopped(server: u16) -> ControlAnswer {
+    let told = format!("server {server} is stopped: end its process, and start it again");
+    ControlAnswer::Line(told)
+}

@@ -1,0 +1,206 @@
+use super::advance::Advance;
+use super::answer::ControlAnswer;
+use super::backend::{FileWork, StateWait};
+use super::controller::Controller;
+use super::drain::Drain;
+use super::migration::Migration;
+use super::restart::Restart;
+use super::rolling_restart::Rolling;
+use super::spread::Spread;
+use super::{Refusal, ReplyTo};
+use std::time::{Duration, Instant};
+
+/// How often it is looked whether all have noticed how servers stand.
+const LOOK: Duration = Duration::from_micros(100);
+
+/// Work that goes on by itself.
+pub(super) struct Task {
+    pub(super) work: TaskWork,
+    /// Who is answered at its end, if somebody asked.
+    pub(super) reply_to: Option<Box<dyn ReplyTo>>,
+    pub(super) due: Instant,
+}
+
+impl Task {
+    /// The work, of which nobody is answered.
+    pub(super) fn of(work: TaskWork) -> Task {
+        let (reply_to, due) = (None, Instant::now());
+        Task {
+            work,
+            reply_to,
+            due,
+        }
+    }
+
+    /// The migration, or what else is under way, of this shard.
+    pub(super) fn going_on(shard: u16) -> Task {
+        Task::of(TaskWork::Migration(Migration::going_on(shard)))
+    }
+
+    /// The restart of this server, which was asked for already.
+    pub(super) fn restart(server: u16) -> Task {
+        Task::of(TaskWork::Restart(Restart::going_on(server)))
+    }
+
+    /// The end of this server's restart: its shards come home.
+    pub(super) fn returning(server: u16) -> Task {
+        Task::of(TaskWork::Restart(Restart::returning(server)))
+    }
+
+    /// The drain of this server, which was asked for already.
+    pub(super) fn drain(server: u16) -> Task {
+        Task::of(TaskWork::Drain(Drain::going_on(server)))
+    }
+
+    /// The server that it drains for good.
+    pub(super) fn drains(&self) -> Option<u16> {
+        match &self.work {
+            TaskWork::Drain(drain) => Some(drain.server()),
+            TaskWork::Migration(_)
+            | TaskWork::Restart(_)
+            | TaskWork::Rolling(_)
+            | TaskWork::Spread(_)
+            | TaskWork::Dump(_)
+            | TaskWork::Load(_)
+            | TaskWork::Wait(_) => None,
+        }
+    }
+
+    /// The server that it restarts.
+    pub(super) fn restarts(&self) -> Option<u16> {
+        match &self.work {
+            TaskWork::Restart(restart) => Some(restart.server()),
+            TaskWork::Migration(_)
+            | TaskWork::Drain(_)
+            | TaskWork::Rolling(_)
+            | TaskWork::Spread(_)
+            | TaskWork::Dump(_)
+            | TaskWork::Load(_)
+            | TaskWork::Wait(_) => None,
+        }
+    }
+
+    /// The shard with which it goes on, if nobody asked for that.
+    pub(super) fn shard_going_on(&self) -> Option<u16> {
+        match &self.work {
+            TaskWork::Migration(migration) => self.reply_to.is_none().then(|| migration.shard()),
+            TaskWork::Drain(_)
+            | TaskWork::Restart(_)
+            | TaskWork::Rolling(_)
+            | TaskWork::Spread(_)
+            | TaskWork::Dump(_)
+            | TaskWork::Load(_)
+            | TaskWork::Wait(_) => None,
+        }
+    }
+}
+
+/// What goes on by itself, a step at a time.
+pub(super) enum TaskWork {
+    Migration(Migration),
+    Drain(Drain),
+    Restart(Restart),
+    Rolling(Rolling),
+    Spread(Spread),
+    Dump(Box<dyn FileWork>),
+    Load(Box<dyn FileWork>),
+    /// All are to notice how servers stand.
+    Wait(Box<dyn StateWait>),
+}
+
+impl TaskWork {
+    /// Makes the next step.
+    pub(super) fn advance(&mut self, control: &mut Controller) -> Result<Advance, Refusal> {
+        match self {
+            TaskWork::Migration(migration) => migration.advance(control),
+            TaskWork::Drain(drain) => drain.advance(control),
+            TaskWork::Restart(restart) => {
+                match (restart.advance(control)?, control.backend.lasts()) {
+                    // So data in memory has always been answered.
+                    (Advance::Done(ControlAnswer::Line(line)), false) => {
+                        Ok(Advance::Done(ControlAnswer::Lines(vec![line])))
+                    }
+                    (advance, _) => Ok(advance),
+                }
+            }
+            TaskWork::Rolling(rolling) => rolling.advance(control),
+            TaskWork::Spread(spread) => spread.advance(control),
+            TaskWork::Dump(dump) => dump.advance(),
+            TaskWork::Load(load) => {
+                let advanced = load.advance();
+                // Of what stands by now all is told, also if the rest of the work fails.
+                control.renew();
+                advanced
+            }
+            TaskWork::Wait(wait) => match wait.is_over()? {
+                true => Ok(Advance::Done(ControlAnswer::Done)),
+                false => Ok(Advance::At(Instant::now() + LOOK)),
+            },
+        }
+    }
+
+    /// The server whose progress it tells, once it has begun.
+    pub(super) fn server(&self) -> Option<u16> {
+        match self {
+            TaskWork::Drain(drain) => Some(drain.server()),
+            TaskWork::Restart(restart) => Some(restart)
+                .filter(|it| it.has_begun())
+                .map(Restart::server),
+            TaskWork::Rolling(rolling) => rolling.current().map(Restart::server),
+            TaskWork::Migration(_)
+            | TaskWork::Spread(_)
+            | TaskWork::Dump(_)
+            | TaskWork::Load(_)
+            | TaskWork::Wait(_) => None,
+        }
+    }
+
+    /// Whether whoever leads goes on with it, also if nobody waits for it any more.
+    pub(super) fn is_intended(&self) -> bool {
+        match self {
+            TaskWork::Migration(migration) => migration.has_begun(),
+            TaskWork::Drain(drain) => drain.is_intended(),
+            TaskWork::Restart(restart) => restart.has_begun(),
+            TaskWork::Rolling(_)
+            | TaskWork::Spread(_)
+            | TaskWork::Dump(_)
+            | TaskWork::Load(_)
+            | TaskWork::Wait(_) => false,
+        }
+    }
+
+    /// What goes on of it if the store ended it: a migration that it may have begun, and the restart that it was at.
+    pub(super) fn left(self) -> Option<TaskWork> {
+        match self {
+            TaskWork::Migration(it) => Some(TaskWork::Migration(Migration::going_on(it.shard()))),
+            TaskWork::Rolling(it) => it.left().map(TaskWork::Restart),
+            TaskWork::Spread(it) => {
+                let shard = it.migration()?.shard();
+                Some(TaskWork::Migration(Migration::going_on(shard)))
+            }
+            TaskWork::Drain(_)
+            | TaskWork::Restart(_)
+            | TaskWork::Dump(_)
+            | TaskWork::Load(_)
+            | TaskWork::Wait(_) => None,
+        }
+    }
+
+    /// Ends it where it is, as the process ends, and what is under way with it: one server has each shard alone.
+    pub(super) fn give_up(&self, control: &mut Controller) -> Result<(), Refusal> {
+        match self {
+            TaskWork::Migration(migration) => migration.give_up(control),
+            TaskWork::Drain(drain) => drain.give_up(control),
+            TaskWork::Restart(restart) => restart.give_up_where_it_is(control),
+            TaskWork::Rolling(rolling) => match rolling.current() {
+                Some(restart) => restart.give_up_where_it_is(control),
+                None => Ok(()),
+            },
+            TaskWork::Spread(spread) => match spread.migration() {
+                Some(migration) => migration.give_up(control),
+                None => Ok(()),
+            },
+            TaskWork::Dump(_) | TaskWork::Load(_) | TaskWork::Wait(_) => Ok(()),
+        }
+    }
+}

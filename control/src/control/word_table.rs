@@ -1,0 +1,382 @@
+//! The words behind `SM`: one row each says how it is written, what it does, and where it is there.
+use super::answer::ControlAnswer;
+use super::controller::Controller;
+use super::drain::Drain;
+use super::migration::Migration;
+use super::refusal_names::NAMES;
+use super::restart::Restart;
+use super::rolling_restart::Rolling;
+use super::spread::Spread;
+use super::task::TaskWork;
+use super::{Asked, ControlHost, Refusal, ReplyTo, Words};
+use durkenzo_driver::ControlCommand;
+
+/// What becomes of a command.
+pub(super) enum Begun {
+    /// It is answered.
+    Answer(ControlAnswer),
+    /// It goes on by itself, and is answered then.
+    Work(Box<TaskWork>),
+}
+
+impl From<TaskWork> for Begun {
+    fn from(work: TaskWork) -> Begun {
+        Begun::Work(Box::new(work))
+    }
+}
+
+impl From<ControlAnswer> for Begun {
+    fn from(answer: ControlAnswer) -> Begun {
+        Begun::Answer(answer)
+    }
+}
+
+type Begins = Result<Begun, Refusal>;
+
+/// A word behind `SM`, in one of its forms.
+#[derive(Clone, Copy)]
+pub(super) struct SmWord {
+    /// How it is written, with a letter for each number.
+    form: &'static str,
+    help: &'static str,
+    does: Does,
+    there: There,
+    /// Whether every role may send it: it changes nothing, or is done as a client.
+    is_of_all: bool,
+}
+
+/// What a word does, by what follows it.
+#[derive(Clone, Copy)]
+enum Does {
+    /// Nothing follows.
+    Bare(fn(&mut Controller) -> Begins),
+    /// A number does.
+    Number(fn(&mut Controller, u16) -> Begins),
+    /// Two numbers do.
+    Pair(fn(&mut Controller, u16, u16) -> Begins),
+    /// The name of a file does.
+    File(fn(&mut Controller, &[u8]) -> Begins),
+    /// A name may.
+    Name(fn(Option<&str>) -> Begins),
+    /// A shard or a server does, of which this command is made.
+    Makes(fn(u16) -> ControlCommand),
+    /// A shard and a server do, of which this command is made.
+    Changes(fn(u16, u16) -> ControlCommand),
+    /// Nothing follows, and each process answers by itself, whoever leads.
+    Here(fn(&dyn ControlHost, Box<dyn ReplyTo>)),
+    /// It is done before it comes to the control.
+    Before,
+}
+
+/// Where a word is there.
+#[derive(Clone, Copy)]
+enum There {
+    /// Everywhere.
+    Everywhere,
+    /// Where data is in memory.
+    Memory,
+    /// Where data outlives the process.
+    Stores,
+    /// In a cluster of several processes.
+    Cluster,
+    /// Where one process runs all servers.
+    OneProcess,
+}
+
+/// What a control is over, of which words depend.
+#[derive(Clone, Copy)]
+pub(super) struct ControlMode {
+    /// Whether data outlives the process.
+    pub(super) lasts: bool,
+    /// Whether this is one of several processes.
+    pub(super) has_peers: bool,
+}
+
+impl SmWord {
+    const fn new(form: &'static str, help: &'static str, does: Does) -> SmWord {
+        SmWord {
+            form,
+            help,
+            does,
+            there: There::Everywhere,
+            is_of_all: false,
+        }
+    }
+
+    const fn of_all(self) -> SmWord {
+        SmWord {
+            is_of_all: true,
+            ..self
+        }
+    }
+
+    const fn only(self, there: There) -> SmWord {
+        SmWord { there, ..self }
+    }
+
+    /// The word itself.
+    fn name(&self) -> &'static str {
+        self.form.split(' ').next().unwrap_or_default()
+    }
+
+    /// Whether the command is of this word, in whatever case.
+    fn names(&self, command: &Words) -> bool {
+        command.is(1, self.name())
+    }
+
+    /// Whether the command has what has to follow the word.
+    fn takes(&self, command: &Words) -> bool {
+        match self.does {
+            Does::Bare(_) | Does::Here(_) => command.len() == 2,
+            Does::Number(_) | Does::Makes(_) => command.len() == 3 && command.number(2).is_some(),
+            Does::Pair(_) | Does::Changes(_) => {
+                command.len() == 4 && command.number(2).and(command.number(3)).is_some()
+            }
+            Does::File(_) => command.len() == 3,
+            Does::Name(_) => matches!(command.len(), 2 | 3),
+            Does::Before => true,
+        }
+    }
+
+    /// Why the word isn't there, if it isn't.
+    fn refusal(&self, mode: ControlMode) -> Option<Refusal> {
+        match (self.there, mode.lasts, mode.has_peers) {
+            (There::Everywhere, ..)
+            | (There::Memory, false, _)
+            | (There::Stores, true, _)
+            | (There::Cluster, _, true)
+            | (There::OneProcess, _, false) => None,
+            (There::Memory, true, _) => Some(Refusal::not_durable(self.name())),
+            (There::Stores, false, _) => {
+                Some(Refusal::there_alone(self.name(), "with --data or --etcd"))
+            }
+            (There::Cluster, _, false) => Some(Refusal::there_alone(self.name(), "with --etcd")),
+            (There::OneProcess, _, true) => Some(Refusal::one_by_one()),
+        }
+    }
+
+    /// Begins what the command asks for, which this word takes.
+    fn begun(&self, control: &mut Controller, command: &Words) -> Begins {
+        let number = |index| command.number(index).unwrap_or_default();
+        match self.does {
+            Does::Bare(begin) => begin(control),
+            Does::Number(begin) => begin(control, number(2)),
+            Does::Pair(begin) => begin(control, number(2), number(3)),
+            Does::Makes(command) => control.make_asked(command(number(2))),
+            Does::Changes(command) => control.make_asked(command(number(2), number(3))),
+            Does::File(begin) => begin(control, command.get(2)),
+            Does::Name(begin) => {
+                let name = String::from_utf8_lossy(command.get(2));
+                begin((command.len() > 2).then_some(&*name))
+            }
+            Does::Here(_) | Does::Before => Err(Refusal::usage(Some(self.form))),
+        }
+    }
+}
+
+/// All words.
+#[rustfmt::skip]
+const WORDS: [SmWord; 34] = [
+    SmWord::new("SHARDS", "how each shard stands, below the columns' names; other is its next or previous owner",
+        Does::Bare(|it| Ok(ControlAnswer::Lines(it.host.shard_lines()).into()))).of_all(),
+    SmWord::new("SERVERS", "how each server stands, below the columns' names: the shards that it owns, admissions, and \
+        what a restart of it is doing; with --etcd also the number of its process, whether that leads, up to which \
+        revision it follows records, and where processes and clients reach it",
+        Does::Bare(|it| Ok(ControlAnswer::Lines(it.host.server_lines()).into()))).of_all(),
+    SmWord::new("SETTINGS", "how the server runs",
+        Does::Bare(|it| Ok(ControlAnswer::Lines(it.host.settings_lines()).into()))).of_all(),
+    SmWord::new("LOOK k", "how shard k stands", Does::Number(look)).of_all(),
+    SmWord::new("KEY key", "the number of the key's shard", Does::Before).of_all(),
+    SmWord::new("ASSIGN k a", "the vacant shard k gets the owner a", Does::Changes(ControlCommand::Assign)),
+    SmWord::new("PREPARE_ADD k b", "a migration of shard k from its owner to server b begins",
+        Does::Changes(ControlCommand::PrepareAddShard)),
+    SmWord::new("PREPARE_DROP k", "the owner stops executing, and forwards to b, which executes that alone",
+        Does::Makes(ControlCommand::PrepareDropShard)),
+    SmWord::new("ADD k", "b becomes the owner; the previous one still forwards", Does::Makes(ControlCommand::AddShard)),
+    SmWord::new("DROP k", "the migration ends", Does::Makes(ControlCommand::DropShard)),
+    SmWord::new("CANCEL k", "before ADD: the migration is given up", Does::Makes(ControlCommand::Cancel)),
+    SmWord::new("PAUSE k", "nobody executes on shard k, and who asks for it waits", Does::Makes(ControlCommand::Pause)),
+    SmWord::new("RESUME k", "the owner of the paused shard k executes again", Does::Makes(ControlCommand::Resume)),
+    SmWord::new("REASSIGN k b", "the paused shard k gets the owner b", Does::Changes(ControlCommand::Reassign)),
+    SmWord::new("MIGRATE k b", "moves shard k to server b by a whole migration, under load", Does::Pair(migrate)),
+    SmWord::new("DRAIN a", "migrates all shards of server a to other servers, as planned by the library",
+        Does::Number(|_, server| Ok(TaskWork::Drain(Drain::new(server, false)).into()))),
+    SmWord::new("SPREAD", "migrates shards from servers that have many to those that have few",
+        Does::Bare(|_| Ok(TaskWork::Spread(Spread::default()).into()))),
+    SmWord::new("PLAN a", "where DRAIN a would have shards go; nothing is moved", Does::Number(plan_of)),
+    SmWord::new("PLAN", "where PLACE would", Does::Bare(|it| plan(it, 0))),
+    SmWord::new("PLACE", "gives each vacant shard an owner, as planned by the library",
+        Does::Bare(|it| Ok(it.place()?.into()))),
+    SmWord::new("ASK a", "asks for a restart of server a", Does::Makes(ControlCommand::Ask)),
+    SmWord::new("APPROVE a", "approves it, within the caps; a takes no further shards",
+        Does::Makes(ControlCommand::Approve)),
+    SmWord::new("STOPPED a", "server a is stopped: no request reaches it, and no thread has a pass of it",
+        Does::Makes(ControlCommand::Stopped)),
+    SmWord::new("BACK a", "server a is up again", Does::Makes(ControlCommand::Back)),
+    SmWord::new("FAIL a", "server a has failed: no request reaches it; refused while its process keeps a lease",
+        Does::Makes(ControlCommand::Fail)),
+    SmWord::new("RESTART a", "restarts server a: ASK, APPROVE, DRAIN, STOPPED, BACK, and its shards come home; with \
+        --etcd its process is to be ended and begun again once it is stopped",
+        Does::Number(|_, server| Ok(TaskWork::Restart(Restart::new(server)).into()))),
+    SmWord::new("RESTART", "without --etcd: restarts all servers in turn",
+        Does::Bare(|it| Ok(TaskWork::Rolling(Rolling::new(it.backend.servers())).into()))).only(There::OneProcess),
+    SmWord::new("DUMP FILE", "writes all shards, with their stands and generations, into the file in --folder, in \
+        place of an earlier dump of the name",
+        Does::File(|it, name| Ok(TaskWork::Dump(it.backend.dump(name)?).into()))).only(There::Memory),
+    SmWord::new("LOAD FILE", "has all shards hold and stand as in that file, in place of what they hold now",
+        Does::File(load)).only(There::Memory),
+    SmWord::new("ROUTES", "with --etcd: the latest record's revision, and for each shard its owner, and where clients \
+        reach that",
+        Does::Here(|host, reply_to| reply_to.send(Ok(ControlAnswer::Lines(host.route_lines())))))
+        .only(There::Cluster).of_all(),
+    SmWord::new("CALL c n COMMAND ..", "where data outlives the process: a write without reading, once for number n of \
+        client c", Does::Before).only(There::Stores).of_all(),
+    SmWord::new("COMPACT", "with --data or --etcd: makes a base of each shard of this process, so that room comes back",
+        Does::Here(|host, reply_to| host.compact(reply_to))).only(There::Stores),
+    SmWord::new("AT a COMMAND ..", "sends a command with keys of one shard to server a, as a client with an old map \
+        does", Does::Before).of_all(),
+    SmWord::new("HELP", "these lines; SM HELP x tells what the word or the name of a refusal x means",
+        Does::Name(help)).of_all(),
+];
+
+/// Returns whether every role may send commands of this word: they change nothing, or are done as a client.
+pub fn is_of_all(word: &[u8]) -> bool {
+    let is_so = |it: &SmWord| it.name().as_bytes().eq_ignore_ascii_case(word);
+    WORDS.iter().any(|it| it.is_of_all && is_so(it))
+}
+
+/// Begins what the command asks for, or refuses it.
+pub(super) fn begun(control: &mut Controller, command: &Words) -> Begins {
+    let rows = || WORDS.iter().filter(|it| it.names(command));
+    let Some(word) = rows().find(|it| it.takes(command)) else {
+        return Err(Refusal::usage(rows().next().map(|it| it.form)));
+    };
+    match word.refusal(control.mode()) {
+        Some(refusal) => Err(refusal),
+        None => word.begun(control, command),
+    }
+}
+
+/// Answers the command if each process does so by itself; else it is given back.
+pub(super) fn answered_here(
+    host: &dyn ControlHost,
+    mode: ControlMode,
+    asked: Asked,
+) -> Option<Asked> {
+    let words = &asked.words;
+    let mut rows = WORDS.iter().filter(|it| it.names(words));
+    let found = rows.find_map(|it| match it.does {
+        Does::Here(answer) => (it.takes(words) && it.refusal(mode).is_none()).then_some(answer),
+        Does::Bare(_)
+        | Does::Number(_)
+        | Does::Pair(_)
+        | Does::File(_)
+        | Does::Name(_)
+        | Does::Makes(_)
+        | Does::Changes(_)
+        | Does::Before => None,
+    });
+    match found {
+        Some(answer) => answer(host, asked.reply_to),
+        None => return Some(asked),
+    }
+    None
+}
+
+fn look(control: &mut Controller, shard: u16) -> Begins {
+    match control.host.shard_line(shard) {
+        Some(line) => Ok(ControlAnswer::Line(line).into()),
+        None => Err(durkenzo::UnknownShard.into()),
+    }
+}
+
+fn migrate(control: &mut Controller, shard: u16, server: u16) -> Begins {
+    control.forget_home(shard)?;
+    Ok(TaskWork::Migration(Migration::new(shard, server)).into())
+}
+
+fn plan_of(control: &mut Controller, server: u16) -> Begins {
+    match server {
+        0 => Err(Refusal::unknown_server()),
+        server => plan(control, server),
+    }
+}
+
+/// Where the proved plan has the vacant shards go, or those of this server. Nothing is moved.
+fn plan(control: &mut Controller, server: u16) -> Begins {
+    let plan = control.backend.plan(server)?;
+    let moves = plan.moves.iter();
+    let moves: String = moves
+        .map(|it| format!(" {}>{}", it.shard, it.server))
+        .collect();
+    let left: String = plan.left.iter().map(|it| format!(" {it}")).collect();
+    Ok(ControlAnswer::Line(format!("plan{moves} left{left}")).into())
+}
+
+/// Begins to load a dump, if nothing else is under way.
+fn load(control: &mut Controller, name: &[u8]) -> Begins {
+    match control.tasks.is_empty() {
+        true => Ok(TaskWork::Load(control.backend.load(name)?).into()),
+        false => Err(Refusal::under_way()),
+    }
+}
+
+/// All words, or what the word or the name means.
+fn help(name: Option<&str>) -> Begins {
+    let Some(name) = name else {
+        let lines = WORDS
+            .iter()
+            .map(|it| format!("SM {:<16} {}", it.form, it.help));
+        return Ok(ControlAnswer::of_lines(lines).into());
+    };
+    match meanings(name) {
+        told if told.is_empty() => Err(Refusal::no_meaning()),
+        told => Ok(ControlAnswer::Lines(told).into()),
+    }
+}
+
+/// What the word means, in each of its forms, or the name of a refusal; none if it is neither.
+fn meanings(asked: &str) -> Vec<String> {
+    let is_asked = |it: &str| it.eq_ignore_ascii_case(asked);
+    let words = WORDS.iter().filter(|it| is_asked(it.name()));
+    let names = NAMES.iter().filter(|it| is_asked(it.0));
+    let words = words.map(|it| format!("SM {}: {}", it.form, it.help));
+    let names = names.map(|(name, when, advice)| format!("{name}: {when}; try: {advice}"));
+    words.chain(names).collect()
+}
+
+#[cfg(test)]
+mod tests {
+    use super::*;
+
+    #[test]
+    fn words_and_names_have_a_meaning() {
+        assert_eq!(meanings("look"), ["SM LOOK k: how shard k stands"]);
+        assert_eq!(meanings("RESTART").len(), 2);
+        let told = "NotNow: a process hasn't read yet that the shard was taken; try: try again";
+        assert_eq!(meanings("notnow"), [told]);
+        assert!(meanings("LOO").is_empty());
+    }
+
+    #[test]
+    fn each_command_has_its_word() {
+        for command in [
+            ControlCommand::Assign(0, 0),
+            ControlCommand::PrepareAddShard(0, 0),
+            ControlCommand::PrepareDropShard(0),
+            ControlCommand::AddShard(0),
+            ControlCommand::DropShard(0),
+            ControlCommand::Cancel(0),
+            ControlCommand::Pause(0),
+            ControlCommand::Resume(0),
+            ControlCommand::Reassign(0, 0),
+            ControlCommand::Ask(0),
+            ControlCommand::Approve(0),
+            ControlCommand::Stopped(0),
+            ControlCommand::Back(0),
+            ControlCommand::Fail(0),
+        ] {
+            assert!(!meanings(command.word()).is_empty(), "{command:?}");
+        }
+    }
+}

@@ -1,0 +1,172 @@
+use super::closer::Closer;
+use super::links_inner::locked;
+use super::outbox::Outbox;
+use super::Identity;
+use durkenzo_driver::Members;
+use std::sync::{Arc, Mutex, Weak};
+use std::time::{Duration, Instant};
+
+/// How long a process may be gone from the servers that are there before its connection ends where nothing is under way
+/// on it: one that stops has ended it by itself by then.
+const GONE: Duration = Duration::from_secs(10);
+
+/// The processes that connected and were welcomed.
+#[derive(Default)]
+pub(super) struct ConnectedPeers(Mutex<Vec<ConnectedPeer>>);
+
+struct ConnectedPeer {
+    identity: Identity,
+    closer: Weak<Closer>,
+    outbox: Weak<Outbox>,
+    /// Since when it isn't there, if it isn't.
+    gone: Option<Instant>,
+}
+
+impl ConnectedPeer {
+    /// Whether its connection is of no use any more, as its server is gone, or is another process since then.
+    fn is_over(&mut self, now: Instant, members: &Members) -> bool {
+        let member = members.get(&self.identity.server);
+        if member.is_some_and(|it| it.process <= self.identity.process) {
+            self.gone = None;
+            return false;
+        }
+        let gone = *self.gone.get_or_insert(now);
+        gone + GONE <= now && !self.is_answered()
+    }
+
+    /// Whether something is under way that it asked for.
+    fn is_answered(&self) -> bool {
+        self.outbox.upgrade().is_some_and(|it| it.is_answering())
+    }
+
+    fn end(&self) {
+        self.closer.upgrade().iter().for_each(|it| it.end());
+    }
+}
+
+impl ConnectedPeers {
+    /// Notes one more, and forgets those that ended. As a process has one connection to another one at a time, those
+    /// that its server had before have ended for it, and end here.
+    pub(super) fn note(&self, identity: Identity, closer: &Arc<Closer>, outbox: &Arc<Outbox>) {
+        let mut peers = locked(&self.0);
+        peers.retain(|it| it.closer.strong_count() > 0);
+        let of_server = peers.iter().map(|it| (it, it.identity));
+        of_server
+            .filter(|it| it.1.server == identity.server && it.1.process <= identity.process)
+            .for_each(|it| it.0.end());
+        peers.push(ConnectedPeer {
+            identity,
+            closer: Arc::downgrade(closer),
+            outbox: Arc::downgrade(outbox),
+            gone: None,
+        });
+    }
+
+    /// Ends the connections of those that are gone.
+    pub(super) fn tick(&self, now: Instant, members: &Members) {
+        let mut peers = locked(&self.0);
+        let over = peers
+            .iter_mut()
+            .filter_map(|it| it.is_over(now, members).then_some(it));
+        over.for_each(|it| it.end());
+    }
+
+    /// Whether something is under way that another process asked for.
+    pub(super) fn is_answering(&self) -> bool {
+        locked(&self.0).iter().any(ConnectedPeer::is_answered)
+    }
+
+    /// Ends the connections of all.
+    pub(super) fn end(&self) {
+        std::mem::take(&mut *locked(&self.0))
+            .iter()
+            .for_each(ConnectedPeer::end);
+    }
+}
+
+#[cfg(test)]
+mod tests {
+    use super::*;
+    use durkenzo_driver::{Addresses, Live};
+    use durkenzo_store::Revision;
+    use std::io::Read;
+    use std::net::{TcpListener, TcpStream};
+
+    /// A process' connection: its own side, and what is held of the other one.
+    struct Connection {
+        own: TcpStream,
+        _closer: Arc<Closer>,
+        outbox: Arc<Outbox>,
+    }
+
+    impl Connection {
+        fn of(peers: &ConnectedPeers, server: u16, process: u64) -> Connection {
+            let listener = TcpListener::bind("127.0.0.1:0").unwrap();
+            let own = TcpStream::connect(listener.local_addr().unwrap()).unwrap();
+            let patience = Some(Duration::from_millis(20));
+            own.set_read_timeout(patience).unwrap();
+            let closer = Arc::new(Closer::of(&listener.accept().unwrap().0).unwrap());
+            let outbox = Arc::default();
+            let settings = 0;
+            let identity = Identity {
+                server,
+                settings,
+                process,
+                table: 1,
+            };
+            peers.note(identity, &closer, &outbox);
+            Connection {
+                own,
+                _closer: closer,
+                outbox,
+            }
+        }
+
+        fn is_ended(&self) -> bool {
+            matches!((&self.own).read(&mut [0]), Ok(0))
+        }
+    }
+
+    /// Each of these servers, with the number of its process.
+    fn members<const N: usize>(processes: [(u16, u64); N]) -> Members {
+        let live = |process| Live {
+            process,
+            followed: Revision::NEVER,
+            addresses: Addresses::default(),
+        };
+        Members::from(processes.map(|it| (it.0, live(it.1))))
+    }
+
+    #[test]
+    fn what_a_process_had_before_ends_as_it_connects_again() {
+        let peers = ConnectedPeers::default();
+        let connection = |server, process| Connection::of(&peers, server, process);
+        let (first, other, later) = (connection(1, 5), connection(2, 4), connection(3, 9));
+        let again = connection(1, 5);
+        // One that was stopped goes on after another one took its place.
+        let stale = connection(3, 8);
+        assert!(first.is_ended() && !again.is_ended() && !other.is_ended());
+        assert!(!later.is_ended() && !stale.is_ended());
+        let next = connection(1, 6);
+        assert!(again.is_ended() && !next.is_ended());
+        peers.end();
+        assert!(next.is_ended() && other.is_ended());
+    }
+
+    #[test]
+    fn the_connection_of_a_process_that_is_gone_ends_once_nothing_is_under_way() {
+        let peers = ConnectedPeers::default();
+        let connections =
+            [(1, 5), (2, 6), (3, 7), (4, 8)].map(|it| Connection::of(&peers, it.0, it.1));
+        assert!(connections[3].outbox.begin(1));
+        let now = Instant::now();
+        // The third is another process, and what is seen of the second lags behind.
+        let seen = members([(2, 4), (3, 9)]);
+        peers.tick(now, &seen);
+        peers.tick(now + GONE / 2, &seen);
+        assert!(connections.iter().all(|it| !it.is_ended()));
+        peers.tick(now + GONE, &seen);
+        let ended = connections.each_ref().map(Connection::is_ended);
+        assert_eq!(ended, [true, false, true, false]);
+    }
+}

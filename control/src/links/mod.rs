@@ -1,0 +1,264 @@
+//! The links between the processes of a cluster: requests go to the process of the server that executes their shard,
+//! and commands for the control to the process that leads.
+//!
+//! A process has a link to each one that it asks. The link's connection is made when it is needed, and begins by a
+//! [`Greeting`] of either side. The process then sends [`Frame`]s, and gets outcomes in any order. Requests and answers
+//! are bytes that only the [`Host`] of either side reads. Nothing here decides who executes a request: the host says
+//! where it goes, and the host there looks at the shard's record before anything is done.
+//!
+//! Each queue has a bound: what would go beyond it is refused, or isn't read yet. `tests/own_service.rs` has a whole
+//! host. A connection begins so:
+//!
+//! ```
+//! use durkenzo_control::links::{checksum, Greeting, Identity, FIRST_TABLE};
+//!
+//! let settings = checksum(b"4 shards");
+//! let identity = Identity { server: 3, settings, process: 7, table: FIRST_TABLE };
+//! let hello = Greeting::Hello(identity, 2, b"a secret".to_vec());
+//! let mut bytes = Vec::new();
+//! hello.write(2, &mut bytes);
+//! assert_eq!(Greeting::read(&bytes), Ok(Some((hello, 2, bytes.len()))));
+//! ```
+#[cfg(test)]
+mod chance;
+mod channel;
+mod closer;
+mod connected_peers;
+mod connection_slot;
+mod destination;
+mod fields;
+mod forwarded_batch;
+mod forwarded_command;
+mod forwarded_request;
+mod frame;
+mod greeting;
+mod handshake;
+mod host;
+mod identity;
+mod inbound;
+mod keep_alive;
+mod link;
+mod link_counts;
+mod links_inner;
+mod outbound_message;
+mod outbox;
+mod peer_session;
+mod pending_handshakes;
+mod read_buffer;
+mod reason;
+mod received_requests;
+mod reply_sender;
+mod request_batch;
+mod request_outcome;
+mod returned_requests;
+mod secret;
+mod sent_frames;
+mod terms;
+#[cfg(test)]
+mod trial;
+mod wire_fault;
+mod write_buffer;
+
+pub use destination::Destination;
+pub use fields::{put_text, Fields};
+pub use forwarded_command::ForwardedCommand;
+pub use forwarded_request::{ForwardedMessage, ForwardedRequest};
+pub use frame::{Frame, MAX_FRAME, MAX_REQUEST, MAX_REQUESTS};
+pub use greeting::{Greeting, MAX_SECRET};
+pub use host::Host;
+pub use identity::{checksum, Identity, FIRST_TABLE};
+pub use link_counts::LinkCounts;
+pub use peer_session::PeerSession;
+pub use reason::{Reason, MAX_REASON};
+pub use received_requests::ReceivedRequests;
+pub use reply_sender::ReplySender;
+pub use request_batch::RequestBatch;
+pub use request_outcome::RequestOutcome;
+pub use returned_requests::ReturnedRequests;
+pub use secret::Secret;
+pub use sent_frames::SentFrames;
+pub use terms::Terms;
+pub use wire_fault::WireFault;
+
+use closer::Closer;
+use durkenzo_driver::Member;
+use forwarded_batch::ForwardedBatch;
+use inbound::Inbound;
+use links_inner::{locked, LinksInner};
+use outbound_message::OutboundMessage;
+use std::fmt;
+use std::io::{self, ErrorKind};
+use std::net::{SocketAddr, TcpListener, TcpStream};
+use std::sync::atomic::Ordering;
+use std::sync::Arc;
+use std::thread::{self, JoinHandle};
+use std::time::{Duration, Instant};
+
+/// How often a process looks for who connects, and for what is due.
+const TICK: Duration = Duration::from_millis(10);
+/// How long others are told at a stop that nothing more is begun, so that they look who executes now.
+const LINGER: Duration = Duration::from_millis(200);
+/// How long a stop waits for answers that others asked for.
+const STOP: Duration = Duration::from_secs(2);
+
+/// The links of a process to the others of its cluster. Clones are the same links.
+pub struct Links<H: Host> {
+    inner: Arc<LinksInner<H>>,
+}
+
+impl<H: Host> Links<H> {
+    /// Returns the links of this process's server, on these terms. Requests wait for so long.
+    ///
+    /// They reach others at once, and answer nobody before [`begin`](Links::begin).
+    pub fn new(terms: Terms, member: Arc<Member>, wait: Duration) -> Links<H> {
+        Links {
+            inner: Arc::new(LinksInner::new(terms, member, wait)),
+        }
+    }
+
+    /// Returns this process's server, and the others that are there.
+    pub fn member(&self) -> &Member {
+        &self.inner.member
+    }
+
+    /// Returns the server whose process leads, if one does.
+    pub fn leader(&self) -> Option<u16> {
+        let (leader, members) = (self.inner.member.leader()?, self.inner.member.members());
+        let mut found = members.iter().filter(|it| it.1.process == leader);
+        found.next().map(|it| *it.0)
+    }
+
+    /// Sends requests of one client, in their order, to the process of the server that executes them. It doesn't wait.
+    ///
+    /// Each request is ended once, by its own calls. Those of which nothing was done may go on by [`Host::resume`]
+    /// before that.
+    pub fn forward(&self, destination: &H::Destination, requests: Vec<H::Request>) {
+        let (server, count) = (destination.server(), requests.len() as u64);
+        self.inner.counts.sent.fetch_add(count, Ordering::Relaxed);
+        let batch = ForwardedBatch::new(destination.clone(), requests);
+        self.inner
+            .ask(server, OutboundMessage::requests(batch, self.inner.wait));
+    }
+
+    /// Gives the command to the control in this server's process. It doesn't wait.
+    pub fn ask_control(&self, server: u16, command: H::Command) {
+        self.inner.ask(server, OutboundMessage::command(command));
+    }
+
+    /// Returns how much went between this process and others.
+    pub fn counts(&self) -> &LinkCounts {
+        &self.inner.counts
+    }
+
+    /// Returns how many processes this one has reached, and by how many it was.
+    pub fn connections(&self) -> (usize, usize) {
+        let links = locked(&self.inner.links);
+        let reached = links.values().filter(|it| it.is_connected()).count();
+        (reached, self.inner.serving.load(Ordering::Relaxed))
+    }
+
+    /// Begins to answer the processes that connect, by this host, until the links are closed. The cluster has so many
+    /// servers. Returns the thread, which ends then.
+    ///
+    /// # Errors
+    ///
+    /// If the system gives no thread.
+    pub fn begin(
+        &self,
+        listener: TcpListener,
+        servers: u16,
+        host: H,
+    ) -> io::Result<JoinHandle<()>> {
+        listener.set_nonblocking(true)?;
+        self.inner.begin(host, servers);
+        let inner = self.inner.clone();
+        let thread = thread::Builder::new().name("peers".to_owned());
+        thread.spawn(move || {
+            while !inner.is_stopping() {
+                accept_all(&listener, &inner);
+                inner.tick();
+                thread::sleep(TICK);
+            }
+        })
+    }
+
+    /// Begins nothing more that others ask for, and tells them so.
+    pub fn close(&self) {
+        self.inner.stops.store(true, Ordering::Release);
+    }
+
+    /// Leaves the cluster, so that others give this server's shards owners at once. Waits for seconds at most, so that
+    /// they read their last answers, and ends all connections.
+    pub fn leave(&self) {
+        self.close();
+        self.inner.member.leave();
+        // What was forwarded is answered yet.
+        self.linger(LINGER, STOP);
+        let links = std::mem::take(&mut *locked(&self.inner.links));
+        links.values().for_each(|it| it.stop());
+        self.linger(Duration::ZERO, LINGER);
+        self.inner.peers.end();
+    }
+
+    /// Waits until nothing is under way that others asked for, between so long and so long.
+    fn linger(&self, least: Duration, most: Duration) {
+        let began = Instant::now();
+        self.inner.stop_returned();
+        while began.elapsed() < least || self.inner.peers.is_answering() && began.elapsed() < most {
+            thread::sleep(TICK);
+            self.inner.stop_returned();
+        }
+    }
+}
+
+impl<H: Host> Clone for Links<H> {
+    fn clone(&self) -> Links<H> {
+        let inner = self.inner.clone();
+        Links { inner }
+    }
+}
+
+impl<H: Host> fmt::Debug for Links<H> {
+    fn fmt(&self, f: &mut fmt::Formatter<'_>) -> fmt::Result {
+        f.debug_struct("Links")
+            .field("terms", &self.inner.terms)
+            .finish_non_exhaustive()
+    }
+}
+
+/// Answers those who connected.
+fn accept_all<H: Host>(listener: &TcpListener, inner: &Arc<LinksInner<H>>) {
+    loop {
+        let (stream, from) = match listener.accept() {
+            Ok(accepted) => accepted,
+            Err(error) if error.kind() == ErrorKind::WouldBlock => return,
+            Err(error) => {
+                tracing::warn!(%error, "a process isn't accepted");
+                return;
+            }
+        };
+        if let Err(error) = answer(inner, stream, from) {
+            tracing::warn!(%error, "a process isn't answered");
+        }
+    }
+}
+
+/// Answers one who connected, on threads of its own.
+fn answer<H: Host>(
+    inner: &Arc<LinksInner<H>>,
+    stream: TcpStream,
+    from: SocketAddr,
+) -> io::Result<()> {
+    stream.set_nonblocking(false)?;
+    let Some(handshake) = inner.handshakes.take(Closer::of(&stream)?) else {
+        return Ok(());
+    };
+    let running = inner.clone();
+    let thread = thread::Builder::new().name("from".to_owned());
+    let run = move || {
+        if let Err(error) = Inbound::run(running, stream, handshake) {
+            tracing::warn!(%from, %error, "a connection of a process ended");
+        }
+    };
+    thread.spawn(run).map(drop)
+}

@@ -1,0 +1,131 @@
+use super::links_inner::locked;
+use super::{Frame, Reason, RequestOutcome};
+use std::sync::{Condvar, Mutex, MutexGuard, PoisonError};
+
+/// How many requests of a process are under way here, and how many bytes of answers wait, before it is read no further.
+pub(super) const MOST_REQUESTS: usize = 1 << 16;
+const MOST_BYTES: usize = 8 << 20;
+
+/// What another process is answered.
+#[derive(Default)]
+pub(super) struct Outbox {
+    state: Mutex<OutboxState>,
+    /// There is something to send, or nobody is there any more.
+    told: Condvar,
+    /// There may be room for more requests.
+    taken: Condvar,
+}
+
+#[derive(Default)]
+struct OutboxState {
+    bytes: Vec<u8>,
+    /// Whether some were taken that may not be sent yet.
+    is_sending: bool,
+    under_way: usize,
+    is_over: bool,
+}
+
+impl OutboxState {
+    /// Whether no further requests begin.
+    fn is_full(&self) -> bool {
+        self.under_way > MOST_REQUESTS || self.bytes.len() > MOST_BYTES
+    }
+}
+
+impl Outbox {
+    /// Waits until so many requests may begin. Returns whether there is still somebody to answer.
+    pub(super) fn begin(&self, requests: usize) -> bool {
+        let full = |it: &mut OutboxState| !it.is_over && it.is_full();
+        let state = self.taken.wait_while(locked(&self.state), full);
+        let mut state: MutexGuard<'_, OutboxState> = state.unwrap_or_else(PoisonError::into_inner);
+        state.under_way += requests;
+        !state.is_over
+    }
+
+    /// The bytes that are sent next, once there are some; none where nobody is there any more. Those that were taken
+    /// before are sent.
+    pub(super) fn take(&self) -> Option<Vec<u8>> {
+        locked(&self.state).is_sending = false;
+        let idle = |it: &mut OutboxState| !it.is_over && it.bytes.is_empty();
+        let state = self.told.wait_while(locked(&self.state), idle);
+        let mut state = state.unwrap_or_else(PoisonError::into_inner);
+        let bytes = std::mem::take(&mut state.bytes);
+        state.is_sending = !bytes.is_empty();
+        drop(state);
+        self.taken.notify_all();
+        (!bytes.is_empty()).then_some(bytes)
+    }
+
+    /// Whether requests are under way, or answers wait or are being sent.
+    pub(super) fn is_answering(&self) -> bool {
+        let state = locked(&self.state);
+        let has_answers = !state.bytes.is_empty() || state.is_sending;
+        !state.is_over && (state.under_way > 0 || has_answers)
+    }
+
+    /// Nobody is there any more.
+    pub(super) fn end(&self) {
+        locked(&self.state).is_over = true;
+        self.told.notify_all();
+        self.taken.notify_all();
+    }
+
+    /// Returns whether nobody is there any more.
+    pub(super) fn is_over(&self) -> bool {
+        locked(&self.state).is_over
+    }
+
+    /// Sends what became of the request at this place of the frame with this number.
+    pub(super) fn send<R: Reason>(&self, number: u64, place: u16, outcome: RequestOutcome<'_, R>) {
+        let mut state = locked(&self.state);
+        // Where something waits to be sent already, its thread was woken for that.
+        let (is_first, was_full) = (state.bytes.is_empty(), state.is_full());
+        state.under_way = state.under_way.saturating_sub(1);
+        if !state.is_over {
+            Frame::Outcome(place, outcome).write(number, &mut state.bytes);
+        }
+        drop(state);
+        if is_first {
+            self.told.notify_all();
+        }
+        if was_full {
+            self.taken.notify_all();
+        }
+    }
+}
+
+#[cfg(test)]
+mod tests {
+    use super::super::trial::TestReason;
+    use super::super::ReplySender;
+    use super::*;
+    use std::sync::Arc;
+    use std::thread;
+
+    #[test]
+    fn answers_go_in_the_order_in_which_they_come() {
+        let outbox = Arc::new(Outbox::default());
+        assert!(outbox.begin(2));
+        for (number, place) in [(7, 1), (4, 0)] {
+            let reply = ReplySender::new(outbox.clone(), number, place);
+            reply.refuse(TestReason::Stopped);
+        }
+        let bytes = outbox.take().unwrap();
+        let read = |it| Frame::<TestReason>::read(it).unwrap().unwrap();
+        let (first, _, end) = read(&bytes);
+        let (second, _, _) = read(&bytes[end..]);
+        assert_eq!((first, second), (7, 4));
+        outbox.end();
+        assert!(outbox.take().is_none() && !outbox.begin(1));
+    }
+
+    #[test]
+    fn who_is_answered_late_is_read_no_further() {
+        let outbox = Arc::new(Outbox::default());
+        assert!(outbox.begin(MOST_REQUESTS + 1));
+        let waiting = outbox.clone();
+        let thread = thread::spawn(move || waiting.begin(1));
+        ReplySender::<TestReason>::new(outbox.clone(), 1, 0).answer(b"+OK\r\n");
+        assert!(thread.join().unwrap());
+    }
+}

@@ -1,0 +1,94 @@
+use super::closer::Closer;
+use super::links_inner::locked;
+use std::collections::VecDeque;
+use std::sync::{Arc, Mutex};
+
+/// How many of them are waited for.
+const MOST: usize = 64;
+
+/// Whoever connected, and hasn't shown yet that it is a process of the cluster. They have places of their own, and each
+/// that comes too many ends the one that has taken longest: so nobody keeps processes apart by saying nothing.
+#[derive(Default)]
+pub(super) struct PendingHandshakes(Mutex<HandshakesState>);
+
+#[derive(Default)]
+struct HandshakesState {
+    waiting: VecDeque<(u64, Closer)>,
+    last: u64,
+    /// How many there are with those that were ended, and haven't noticed yet.
+    count: usize,
+}
+
+/// One of them, until it is dropped.
+pub(super) struct PendingHandshake {
+    handshakes: Arc<PendingHandshakes>,
+    number: u64,
+}
+
+impl PendingHandshakes {
+    /// Takes one more, whose connection this ends; none where those that were ended don't go.
+    pub(super) fn take(self: &Arc<PendingHandshakes>, end: Closer) -> Option<PendingHandshake> {
+        let mut state = locked(&self.0);
+        if state.count >= 2 * MOST {
+            return None;
+        }
+        if state.waiting.len() >= MOST {
+            let first = state.waiting.pop_front();
+            first.iter().for_each(|it| it.1.end());
+        }
+        state.last += 1;
+        state.count += 1;
+        let number = state.last;
+        state.waiting.push_back((number, end));
+        Some(PendingHandshake {
+            handshakes: self.clone(),
+            number,
+        })
+    }
+}
+
+impl Drop for PendingHandshake {
+    fn drop(&mut self) {
+        let mut state = locked(&self.handshakes.0);
+        state.count -= 1;
+        state.waiting.retain(|it| it.0 != self.number);
+    }
+}
+
+#[cfg(test)]
+mod tests {
+    use super::*;
+    use std::io::Read;
+    use std::net::{TcpListener, TcpStream};
+    use std::time::Duration;
+
+    #[test]
+    fn who_comes_takes_the_place_of_who_has_taken_longest() {
+        let listener = TcpListener::bind("127.0.0.1:0").unwrap();
+        let handshakes = Arc::new(PendingHandshakes::default());
+        let come = || {
+            let client = TcpStream::connect(listener.local_addr().unwrap()).unwrap();
+            let (served, _) = listener.accept().unwrap();
+            let handshake = handshakes.take(Closer::of(&served).unwrap());
+            (client, served, handshake)
+        };
+        let is_ended = |client: &TcpStream| {
+            let patience = Some(Duration::from_millis(20));
+            client.set_read_timeout(patience).unwrap();
+            matches!((&mut &*client).read(&mut [0]), Ok(0))
+        };
+        let mut came: Vec<_> = (0..2 * MOST).map(|_| come()).collect();
+        let ended = came.iter().take_while(|it| is_ended(&it.0)).count();
+        assert_eq!(ended, MOST);
+        assert!(!is_ended(&came[2 * MOST - 1].0));
+        // Those that were ended haven't gone yet.
+        assert!(come().2.is_none());
+        came.drain(..MOST);
+        came.push(come());
+        assert!(came[MOST].2.is_some() && is_ended(&came[0].0) && !is_ended(&came[1].0));
+        // One that greeted left room.
+        came[1].2 = None;
+        came.push(come());
+        assert!(!is_ended(&came[1].0) && !is_ended(&came[2].0));
+    }
+}

@@ -1,0 +1,32 @@
+use super::outbox::Outbox;
+use std::fmt;
+use std::sync::Arc;
+
+/// Reads the frames that a [`ReplySender`](super::ReplySender) sends, in place of the other process: for tests of a
+/// host. Once it is dropped, nobody awaits the answers.
+pub struct SentFrames(Arc<Outbox>);
+
+impl SentFrames {
+    /// Reads what the outbox sends.
+    pub(super) fn of(outbox: Arc<Outbox>) -> SentFrames {
+        SentFrames(outbox)
+    }
+
+    /// Waits for frames, and returns their bytes.
+    pub fn read(&self) -> Vec<u8> {
+        // Nobody else ends the outbox.
+        self.0.take().unwrap_or_default()
+    }
+}
+
+impl Drop for SentFrames {
+    fn drop(&mut self) {
+        self.0.end();
+    }
+}
+
+impl fmt::Debug for SentFrames {
+    fn fmt(&self, f: &mut fmt::Formatter<'_>) -> fmt::Result {
+        f.debug_struct("SentFrames").finish_non_exhaustive()
+    }
+}

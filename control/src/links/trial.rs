@@ -1,0 +1,227 @@
+//! A host for tests, whose requests and commands tell their names and how they ended.
+use super::*;
+use durkenzo_driver::Came;
+use durkenzo_store::Revision;
+use std::sync::mpsc::{channel, Receiver, Sender};
+
+/// A host that answers nobody.
+#[derive(Debug)]
+pub(super) struct TestHost;
+
+impl TestHost {
+    /// The server 2, which executes shard 3.
+    pub(super) fn destination() -> TestDestination {
+        TestDestination(Instant::now())
+    }
+}
+
+impl Host for TestHost {
+    type Reason = TestReason;
+    type Destination = TestDestination;
+    type Request = TestRequest;
+    type Command = TestCommand;
+    type Session = TestSession;
+
+    fn session(&self, _: Identity) -> io::Result<TestSession> {
+        Ok(TestSession)
+    }
+
+    fn resume(&self, returned: ReturnedRequests<TestHost>) -> Result<(), ReturnedRequests<Self>> {
+        Err(returned)
+    }
+}
+
+/// A session that answers each request by its own bytes.
+pub(super) struct TestSession;
+
+impl PeerSession for TestSession {
+    type Reason = TestReason;
+
+    fn execute(&mut self, received: ReceivedRequests<'_, TestReason>) {
+        let requests = received.requests.into_iter();
+        requests.for_each(|(bytes, reply)| reply.answer(bytes));
+    }
+
+    fn ask_control(&mut self, _: &[u8], _: ReplySender<TestReason>) -> Result<(), WireFault> {
+        Err(WireFault::Words)
+    }
+}
+
+#[derive(Clone, Debug)]
+pub(super) struct TestDestination(Instant);
+
+impl Destination for TestDestination {
+    fn shard(&self) -> u16 {
+        3
+    }
+
+    fn server(&self) -> u16 {
+        2
+    }
+
+    fn came(&self) -> Came {
+        Came::HERE
+    }
+
+    fn since(&self) -> Instant {
+        self.0
+    }
+}
+
+#[derive(Clone, Debug, PartialEq)]
+pub(super) enum TestReason {
+    Stopped,
+    Moved(Revision),
+    Unknown(String),
+}
+
+impl Reason for TestReason {
+    fn stopped() -> TestReason {
+        TestReason::Stopped
+    }
+
+    fn moved(revision: Revision) -> TestReason {
+        TestReason::Moved(revision)
+    }
+
+    fn unknown(why: String) -> TestReason {
+        TestReason::Unknown(why)
+    }
+
+    fn looks_again(&self) -> Option<Revision> {
+        match self {
+            TestReason::Stopped => Some(Revision::NEVER),
+            TestReason::Moved(revision) => Some(*revision),
+            TestReason::Unknown(_) => None,
+        }
+    }
+
+    fn code(&self) -> u8 {
+        match self {
+            TestReason::Stopped => 1,
+            TestReason::Moved(_) => 2,
+            TestReason::Unknown(_) => 3,
+        }
+    }
+
+    fn write(&self, out: &mut Vec<u8>) {
+        match self {
+            TestReason::Stopped => {}
+            TestReason::Moved(revision) => out.extend(revision.0.to_be_bytes()),
+            TestReason::Unknown(why) => put_text(out, why),
+        }
+    }
+
+    fn read(code: u8, mut details: Fields<'_>) -> Result<TestReason, WireFault> {
+        let reason = match code {
+            1 => TestReason::Stopped,
+            2 => TestReason::Moved(Revision(details.long()?)),
+            3 => TestReason::Unknown(details.text()?),
+            code => return Err(WireFault::Answer(code)),
+        };
+        details.end().map(|()| reason)
+    }
+}
+
+/// A request, which may be done twice if its name is "read" or "again".
+#[derive(Debug)]
+pub(super) struct TestRequest {
+    pub(super) name: &'static str,
+    pub(super) table: u16,
+    pub(super) is_awaited: bool,
+    tell: Sender<String>,
+}
+
+impl TestRequest {
+    /// Requests of these names, and where their ends are told.
+    pub(super) fn each(names: &[&'static str]) -> (Vec<TestRequest>, Receiver<String>) {
+        let (tell, told) = channel();
+        let requests = names.iter().map(|name| TestRequest {
+            name,
+            table: FIRST_TABLE,
+            is_awaited: true,
+            tell: tell.clone(),
+        });
+        (requests.collect(), told)
+    }
+
+    fn tell(self, end: String) {
+        self.tell.send(format!("{}: {end}", self.name)).unwrap();
+    }
+}
+
+impl ForwardedRequest for TestRequest {
+    type Reason = TestReason;
+
+    fn message(&self) -> ForwardedMessage {
+        let bytes = self.name.as_bytes().to_vec();
+        let table = self.table;
+        ForwardedMessage { bytes, table }
+    }
+
+    fn is_awaited(&self) -> bool {
+        self.is_awaited
+    }
+
+    fn answer(self, answer: &[u8]) {
+        self.tell(String::from_utf8_lossy(answer).into());
+    }
+
+    fn refuse(self, reason: TestReason) {
+        self.tell(format!("{reason:?}"));
+    }
+
+    fn refuse_unreached(self, server: u16, why: &str) {
+        self.tell(format!("unreached {server}: {why}"));
+    }
+
+    fn refuse_unknown(self, server: u16) {
+        self.tell(format!("unknown {server}"));
+    }
+
+    fn after_loss(self, why: &str) -> Option<TestRequest> {
+        if ["read", "again"].contains(&self.name) {
+            return Some(self);
+        }
+        self.tell(format!("lost: {why}"));
+        None
+    }
+}
+
+/// A command.
+#[derive(Debug)]
+pub(super) struct TestCommand(Sender<String>);
+
+impl TestCommand {
+    /// A command, and where its end is told.
+    pub(super) fn new() -> (TestCommand, Receiver<String>) {
+        let (tell, told) = channel();
+        (TestCommand(tell), told)
+    }
+
+    fn tell(self, end: String) {
+        self.0.send(end).unwrap();
+    }
+}
+
+impl ForwardedCommand for TestCommand {
+    fn bytes(&self) -> Vec<u8> {
+        b"command".to_vec()
+    }
+
+    fn answer(self, answer: &[u8]) {
+        self.tell(String::from_utf8_lossy(answer).into());
+    }
+
+    fn refuse(self) {
+        self.tell("refused".to_owned());
+    }
+
+    fn refuse_unreached(self, why: &str) {
+        self.tell(format!("unreached: {why}"));
+    }
+
+    fn lose(self, why: &str) {
+        self.tell(format!("lost: {why}"));
+    }
+}

@@ -1,0 +1,122 @@
+use super::handshake::shake;
+use super::pem::{certificates, not_taken, TlsIdentity};
+use super::shared_connection::SharedConnection;
+use super::{context, ReadHalf, TlsConnection, TlsFault, WriteHalf};
+use openssl::error::ErrorStack;
+use openssl::ssl::{SslContext, SslMethod};
+use openssl::x509::verify::X509CheckFlags;
+use openssl::x509::{X509Ref, X509};
+use std::fmt;
+use std::io::{self, ErrorKind};
+use std::net::TcpStream;
+use std::path::Path;
+use std::sync::Arc;
+use std::time::Duration;
+
+/// The name that each peer's certificate has, wherever it runs: by it a peer is told from a client whose certificate is
+/// of the same authority.
+pub const PEER_NAME: &str = "peer.durkenzo";
+
+/// How the processes of a cluster meet each other by TLS: either side shows a certificate of the cluster's authority,
+/// which has the name of peers.
+#[derive(Clone)]
+pub struct PeersTls {
+    as_client: SslContext,
+    as_server: SslContext,
+}
+
+impl PeersTls {
+    /// By this authority, and this certificate of it with its key.
+    ///
+    /// # Errors
+    ///
+    /// Where a file can't be read or hasn't what it should have, the certificate hasn't the name of peers, or the key
+    /// isn't its key.
+    pub fn new(authority: &Path, chain: &Path, key: &Path) -> Result<PeersTls, TlsFault> {
+        let identity = TlsIdentity::read(chain, key)?;
+        if !is_peer(identity.leaf()) {
+            let why = format!("the certificate hasn't the name DNS:{PEER_NAME}, as peers' have");
+            return Err(TlsFault::NotTaken(chain.to_owned(), why));
+        }
+        let trusted = certificates(authority)?;
+        let side = |method| side(method, &identity, &trusted).map_err(not_taken(key));
+        Ok(PeersTls {
+            as_client: side(SslMethod::tls_client())?,
+            as_server: side(SslMethod::tls_server())?,
+        })
+    }
+
+    /// Meets a peer that was connected to, in this time in all, and returns what reads from it and what writes to it.
+    ///
+    /// # Errors
+    ///
+    /// `TimedOut` or `WouldBlock` where it takes longer, `InvalidData` where the other side isn't a peer, and those of
+    /// the socket.
+    pub fn connect(
+        &self,
+        socket: TcpStream,
+        within: Duration,
+    ) -> io::Result<(ReadHalf, WriteHalf)> {
+        let connection = TlsConnection::connecting(&self.as_client, PEER_NAME);
+        met(connection.map_err(io::Error::other)?, socket, within)
+    }
+
+    /// Meets a peer that was accepted; else as [`connect`](PeersTls::connect).
+    ///
+    /// # Errors
+    ///
+    /// The same.
+    pub fn accept(&self, socket: TcpStream, within: Duration) -> io::Result<(ReadHalf, WriteHalf)> {
+        let connection = TlsConnection::accepting(&self.as_server);
+        met(connection.map_err(io::Error::other)?, socket, within)
+    }
+}
+
+/// The settings of one side. The other side must have the name of peers.
+fn side(
+    method: SslMethod,
+    identity: &TlsIdentity,
+    trusted: &[X509],
+) -> Result<SslContext, ErrorStack> {
+    let mut builder = context::builder(method, identity)?;
+    context::ask(&mut builder, trusted)?;
+    let asked = builder.verify_param_mut();
+    asked.set_hostflags(X509CheckFlags::NO_WILDCARDS | X509CheckFlags::NEVER_CHECK_SUBJECT);
+    asked.set_host(PEER_NAME)?;
+    Ok(builder.build())
+}
+
+/// Whether the certificate has the name of peers.
+fn is_peer(certificate: &X509Ref) -> bool {
+    let names = certificate.subject_alt_names();
+    let mut names = names.iter().flatten().filter_map(|it| it.dnsname());
+    names.any(|it| it.eq_ignore_ascii_case(PEER_NAME))
+}
+
+fn met(
+    mut connection: TlsConnection,
+    socket: TcpStream,
+    within: Duration,
+) -> io::Result<(ReadHalf, WriteHalf)> {
+    socket.set_nodelay(true)?;
+    shake(&mut connection, &socket, within)?;
+    // OpenSSL has checked the name already. We check it again because only the name tells a peer from a client.
+    if !connection.shown().is_some_and(|it| is_peer(&it)) {
+        let why = format!("the other side's certificate hasn't the name {PEER_NAME}");
+        return Err(io::Error::new(ErrorKind::InvalidData, why));
+    }
+    let (other, shared) = (
+        socket.try_clone()?,
+        Arc::new(SharedConnection::new(connection)),
+    );
+    Ok((
+        ReadHalf::new(other, shared.clone()),
+        WriteHalf::new(socket, shared),
+    ))
+}
+
+impl fmt::Debug for PeersTls {
+    fn fmt(&self, f: &mut fmt::Formatter<'_>) -> fmt::Result {
+        f.debug_struct("PeersTls").finish_non_exhaustive()
+    }
+}

@@ -1,0 +1,79 @@
+use super::shared_connection::SharedConnection;
+use std::io::{self, ErrorKind, Read};
+use std::net::{Shutdown, TcpStream};
+use std::sync::Arc;
+use std::time::Duration;
+
+/// How many bytes are taken from the socket at once.
+const ROOM: usize = 16 << 10;
+
+/// What reads a peer's bytes, on a thread of its own if it likes.
+#[derive(Debug)]
+pub struct ReadHalf {
+    socket: TcpStream,
+    tls: Option<Received>,
+}
+
+/// What came by TLS.
+#[derive(Debug)]
+struct Received {
+    shared: Arc<SharedConnection>,
+    buffer: Box<[u8]>,
+}
+
+impl ReadHalf {
+    /// That of a connection without TLS.
+    pub fn plain(socket: TcpStream) -> ReadHalf {
+        ReadHalf { socket, tls: None }
+    }
+
+    pub(super) fn new(socket: TcpStream, shared: Arc<SharedConnection>) -> ReadHalf {
+        let tls = Some(Received {
+            shared,
+            buffer: vec![0; ROOM].into(),
+        });
+        ReadHalf { socket, tls }
+    }
+
+    /// Has a read end by `WouldBlock` or `TimedOut` after so long in which nothing came; none is never.
+    ///
+    /// # Errors
+    ///
+    /// Where the system refuses that, as a time of zero.
+    pub fn set_timeout(&self, most: Option<Duration>) -> io::Result<()> {
+        self.socket.set_read_timeout(most)
+    }
+
+    /// Ends the connection both ways, so that the other half notices too.
+    pub fn end(&self) {
+        // Where the peer was quicker it is done already.
+        let _ = self.socket.shutdown(Shutdown::Both);
+    }
+}
+
+impl Read for ReadHalf {
+    /// The next bytes; 0 is the end that the peer told.
+    ///
+    /// # Errors
+    ///
+    /// `UnexpectedEof` where a connection by TLS ends untold, `InvalidData` where bytes aren't the peer's, and those of
+    /// the socket.
+    fn read(&mut self, bytes: &mut [u8]) -> io::Result<usize> {
+        let Some(tls) = &mut self.tls else {
+            return self.socket.read(bytes);
+        };
+        loop {
+            // If OpenSSL has to answer something, the answer waits until the other half writes.
+            match tls.shared.lock().open(bytes) {
+                Err(error) if error.kind() == ErrorKind::WouldBlock => {}
+                opened => return opened,
+            }
+            let count = self.socket.read(&mut tls.buffer)?;
+            let mut connection = tls.shared.lock();
+            match count {
+                0 => connection.note_end(),
+                _ => connection.feed(&tls.buffer[..count]),
+            }
+        }
+    }
+}
