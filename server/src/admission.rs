@@ -1,270 +1,118 @@
 //! How a thread comes to a shard's body: as whichever server the board admits.
-use crate::body::Shard;
+use crate::body::BoxedBody;
 use crate::cluster::Cluster;
+use crate::passes::{Passes, RequestTarget};
 use crate::stats::Stats;
-use crate::wait::{NotAdmitted, Wait};
-use durkenzo::{AdmitFault, Mode, Pass, PassFault, Permit, Record};
-use std::fmt;
+use crate::storage::{InMemory, Storage};
+use crate::wait::NotAdmitted;
+use durkenzo::{AdmitFault, PassFault, Permit};
 use std::sync::Arc;
 
-/// How often a request is forwarded.
-const MOST_HOPS: u8 = 4;
-/// How often a thread looks for a shard's server beside its spins.
-const MOST_TURNS: u32 = 8;
-
-/// The server that a request is for, and how it came there.
-#[derive(Clone, Copy, Debug)]
-struct Target {
-    server: u16,
-    mode: Mode,
-    hops: u8,
-    /// Whether the request is for this server alone and whom it forwards to.
-    is_fixed: bool,
-}
-
-impl Target {
-    fn direct(server: u16, is_fixed: bool) -> Target {
-        let (mode, hops) = (Mode::Direct, 0);
-        Target {
-            server,
-            mode,
-            hops,
-            is_fixed,
-        }
-    }
-}
-
-/// A thread's passes, one of each server that is reached, and where it sends requests.
+/// A thread's way to shards in memory. Over a store a thread comes to no shard by itself: there each admission is
+/// refused by `UnknownShard`, and nothing is counted by server.
+#[derive(Debug)]
 pub struct Admission {
     cluster: Arc<Cluster>,
     stats: Arc<Stats>,
-    /// From server 1.
-    passes: Vec<Option<Pass<Shard>>>,
-    /// The server that executed each shard last, as far as this thread knows: an old one is refused, with the record.
-    routes: Box<[u16]>,
-    version: u64,
-    /// How often it looks for a shard's server.
-    turns: u32,
-    /// The place of the server as which the thread was admitted last.
-    executed_by: usize,
+    passes: Option<Passes>,
 }
 
 impl Admission {
     /// That of a thread with these counts.
+    ///
+    /// # Errors
+    ///
+    /// `NoMemory`.
     pub fn new(cluster: Arc<Cluster>, stats: Arc<Stats>) -> Result<Admission, PassFault> {
-        let mut admission = Admission {
-            passes: (0..cluster.presence.servers()).map(|_| None).collect(),
-            routes: vec![1; cluster.shards().into()].into(),
-            version: 0,
-            turns: cluster.configuration.spins.saturating_add(MOST_TURNS),
-            executed_by: 0,
-            stats,
-            cluster,
+        let of =
+            |memory: &Arc<InMemory>| Passes::new(cluster.clone(), memory.clone(), stats.clone());
+        let passes = match &cluster.storage {
+            Storage::Memory(memory) => Some(of(memory)?),
+            Storage::Folder(_) | Storage::Etcd(_) => None,
         };
-        admission.renew()?;
-        Ok(admission)
+        Ok(Admission {
+            cluster,
+            stats,
+            passes,
+        })
+    }
+
+    /// Returns whether the thread comes to shards by itself.
+    pub fn has_passes(&self) -> bool {
+        self.passes.is_some()
     }
 
     /// Gives back the passes of servers that aren't reached any more, and takes those of servers that are back. Returns
     /// the version of their presence since which that is so.
+    ///
+    /// # Errors
+    ///
+    /// `NoMemory`.
     pub fn refresh(&mut self) -> Result<u64, PassFault> {
-        if self.version != self.cluster.presence.version() {
-            self.renew()?;
+        match &mut self.passes {
+            Some(passes) => passes.refresh(),
+            None => Ok(self.cluster.presence.version()),
         }
-        Ok(self.version)
     }
 
-    fn renew(&mut self) -> Result<(), PassFault> {
-        let version = self.cluster.presence.version();
-        let board = self.cluster.board();
-        for (server, pass) in (1..).zip(&mut self.passes) {
-            let is_reached = self.cluster.presence.is_reached(server);
-            match pass {
-                Some(_) if !is_reached => *pass = None,
-                None if is_reached => *pass = Some(board.pass(server)?),
-                _ => {}
-            }
-        }
-        self.version = version;
-        Ok(())
-    }
-
-    /// What the thread counts.
+    /// Returns what the thread counts.
     pub fn stats(&self) -> &Stats {
         &self.stats
     }
 
     /// Counts commands that were done under the last permit, so many of which were answered by an error.
     pub fn note_done(&self, commands: u64, errors: u64) {
-        let server = &self.stats.servers[self.executed_by];
-        let mut done = commands;
-        if errors > 0 {
-            server.errors.add(errors);
-            done -= errors.min(done);
+        if let Some(passes) = &self.passes {
+            passes.note_done(commands, errors);
         }
-        server.done.add(done);
     }
 
     /// Has the closure work on the body of the shard, as the server that executes it.
+    ///
+    /// # Errors
+    ///
+    /// What the request waits for, or why the board refuses it; then nothing was done.
     #[inline]
     pub fn admit<R>(
         &mut self,
         shard: u16,
-        work: impl FnOnce(&mut Shard) -> R,
+        work: impl FnOnce(&mut BoxedBody) -> R,
     ) -> Result<R, NotAdmitted> {
         self.admit_permit(shard, |permit| work(permit))
     }
 
     /// The same, with the permit.
+    ///
+    /// # Errors
+    ///
+    /// As [`Admission::admit`].
     #[inline]
     pub fn admit_permit<R>(
         &mut self,
         shard: u16,
-        work: impl FnOnce(&mut Permit<'_, Shard>) -> R,
+        work: impl FnOnce(&mut Permit<'_, BoxedBody>) -> R,
     ) -> Result<R, NotAdmitted> {
-        let server = self.routes[usize::from(shard)];
-        self.admit_at(Target::direct(server, false), shard, work)
+        let passes = self.passes.as_mut().ok_or(NO_PASSES)?;
+        passes.admit(passes.target(shard), shard, work)
     }
 
     /// Has the closure work on the body of the shard, for a request to this server, which may forward it.
+    ///
+    /// # Errors
+    ///
+    /// As [`Admission::admit`].
     pub fn admit_as<R>(
         &mut self,
         server: u16,
         shard: u16,
-        work: impl FnOnce(&mut Shard) -> R,
+        work: impl FnOnce(&mut BoxedBody) -> R,
     ) -> Result<R, NotAdmitted> {
-        self.admit_at(Target::direct(server, true), shard, |permit| work(permit))
-    }
-
-    // Where it is inlined, what the work needs stays in registers.
-    #[inline(always)]
-    fn admit_at<R>(
-        &mut self,
-        mut target: Target,
-        shard: u16,
-        work: impl FnOnce(&mut Permit<'_, Shard>) -> R,
-    ) -> Result<R, NotAdmitted> {
-        for _ in 0..self.turns {
-            let index = usize::from(target.server) - 1;
-            let Some(pass) = self.passes[index].as_mut() else {
-                self.around(shard, &mut target)?;
-                continue;
-            };
-            let fault = match pass.admit(shard, target.mode) {
-                Ok(mut permit) => {
-                    let done = work(&mut permit);
-                    self.cluster.note_keys(shard, permit.keys());
-                    drop(permit);
-                    self.stats.servers[index].admissions.add(1);
-                    self.executed_by = index;
-                    if target.hops > 0 {
-                        self.stats.forwarded.add(u64::from(target.hops));
-                    }
-                    return Ok(done);
-                }
-                Err(fault) => fault,
-            };
-            self.after(shard, &mut target, fault)?;
-        }
-        self.stats.raced.add(1);
-        Err(NotAdmitted::Wait(Wait::Busy(shard)))
-    }
-
-    /// Goes where to try again after a refusal.
-    // Outside of `admit_at`, so that who is admitted at once keeps nothing for it.
-    #[cold]
-    #[inline(never)]
-    fn after(
-        &mut self,
-        shard: u16,
-        target: &mut Target,
-        fault: AdmitFault,
-    ) -> Result<(), NotAdmitted> {
-        match fault {
-            AdmitFault::Admitted(_) | AdmitFault::Raced(_) => {
-                std::hint::spin_loop();
-                Ok(())
-            }
-            AdmitFault::NotExecutor(read) | AdmitFault::NotYet(read) => {
-                self.along(shard, target, read, fault)
-            }
-            AdmitFault::Paused(read) => Err(self.paused(shard, target, read)),
-            AdmitFault::Vacant(_) => Err(NotAdmitted::Wait(Wait::Vacant(shard))),
-            other => Err(NotAdmitted::Refused(other)),
-        }
-    }
-
-    /// Goes where another server executes the shard: the one that this one forwards to, or the owner.
-    fn along(
-        &mut self,
-        shard: u16,
-        target: &mut Target,
-        read: Record,
-        fault: AdmitFault,
-    ) -> Result<(), NotAdmitted> {
-        if let Some(server) = read
-            .forward(target.server)
-            .filter(|_| target.hops < MOST_HOPS)
-        {
-            let (mode, hops) = (Mode::Forwarded(target.server), target.hops + 1);
-            *target = Target {
-                server,
-                mode,
-                hops,
-                ..*target
-            };
-            return Ok(());
-        }
-        match read.owner() {
-            _ if target.is_fixed => Err(NotAdmitted::Refused(fault)),
-            Some(owner) => {
-                self.routes[usize::from(shard)] = owner;
-                *target = Target::direct(owner, false);
-                Ok(())
-            }
-            None => Err(NotAdmitted::Wait(Wait::Vacant(shard))),
-        }
-    }
-
-    /// What a request waits for where nobody executes: whoever asks for the shard is told of an owner that is away.
-    fn paused(&self, shard: u16, target: &Target, read: Record) -> NotAdmitted {
-        let owner = read.owner().filter(|_| !target.is_fixed);
-        let away = owner.filter(|it| !self.cluster.presence.is_reached(*it));
-        NotAdmitted::Wait(match away {
-            Some(owner) => Wait::Unreachable(shard, owner),
-            None => Wait::Paused(shard),
+        let passes = self.passes.as_mut().ok_or(NO_PASSES)?;
+        passes.admit(RequestTarget::direct(server, true), shard, |permit| {
+            work(permit)
         })
     }
-
-    /// Goes elsewhere than to a server that isn't reached: to the owner, if that is another one. The owner can only
-    /// forward to the one that executes.
-    #[cold]
-    #[inline(never)]
-    fn around(&mut self, shard: u16, target: &mut Target) -> Result<(), NotAdmitted> {
-        let away = NotAdmitted::Wait(Wait::Unreachable(shard, target.server));
-        if target.hops > 0 {
-            return Err(away);
-        }
-        let pass = self.passes.iter_mut().flatten().next().ok_or(away)?;
-        let record = pass
-            .look(shard)
-            .map_err(|_| NotAdmitted::Refused(AdmitFault::UnknownShard))?;
-        match record.owner() {
-            Some(owner) if owner != target.server && !target.is_fixed => {
-                self.routes[usize::from(shard)] = owner;
-                *target = Target::direct(owner, false);
-                Ok(())
-            }
-            None if !target.is_fixed => Err(NotAdmitted::Wait(Wait::Vacant(shard))),
-            _ => Err(away),
-        }
-    }
 }
 
-impl fmt::Debug for Admission {
-    fn fmt(&self, f: &mut fmt::Formatter<'_>) -> fmt::Result {
-        f.debug_struct("Admission")
-            .field("routes", &self.routes)
-            .finish_non_exhaustive()
-    }
-}
+/// Why a thread over a store comes to no shard by itself.
+const NO_PASSES: NotAdmitted = NotAdmitted::Refused(AdmitFault::UnknownShard);

@@ -16,14 +16,14 @@ const MOST: usize = 4_096;
 
 /// Where clients connect from: an address, or of version 6 the network that one place has.
 #[derive(Clone, Copy, Debug, PartialEq, Eq, Hash)]
-pub struct Origin(u64);
+pub struct ClientOrigin(u64);
 
-impl From<IpAddr> for Origin {
-    fn from(address: IpAddr) -> Origin {
+impl From<IpAddr> for ClientOrigin {
+    fn from(address: IpAddr) -> ClientOrigin {
         match address.to_canonical() {
-            IpAddr::V4(four) => Origin(u32::from(four).into()),
+            IpAddr::V4(four) => ClientOrigin(u32::from(four).into()),
             // No network of these begins with so many zeros.
-            IpAddr::V6(six) => Origin((u128::from(six) >> 64) as u64),
+            IpAddr::V6(six) => ClientOrigin((u128::from(six) >> 64) as u64),
         }
     }
 }
@@ -31,7 +31,7 @@ impl From<IpAddr> for Origin {
 /// From where wrong passwords came lately.
 #[derive(Debug, Default)]
 pub struct Guesses {
-    wrong: Mutex<HashMap<Origin, Wrong>>,
+    wrong: Mutex<HashMap<ClientOrigin, Wrong>>,
 }
 
 #[derive(Clone, Copy, Debug)]
@@ -48,7 +48,7 @@ impl Wrong {
 
 impl Guesses {
     /// For how long a guess from there waits before it is looked at, of a connection that gave so many wrong ones.
-    pub fn wait(&self, origin: Origin, of_connection: u32) -> Duration {
+    pub fn wait(&self, origin: ClientOrigin, of_connection: u32) -> Duration {
         let wrong = self.wrong.lock().unwrap_or_else(PoisonError::into_inner);
         let found = wrong.get(&origin).filter(|it| !it.is_forgotten());
         let of_origin = found.map_or(0, |it| it.count);
@@ -56,7 +56,7 @@ impl Guesses {
     }
 
     /// Notes that a wrong password came from there. Where too many origins are known the oldest is forgotten.
-    pub fn note_wrong(&self, origin: Origin) {
+    pub fn note_wrong(&self, origin: ClientOrigin) {
         let mut wrong = self.wrong.lock().unwrap_or_else(PoisonError::into_inner);
         if wrong.len() >= MOST && !wrong.contains_key(&origin) {
             wrong.retain(|_, it| !it.is_forgotten());
@@ -85,7 +85,7 @@ fn wait_after(wrong: u32) -> Duration {
 mod tests {
     use super::*;
 
-    fn origin(address: &str) -> Origin {
+    fn origin(address: &str) -> ClientOrigin {
         address.parse::<IpAddr>().unwrap().into()
     }
 

@@ -7,13 +7,13 @@
 #![deny(unsafe_code)]
 #![warn(missing_docs)]
 pub mod admission;
-pub mod attendant;
+pub mod board_fault;
 pub mod body;
 #[cfg(test)]
 mod chance;
 pub mod cluster;
 pub mod command;
-pub mod configure;
+pub mod configuration;
 pub mod control;
 pub mod descriptors;
 pub mod domains;
@@ -22,18 +22,17 @@ pub mod guesses;
 pub mod http;
 pub mod io;
 pub mod join;
-pub mod joining;
 pub mod keep_alive;
 pub mod keyspace;
 pub mod log;
+pub mod main_thread;
 pub mod memory;
+pub mod metric;
 pub mod observer;
-pub mod open_fault;
 pub mod options;
 mod packed;
-pub mod peers;
+mod passes;
 pub mod presence;
-pub mod progress;
 pub mod resp;
 pub mod run;
 pub mod safety;
@@ -41,9 +40,9 @@ pub mod secret;
 pub mod settings;
 pub mod snapshot;
 pub mod stats;
-pub mod stored;
-pub mod tls;
+pub mod storage;
 pub mod wait;
+pub mod works;
 
 /// What the program calls itself.
 pub const NAME: &str = "durkenzo-server";

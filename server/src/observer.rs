@@ -1,56 +1,64 @@
 //! Who looks at how servers and shards stand.
-use crate::body::Shard;
 use crate::cluster::Cluster;
-use crate::peers::Peers;
-use crate::presence::Standing;
-use crate::snapshot::{ProcessRow, ServerRow, ShardRow, Snapshot};
-use durkenzo::{Pass, PassFault, Record, UnknownShard};
+use crate::snapshot::{ProcessStatus, ServerStatus, ShardStatus, Snapshot};
+use crate::storage::{BoardRecords, Storage};
+use crate::works::Peers;
+use durkenzo::{PassFault, Record, UnknownShard};
+use durkenzo_driver::{Durable, ServerState};
 use std::fmt;
 use std::sync::Arc;
 
 /// Looks at a cluster.
 pub struct Observer {
     cluster: Arc<Cluster>,
-    /// Any server sees all records.
-    pass: Pass<Shard>,
-    /// Of which board the pass is.
-    version: u64,
+    records: Records,
+}
+
+/// Where records are seen.
+enum Records {
+    /// On the board in memory.
+    Board(BoardRecords),
+    /// In the store, as they were seen there last.
+    Store(Arc<Durable>),
 }
 
 impl Observer {
     /// One of this cluster.
+    ///
+    /// # Errors
+    ///
+    /// `NoMemory`.
     pub fn new(cluster: Arc<Cluster>) -> Result<Observer, PassFault> {
-        let version = cluster.board_version();
-        let pass = cluster.board().pass(1)?;
-        Ok(Observer {
-            cluster,
-            pass,
-            version,
-        })
+        let records = match &cluster.storage {
+            Storage::Memory(memory) => Records::Board(BoardRecords::new(memory.clone())?),
+            Storage::Folder(folder) => Records::Store(folder.durable().clone()),
+            Storage::Etcd(etcd) => Records::Store(etcd.durable().clone()),
+        };
+        Ok(Observer { cluster, records })
     }
 
     /// Looks at the board that took the place of the one before, if one did. Until then that one is kept, with all that
     /// its shards hold.
     pub fn renew(&mut self) {
-        if self.version == self.cluster.board_version() {
-            return;
-        }
-        match Observer::new(self.cluster.clone()) {
-            Ok(renewed) => *self = renewed,
-            Err(error) => tracing::error!(%error, "who looks at shards sees the earlier ones"),
+        match &mut self.records {
+            Records::Board(board) => board.renew(),
+            Records::Store(_) => {}
         }
     }
 
-    /// The record of the shard.
+    /// Returns the record of the shard.
+    ///
+    /// # Errors
+    ///
+    /// There is no such shard, or the store hasn't told its record yet.
     pub fn record(&mut self, shard: u16) -> Result<Record, UnknownShard> {
-        if let Some(durable) = self.cluster.storage.durable() {
-            let standing = durable.standing(shard).ok_or(UnknownShard)?;
-            return standing.record().ok_or(UnknownShard);
+        match &mut self.records {
+            Records::Board(board) => board.record(shard),
+            Records::Store(durable) => {
+                let standing = durable.standing(shard).ok_or(UnknownShard)?;
+                standing.record().ok_or(UnknownShard)
+            }
         }
-        self.renew();
-        let mut record = self.pass.look(shard)?;
-        record.generation += self.cluster.base(shard);
-        Ok(record)
     }
 
     /// The generations of all shards.
@@ -61,9 +69,10 @@ impl Observer {
     }
 
     /// How the shard stands, if there is one.
-    pub fn shard(&mut self, shard: u16) -> Option<ShardRow> {
+    pub fn shard(&mut self, shard: u16) -> Option<ShardStatus> {
         let record = self.record(shard).ok()?;
-        Some(ShardRow::new(shard, record, self.cluster.keys(shard)))
+        let keys = self.cluster.storage.keys(shard);
+        Some(ShardStatus::new(shard, record, keys))
     }
 
     /// How all stands, each record at a moment of its own.
@@ -82,30 +91,30 @@ impl Observer {
 
     /// How far the server's restart has come. Of several processes only the one that leads knows more than whether
     /// requests reach it.
-    fn standing(&self, server: u16) -> Option<Standing> {
-        let standing = self.cluster.presence.standing(server)?;
-        let storage = &self.cluster.storage;
-        let (Some(durable), Some(_)) = (storage.durable(), storage.peers()) else {
-            return Some(standing);
+    fn standing(&self, server: u16) -> Option<ServerState> {
+        let standing = self.cluster.presence.state(server)?;
+        let is_away = match &self.cluster.storage {
+            Storage::Memory(_) | Storage::Folder(_) => return Some(standing),
+            Storage::Etcd(etcd) => etcd.durable().is_away(server),
         };
-        Some(match (durable.is_away(server), standing.is_reached()) {
-            (true, true) => Standing::Failed,
-            (false, false) => Standing::Up,
-            _ => standing,
+        Some(match (is_away, standing.is_reached()) {
+            (true, true) => ServerState::Failed,
+            (false, false) => ServerState::Up,
+            (true, false) | (false, true) => standing,
         })
     }
 
-    fn server(&self, server: u16, shards: &[ShardRow]) -> ServerRow {
+    fn server(&self, server: u16, shards: &[ShardStatus]) -> ServerStatus {
         let index = usize::from(server) - 1;
         let inlets = self.cluster.inlets().iter();
         let admissions = inlets.map(|it| it.stats().servers[index].admissions.get());
         let doing = self.cluster.progress.of(server);
-        ServerRow {
+        ServerStatus {
             server,
             standing: self.standing(server).map_or("unknown", |it| it.name()),
             domain: self.cluster.configuration.domains.domain_of(server),
             shards: shards.iter().filter(|it| it.owner == server).count(),
-            admissions: self.cluster.has_counts().then(|| admissions.sum()),
+            admissions: self.cluster.storage.has_counts().then(|| admissions.sum()),
             doing: doing.map(|it| it.to_string()),
             process: self.cluster.storage.peers().map(|it| process(it, server)),
         }
@@ -113,10 +122,10 @@ impl Observer {
 }
 
 /// How the server's process stands, as this one sees it.
-fn process(peers: &Peers, server: u16) -> ProcessRow {
+fn process(peers: &Peers, server: u16) -> ProcessStatus {
     let members = peers.member().members();
     let live = members.get(&server);
-    ProcessRow {
+    ProcessStatus {
         number: live.map_or(0, |it| it.process),
         leads: live.is_some() && peers.leader() == Some(server),
         followed: live.map_or(0, |it| it.followed.0),

@@ -1,6 +1,6 @@
 //! The command line.
 use crate::dump::USUAL_FOLDER as DUMPS;
-use crate::joining::JoinOptions;
+use crate::join::JoinOptions;
 use crate::memory::Bytes;
 use crate::safety::SafetyOptions;
 use crate::{NAME, VERSION};

@@ -1,20 +1,21 @@
 //! How the server begins and ends.
 use crate::admission::Admission;
-use crate::attendant::Attendant;
-use crate::body::{InFolder, Memory, Storage};
-use crate::cluster::{Cluster, Configuration};
+use crate::cluster::Cluster;
 use crate::command::Executor;
-use crate::configure::configuration;
-use crate::control::{Asked, Campaigner, Controller, StoredController, MOST_ASKED};
+use crate::configuration::Configuration;
+use crate::control::{Asked, Backend, Campaigner, Controller};
+use crate::control::{ClusterHost, MemoryBackend, StoreBackend, MOST_ASKED};
 use crate::descriptors::{Descriptors, Needs};
 use crate::io::{Acceptor, Handshaker, Inlet, Worker};
 use crate::join::Joined;
 use crate::keyspace::Keyspace;
+use crate::main_thread::MainThread;
 use crate::memory::CEILING;
 use crate::options::Options;
 use crate::safety::Safety;
-use crate::stored;
-use durkenzo_driver::Control;
+use crate::settings;
+use crate::storage::{InFolder, InMemory, Storage};
+use durkenzo_driver::DurableControl;
 use mio::Poll;
 use std::error::Error;
 use std::net::{IpAddr, Ipv4Addr, Ipv6Addr, SocketAddr};
@@ -23,18 +24,18 @@ use std::sync::Arc;
 use std::thread::{self, JoinHandle};
 
 /// Why the server doesn't begin, or ended early.
-pub type Fault = Box<dyn Error + Send + Sync>;
+pub type BoxError = Box<dyn Error + Send + Sync>;
 
 /// A thread that runs.
-type Running = JoinHandle<Result<(), Fault>>;
+type Running = JoinHandle<Result<(), BoxError>>;
 
 /// Threads for clients where nothing is said, at most.
 const MOST_USUAL_THREADS: usize = 4;
 
 /// Serves until a signal ends it.
-pub fn run(options: &Options) -> Result<(), Fault> {
+pub fn run(options: &Options) -> Result<(), BoxError> {
     CEILING.set(options.max_memory.0);
-    let mut attendant = Attendant::new()?;
+    let mut main_thread = MainThread::new()?;
     let configuration = fitted(options)?;
     let address = SocketAddr::new(options.bind, options.port);
     let told = |error| format!("{address}: {error}; --port takes another port");
@@ -42,11 +43,11 @@ pub fn run(options: &Options) -> Result<(), Fault> {
     // A process joins others once nothing of this machine keeps it from serving.
     if options.http_port > 0 {
         let address = page_address(options, &configuration.safety);
-        attendant.bind_page(SocketAddr::new(address, options.http_port))?;
+        main_thread.bind_page(SocketAddr::new(address, options.http_port))?;
     }
     let joined = joined(options, &configuration, listener.local_addr()?)?;
     let storage = storage(options, &configuration, joined.as_ref())?;
-    let cluster = Arc::new(Cluster::new(configuration, storage)?);
+    let cluster = Arc::new(Cluster::new(configuration, storage));
     let (control, asked) = sync_channel(MOST_ASKED);
     let polls = polls(options, &cluster)?;
     let controlling = controlling(options, &cluster, asked)?;
@@ -65,17 +66,17 @@ pub fn run(options: &Options) -> Result<(), Fault> {
         controlling();
         Ok(())
     })?);
-    let attended = attendant.attend(&cluster);
+    let served = main_thread.run(&cluster);
     cluster.stop();
     waker.wake()?;
     let ended = end(&cluster, threads, between);
     tracing::info!("stopped");
-    ended.and(attended)
+    ended.and(served)
 }
 
 /// What the options come to, with no more connections than there are descriptors for.
-fn fitted(options: &Options) -> Result<Configuration, Fault> {
-    let mut configuration = configuration(options)?;
+fn fitted(options: &Options) -> Result<Configuration, BoxError> {
+    let mut configuration = Configuration::of(options)?;
     configuration.fit(Descriptors::raised(needs(options, &configuration)));
     Ok(configuration)
 }
@@ -85,21 +86,16 @@ fn end(
     cluster: &Cluster,
     threads: Vec<Running>,
     between: Option<JoinHandle<()>>,
-) -> Result<(), Fault> {
-    let peers = cluster.storage.peers();
+) -> Result<(), BoxError> {
     // Nobody but clients asks the control any more.
-    peers.iter().for_each(|it| it.leave_control());
+    cluster.storage.leave_control();
     let ended = threads.into_iter().map(|it| {
         let panicked = |_| Err("a thread panicked".into());
         it.join().unwrap_or_else(panicked)
     });
     // All are waited for.
     let ended = ended.fold(Ok(()), Result::and);
-    peers.iter().for_each(|it| it.close());
-    if let Some(durable) = cluster.storage.durable() {
-        durable.stop();
-    }
-    peers.iter().for_each(|it| it.leave());
+    cluster.storage.stop();
     // A thread that panicked has said so.
     let _ = between.map(JoinHandle::join);
     ended
@@ -110,7 +106,7 @@ fn joined(
     options: &Options,
     configuration: &Configuration,
     clients: SocketAddr,
-) -> Result<Option<Joined>, Fault> {
+) -> Result<Option<Joined>, BoxError> {
     let joined = options
         .join
         .server()
@@ -123,15 +119,14 @@ fn storage(
     options: &Options,
     configuration: &Configuration,
     joined: Option<&Joined>,
-) -> Result<Box<dyn Storage>, Fault> {
-    if let Some(joined) = joined {
-        return Ok(Box::new(joined.storage()));
-    }
-    let Some(folder) = &options.data else {
-        return Ok(Box::new(Memory));
-    };
-    let durable = Arc::new(stored::open(folder, options.sync, configuration)?);
-    Ok(Box::new(InFolder::new(durable, options.sync)))
+) -> Result<Storage, BoxError> {
+    Ok(match (joined, &options.data) {
+        (Some(joined), _) => Storage::Etcd(joined.storage()),
+        (None, Some(folder)) => {
+            Storage::Folder(InFolder::open(folder, options.sync, configuration)?)
+        }
+        (None, None) => Storage::Memory(Arc::new(InMemory::new(configuration)?)),
+    })
 }
 
 /// What the thread of the control does: all shards have owners then, unless the options say otherwise.
@@ -139,25 +134,24 @@ fn controlling(
     options: &Options,
     cluster: &Arc<Cluster>,
     asked: Receiver<Asked>,
-) -> Result<Box<dyn FnOnce() + Send>, Fault> {
-    let (assigns, storage) = (!options.vacant, &cluster.storage);
-    if let (Some(durable), Some(peers)) = (storage.durable(), storage.peers()) {
-        let line = stored::line(&cluster.configuration);
-        let (durable, peers) = (durable.clone(), peers.clone());
-        let campaigner = Campaigner::new(cluster.clone(), durable, peers, line, assigns);
-        return Ok(Box::new(move || campaigner.run(asked)));
-    }
-    if let Some(durable) = storage.durable() {
-        let line = stored::line(&cluster.configuration);
-        let control = Control::lead(durable.clone(), &line)?;
-        let mut controller = StoredController::new(cluster.clone(), control)?;
-        controller.begin(assigns)?;
-        return Ok(Box::new(move || controller.run(asked)));
-    }
-    let mut controller = Controller::new(cluster.clone())?;
-    if assigns {
-        controller.assign_all()?;
-    }
+) -> Result<Box<dyn FnOnce() + Send>, BoxError> {
+    let assigns = !options.vacant;
+    let host = Arc::new(ClusterHost::new(cluster.clone())?);
+    let line = || settings::line(&cluster.configuration);
+    let backend: Box<dyn Backend> = match &cluster.storage {
+        Storage::Memory(memory) => Box::new(MemoryBackend::new(cluster.clone(), memory.clone())?),
+        Storage::Folder(folder) => {
+            let control = DurableControl::lead(folder.durable().clone(), &line())?;
+            Box::new(StoreBackend::alone(control, folder.durable().clone()))
+        }
+        Storage::Etcd(etcd) => {
+            let (durable, peers) = (etcd.durable().clone(), etcd.peers().clone());
+            let campaigner = Campaigner::new(host, durable, peers, line(), assigns);
+            return Ok(Box::new(move || campaigner.run(asked)));
+        }
+    };
+    let mut controller = Controller::new(host, backend);
+    controller.begin(assigns)?;
     Ok(Box::new(move || controller.run(asked)))
 }
 
@@ -192,7 +186,7 @@ fn needs(options: &Options, configuration: &Configuration) -> Needs {
 }
 
 /// Makes what each thread for clients polls, and has the cluster know what reaches them.
-fn polls(options: &Options, cluster: &Cluster) -> Result<Vec<Poll>, Fault> {
+fn polls(options: &Options, cluster: &Cluster) -> Result<Vec<Poll>, BoxError> {
     let polls = (0..threads(options))
         .map(|_| Poll::new())
         .collect::<Result<Vec<_>, _>>()?;
@@ -212,7 +206,7 @@ fn workers(
     cluster: &Arc<Cluster>,
     polls: Vec<Poll>,
     control: &SyncSender<Asked>,
-) -> Result<Vec<Running>, Fault> {
+) -> Result<Vec<Running>, BoxError> {
     let mut threads = Vec::new();
     for (number, poll) in polls.into_iter().enumerate() {
         let inlet = cluster.inlets()[number].clone();
@@ -228,7 +222,7 @@ fn workers(
 }
 
 /// Has each thread for clients have one beside it that does their handshakes, if they are met by TLS.
-fn handshakers(cluster: &Arc<Cluster>) -> Result<Vec<Running>, Fault> {
+fn handshakers(cluster: &Arc<Cluster>) -> Result<Vec<Running>, BoxError> {
     let inlets = cluster.inlets().iter().enumerate();
     let begin = |(number, inlet): (usize, &Arc<Inlet>)| {
         let handshaker = Handshaker::new(cluster.clone(), inlet.clone())?;
@@ -253,8 +247,8 @@ impl Drop for StopsAtEnd {
 fn spawn(
     cluster: &Arc<Cluster>,
     name: &str,
-    work: impl FnOnce() -> Result<(), Fault> + Send + 'static,
-) -> Result<Running, Fault> {
+    work: impl FnOnce() -> Result<(), BoxError> + Send + 'static,
+) -> Result<Running, BoxError> {
     let end = StopsAtEnd(cluster.clone());
     let thread = thread::Builder::new()
         .name(name.to_owned())
@@ -270,9 +264,10 @@ fn announce(options: &Options, cluster: &Cluster, address: SocketAddr) {
     let by = cluster.configuration.rule.name();
     let most_clients = cluster.configuration.most_clients;
     tracing::info!(%address, servers, shards, by, most_clients, "serving Redis clients");
-    match cluster.storage.durable() {
-        Some(_) => tracing::info!("data lies {}", cluster.storage.description()),
-        None => tracing::warn!("data lies {}", cluster.storage.description()),
+    let description = cluster.storage.description();
+    match &cluster.storage {
+        Storage::Memory(_) => tracing::warn!("data lies {description}"),
+        Storage::Folder(_) | Storage::Etcd(_) => tracing::info!("data lies {description}"),
     }
     if !options.bind.is_loopback() {
         cluster.configuration.safety.warn(address);

@@ -1,9 +1,9 @@
 //! Who may reach the server, and what they may do.
-use crate::peers::MAX_SECRET;
-use crate::run::Fault;
-use crate::secret::Secret;
-use crate::tls::{ClientsTls, PeersTls};
+use crate::run::BoxError;
+use crate::secret;
 use clap::Args;
+use durkenzo_control::links::{Secret, MAX_SECRET};
+use durkenzo_control::tls::{ClientsTls, PeersTls};
 use std::net::SocketAddr;
 use std::path::PathBuf;
 use std::time::Duration;
@@ -86,8 +86,8 @@ impl Safety {
     /// # Errors
     ///
     /// Where a file can't be read or hasn't what it should have, each by its name.
-    pub fn of(options: &SafetyOptions) -> Result<Safety, Fault> {
-        let secret = |file: &Option<PathBuf>, variable| Secret::given(file.as_deref(), variable);
+    pub fn of(options: &SafetyOptions) -> Result<Safety, BoxError> {
+        let secret = |file: &Option<PathBuf>, variable| secret::given(file.as_deref(), variable);
         let tls = match (&options.tls_cert, &options.tls_key) {
             (Some(chain), Some(key)) => {
                 Some(ClientsTls::new(chain, key, options.tls_ca.as_deref())?)
@@ -124,6 +124,23 @@ impl Safety {
         }
     }
 
+    /// Judges whether other processes may reach this one there: without a secret or TLS only those on this machine.
+    ///
+    /// # Errors
+    ///
+    /// If others could reach it who know nothing.
+    pub fn may_listen(&self, address: SocketAddr) -> Result<(), String> {
+        let is_guarded = self.peer_secret.is_some() || self.peer_tls.is_some();
+        match address.ip().is_loopback() || is_guarded {
+            true => Ok(()),
+            false => Err(format!(
+                "NOSECRET whoever reaches {address} could take the place of a process: --peer-secret-file names a \
+                 file whose first line is the same for all of them, or --peer-ca, --peer-cert and --peer-key have them \
+                 speak TLS"
+            )),
+        }
+    }
+
     /// Whether anybody who reaches the server may do what its clients do.
     pub fn is_open(&self) -> bool {
         self.password.is_none() && !self.asks_certificates()
@@ -145,9 +162,9 @@ impl Safety {
 }
 
 /// The secret of processes, which a greeting has room for.
-fn peer_secret(options: &SafetyOptions) -> Result<Option<Secret>, Fault> {
+fn peer_secret(options: &SafetyOptions) -> Result<Option<Secret>, BoxError> {
     let (file, variable) = (options.peer_secret_file.as_deref(), "DURKENZO_PEER_SECRET");
-    let secret = Secret::given(file, variable)?;
+    let secret = secret::given(file, variable)?;
     if secret
         .as_ref()
         .is_some_and(|it| it.reveal().len() > MAX_SECRET)
@@ -170,5 +187,24 @@ impl Default for Safety {
             peer_tls: None,
             peer_secret: None,
         }
+    }
+}
+
+#[cfg(test)]
+mod tests {
+    use super::*;
+
+    #[test]
+    fn who_has_no_secret_listens_on_this_machine_alone() {
+        let safety = |secret: Option<&[u8]>| Safety {
+            peer_secret: secret.and_then(Secret::of),
+            ..Safety::default()
+        };
+        let (near, far) = ("127.0.0.1:7", "10.0.0.1:7");
+        assert!(safety(None).may_listen(near.parse().unwrap()).is_ok());
+        let told = safety(None).may_listen(far.parse().unwrap()).unwrap_err();
+        assert!(told.starts_with("NOSECRET"), "{told}");
+        assert!(safety(Some(b"x")).may_listen(far.parse().unwrap()).is_ok());
+        assert!(!format!("{:?}", safety(Some(b"open"))).contains("open"));
     }
 }

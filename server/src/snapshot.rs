@@ -1,12 +1,11 @@
 //! How servers and shards stand, for whoever looks.
-use crate::presence::Standing;
 use durkenzo::Record;
 use serde::Serialize;
 use std::fmt;
 
 /// How a shard stands.
 #[derive(Clone, Debug, Serialize)]
-pub struct ShardRow {
+pub struct ShardStatus {
     /// Its number.
     pub shard: u16,
     /// The name of its stand.
@@ -23,10 +22,10 @@ pub struct ShardRow {
     pub keys: Option<u64>,
 }
 
-impl ShardRow {
+impl ShardStatus {
     /// That of a shard with this record.
-    pub fn new(shard: u16, record: Record, keys: Option<u64>) -> ShardRow {
-        ShardRow {
+    pub fn new(shard: u16, record: Record, keys: Option<u64>) -> ShardStatus {
+        ShardStatus {
             shard,
             stand: record.stand.name(),
             owner: record.owner().unwrap_or(0),
@@ -49,9 +48,9 @@ fn counted(count: Option<u64>) -> String {
 }
 
 /// As scripts are answered by `look`.
-impl fmt::Display for ShardRow {
+impl fmt::Display for ShardStatus {
     fn fmt(&self, f: &mut fmt::Formatter<'_>) -> fmt::Result {
-        let ShardRow {
+        let ShardStatus {
             stand,
             owner,
             other,
@@ -65,7 +64,7 @@ impl fmt::Display for ShardRow {
 
 /// How a server stands.
 #[derive(Clone, Debug, Serialize)]
-pub struct ServerRow {
+pub struct ServerStatus {
     /// Its number.
     pub server: u16,
     /// How far its restart has come.
@@ -79,20 +78,12 @@ pub struct ServerRow {
     /// What its restart does now, if one is under way.
     pub doing: Option<String>,
     /// Its process, where servers have one each.
-    pub process: Option<ProcessRow>,
-}
-
-impl ServerRow {
-    /// Whether it is up, and its process is there, where it has one.
-    pub fn is_up_and_there(&self) -> bool {
-        let is_there = self.process.as_ref().is_none_or(|it| it.number > 0);
-        self.standing == Standing::Up.name() && is_there
-    }
+    pub process: Option<ProcessStatus>,
 }
 
 /// How the process of a server stands, where servers have one each.
 #[derive(Clone, Debug, Serialize)]
-pub struct ProcessRow {
+pub struct ProcessStatus {
     /// Its number among all that ever began, if it is there; else 0.
     pub number: u64,
     /// Whether it leads.
@@ -105,9 +96,9 @@ pub struct ProcessRow {
     pub clients: String,
 }
 
-impl fmt::Display for ProcessRow {
+impl fmt::Display for ProcessStatus {
     fn fmt(&self, f: &mut fmt::Formatter<'_>) -> fmt::Result {
-        let ProcessRow {
+        let ProcessStatus {
             number,
             leads,
             followed,
@@ -128,9 +119,9 @@ impl fmt::Display for ProcessRow {
     }
 }
 
-impl fmt::Display for ServerRow {
+impl fmt::Display for ServerStatus {
     fn fmt(&self, f: &mut fmt::Formatter<'_>) -> fmt::Result {
-        let ServerRow {
+        let ServerStatus {
             server,
             standing,
             domain,
@@ -158,9 +149,9 @@ const PROCESS_COLUMNS: &str = "process leads followed servers clients";
 #[derive(Clone, Debug, Serialize)]
 pub struct Snapshot {
     /// Each server, by number.
-    pub servers: Vec<ServerRow>,
+    pub servers: Vec<ServerStatus>,
     /// Each shard, by number.
-    pub shards: Vec<ShardRow>,
+    pub shards: Vec<ShardStatus>,
     /// Where data lies.
     pub data: &'static str,
 }
@@ -168,7 +159,7 @@ pub struct Snapshot {
 impl Snapshot {
     /// The names of what is told of each shard, and then a line for each.
     pub fn shard_lines(&self) -> Vec<String> {
-        let lines = self.shards.iter().map(ShardRow::line);
+        let lines = self.shards.iter().map(ShardStatus::line);
         std::iter::once(SHARD_COLUMNS.to_owned())
             .chain(lines)
             .collect()
@@ -190,8 +181,8 @@ impl Snapshot {
 mod tests {
     use super::*;
 
-    fn server(process: Option<ProcessRow>) -> ServerRow {
-        ServerRow {
+    fn server(process: Option<ProcessStatus>) -> ServerStatus {
+        ServerStatus {
             server: 1,
             standing: "up",
             domain: 1,
@@ -204,14 +195,14 @@ mod tests {
 
     #[test]
     fn each_value_has_a_name() {
-        let process = ProcessRow {
+        let process = ProcessStatus {
             number: 3,
             leads: true,
             followed: 9,
             servers: "a:1".to_owned(),
             clients: String::new(),
         };
-        let shard = ShardRow {
+        let shard = ShardStatus {
             shard: 0,
             stand: "Serving",
             owner: 1,

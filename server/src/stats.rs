@@ -1,4 +1,5 @@
 //! What a thread counts, and others read.
+use crate::metric::{Info, Metric, Section, Source};
 use std::collections::BTreeMap;
 use std::sync::atomic::{AtomicU64, Ordering};
 use std::sync::{Mutex, MutexGuard, PoisonError};
@@ -16,12 +17,6 @@ impl Counter {
             .store(self.get().wrapping_add(more), Ordering::Relaxed);
     }
 
-    /// Sets it; for that thread alone.
-    #[inline]
-    pub fn set(&self, value: u64) {
-        self.0.store(value, Ordering::Relaxed);
-    }
-
     /// The number, which may be behind.
     #[inline]
     pub fn get(&self) -> u64 {
@@ -29,7 +24,7 @@ impl Counter {
     }
 }
 
-/// How many of something there are, which several threads change, and which is exact.
+/// How many of something there are, which several threads may change, and which is exact.
 #[derive(Debug, Default)]
 pub struct Gauge(AtomicU64);
 
@@ -42,6 +37,11 @@ impl Gauge {
     /// Notes that there is one less.
     pub fn note_less(&self) {
         self.0.fetch_sub(1, Ordering::Relaxed);
+    }
+
+    /// Sets how many there are. Only a thread that alone changes the number may call this.
+    pub fn set(&self, value: u64) {
+        self.0.store(value, Ordering::Relaxed);
     }
 
     /// How many there are.
@@ -126,7 +126,7 @@ pub struct Stats {
     pub commands: Counter,
     /// Requests that a server forwarded to the one that executed them.
     pub forwarded: Counter,
-    /// Commands that found their shard with another thread for longer than a short spin.
+    /// Tries of commands that found their shard with another thread for longer than a short spin.
     pub raced: Counter,
     /// Commands that began to wait for a shard that nobody executed.
     pub waited: Counter,
@@ -137,7 +137,7 @@ pub struct Stats {
     /// Connections that are open, from when the thread is brought them.
     pub open: Gauge,
     /// Connections whose next command waits for a shard that nobody executes.
-    pub waiting: Counter,
+    pub waiting: Gauge,
     /// Bytes that came.
     pub received: Counter,
     /// Bytes that went.
@@ -148,6 +148,70 @@ pub struct Stats {
     pub servers: Box<[AsServer]>,
     errors: Mutex<ErrorCounts>,
 }
+
+/// The numbers that each thread has.
+pub static OF_THREADS: [Metric; 10] = [
+    Metric::gauge(
+        "connections",
+        "Connections that are open",
+        Info::Redis(Section::Clients, "connected_clients"),
+        Source::Thread(|it| it.open.get()),
+    ),
+    Metric::gauge(
+        "waiting",
+        "Connections whose next command waits for a shard",
+        Info::Redis(Section::Clients, "blocked_clients"),
+        Source::Thread(|it| it.waiting.get()),
+    ),
+    Metric::counter(
+        "accepted",
+        "Connections that came",
+        Info::Redis(Section::Stats, "total_connections_received"),
+        Source::Thread(|it| it.accepted.get()),
+    ),
+    Metric::counter(
+        "commands",
+        "Commands that were done, refused ones among them",
+        Info::Redis(Section::Stats, "total_commands_processed"),
+        Source::Thread(|it| it.commands.get()),
+    ),
+    Metric::counter(
+        "received_bytes",
+        "Bytes that came",
+        Info::Redis(Section::Stats, "total_net_input_bytes"),
+        Source::Thread(|it| it.received.get()),
+    ),
+    Metric::counter(
+        "sent_bytes",
+        "Bytes that went",
+        Info::Redis(Section::Stats, "total_net_output_bytes"),
+        Source::Thread(|it| it.sent.get()),
+    ),
+    Metric::counter(
+        "forwarded_requests",
+        "Requests that a server forwarded to the one that executed them",
+        Info::Own(Section::Stats),
+        Source::Thread(|it| it.forwarded.get()),
+    ),
+    Metric::counter(
+        "raced_tries",
+        "Tries that found a shard with another thread",
+        Info::Own(Section::Stats),
+        Source::Thread(|it| it.raced.get()),
+    ),
+    Metric::counter(
+        "waited_requests",
+        "Commands that began to wait for a shard that nobody executes",
+        Info::Own(Section::Stats),
+        Source::Thread(|it| it.waited.get()),
+    ),
+    Metric::counter(
+        "refused_requests",
+        "Commands that waited in vain",
+        Info::Own(Section::Stats),
+        Source::Thread(|it| it.refused.get()),
+    ),
+];
 
 impl Stats {
     /// Those of a thread that did nothing yet.

@@ -1,10 +1,9 @@
 //! What a shard holds: an ordered map of keys to texts and counts, behind one trait.
 mod proved;
-mod storage;
 
 pub use proved::ProvedBody;
-pub use storage::{InFolder, Memory, OnEtcd, Storage};
 
+use durkenzo::MapFault;
 use std::ops::Bound;
 
 /// The most bytes of a key; the least is one.
@@ -16,7 +15,7 @@ pub const MAX_PAIRS: usize = 100;
 
 /// What a key holds: a text or a count, which are two kinds.
 #[derive(Clone, Copy, Debug, PartialEq, Eq)]
-pub enum Value<'a> {
+pub enum ValueRef<'a> {
     /// At most `MAX_TEXT` bytes.
     Text(&'a [u8]),
     /// A number, to which others may be added.
@@ -25,7 +24,7 @@ pub enum Value<'a> {
 
 /// Keys from a lower bound on, up to a higher one.
 #[derive(Clone, Copy, Debug)]
-pub struct Range<'a> {
+pub struct RangeRef<'a> {
     /// Where it begins.
     pub low: Bound<&'a [u8]>,
     /// The first key that isn't of it, if there is one.
@@ -36,11 +35,11 @@ pub struct Range<'a> {
 
 /// What is asked of a shard.
 #[derive(Clone, Copy, Debug)]
-pub enum Request<'a> {
+pub enum BodyRequest<'a> {
     /// What the key holds.
     Get(&'a [u8]),
     /// Has the key hold this, whatever it held.
-    Put(&'a [u8], Value<'a>),
+    Put(&'a [u8], ValueRef<'a>),
     /// Adds to the text that the key holds, from an empty one where it holds nothing.
     Append(&'a [u8], &'a [u8]),
     /// Adds to the count that the key holds, from 0 where it holds nothing.
@@ -48,12 +47,12 @@ pub enum Request<'a> {
     /// Has the key hold nothing.
     Delete(&'a [u8]),
     /// Gives pairs in the order of their keys.
-    Scan(Range<'a>),
+    Scan(RangeRef<'a>),
 }
 
 /// Why a request changes nothing.
 #[derive(Clone, Copy, Debug, PartialEq, Eq)]
-pub enum Refusal {
+pub enum BodyRefusal {
     /// The key holds a count where a text is wanted, or a text where a count is.
     WrongKind,
     /// The text would have more than `MAX_TEXT` bytes.
@@ -65,41 +64,44 @@ pub enum Refusal {
 }
 
 /// A key and what it holds.
-pub type Pair<'a> = (&'a [u8], Value<'a>);
+pub type PairRef<'a> = (&'a [u8], ValueRef<'a>);
 
 /// What a shard answers.
 #[derive(Clone, Debug, PartialEq, Eq)]
-pub enum Reply<'a> {
+pub enum BodyReply<'a> {
     /// The key held nothing: of Get and Delete.
     Nothing,
     /// What was asked for was done: of Put and Delete.
     Done,
     /// What the key holds: of Get.
-    Value(Value<'a>),
+    Value(ValueRef<'a>),
     /// How many bytes the text has since then: of Append.
     Length(usize),
     /// The count since then: of Add.
     Count(i64),
     /// The first pairs of the range: of Scan.
-    Pairs(Vec<Pair<'a>>),
+    Pairs(Vec<PairRef<'a>>),
     /// Nothing was changed.
-    Refused(Refusal),
+    Refused(BodyRefusal),
 }
 
 /// What a shard's body does. One thread at a time has a body, whose permit the board gave it.
 pub trait ShardBody: Send {
     /// What the key holds, if anything; or `NoMemory`. Keys have 1 to `MAX_KEY` bytes, here and below.
-    fn get(&mut self, key: &[u8]) -> Result<Option<Value<'_>>, Refusal>;
+    fn get(&mut self, key: &[u8]) -> Result<Option<ValueRef<'_>>, BodyRefusal>;
 
     /// Has the key hold this, whatever it held; or `TooLong` or `NoMemory`.
-    fn put(&mut self, key: &[u8], value: Value<'_>) -> Result<(), Refusal>;
+    fn put(&mut self, key: &[u8], value: ValueRef<'_>) -> Result<(), BodyRefusal>;
 
     /// Adds to the count that the key holds, from 0 where it holds nothing, and returns the sum; or `WrongKind`,
     /// `Overflow` or `NoMemory`.
-    fn add(&mut self, key: &[u8], number: i64) -> Result<i64, Refusal>;
+    fn add(&mut self, key: &[u8], number: i64) -> Result<i64, BodyRefusal>;
 
     /// Does what is asked, and answers.
-    fn apply<'a>(&'a mut self, request: Request<'_>) -> Reply<'a>;
+    fn apply<'a>(&'a mut self, request: BodyRequest<'_>) -> BodyReply<'a>;
+
+    /// Has all keys hold nothing; or `NoMemory`.
+    fn clear(&mut self) -> Result<(), BodyRefusal>;
 
     /// Has no room for what it told last, if that is much.
     fn forget(&mut self);
@@ -109,11 +111,20 @@ pub trait ShardBody: Send {
     /// # Errors
     ///
     /// Where memory is refused.
-    fn measure(&mut self, key: &[u8]) -> Result<Option<usize>, Refusal>;
+    fn measure(&mut self, key: &[u8]) -> Result<Option<usize>, BodyRefusal>;
 
     /// How many keys hold something.
     fn keys(&mut self) -> usize;
 }
 
 /// What the board keeps for a shard.
-pub type Shard = Box<dyn ShardBody>;
+pub type BoxedBody = Box<dyn ShardBody>;
+
+/// Returns what a shard begins with, which holds nothing.
+///
+/// # Errors
+///
+/// `NoMemory`.
+pub fn new_shard() -> Result<BoxedBody, MapFault> {
+    Ok(Box::new(ProvedBody::new()?))
+}

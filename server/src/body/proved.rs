@@ -1,9 +1,10 @@
-use super::{Pair, Range, Refusal, Reply, Request, ShardBody, Value, MAX_KEY, MAX_PAIRS, MAX_TEXT};
+use super::{
+    BodyRefusal, BodyReply, BodyRequest, PairRef, RangeRef, ShardBody, ValueRef, MAX_KEY,
+    MAX_PAIRS, MAX_TEXT,
+};
 use crate::memory::{self, NoRoom};
 use crate::resp::number::Digits;
-use durkenzo::{
-    Held as HeldIn, LentReply, LentText, Map, MapFault, Measure, Request as Asked, Value as Held,
-};
+use durkenzo::{Held, LentReply, LentText, Map, MapFault, Measure, Request, Value};
 use std::ops::Bound;
 
 /// How much room for a text is kept from one request to the next.
@@ -14,13 +15,13 @@ const MOST_DELETED: usize = 64 << 10;
 
 /// What a map replied, where that was no refusal.
 #[derive(Debug)]
-enum Told {
+enum ProvedReply {
     Nothing,
     Done,
     /// A text, which stands in the body's room.
     Text,
     Count(i64),
-    Pairs(Vec<(Vec<u8>, Held)>),
+    Pairs(Vec<(Vec<u8>, Value)>),
 }
 
 /// A shard's pairs in the library's map: what it replies to each of its requests is proved. Here stands which of them a
@@ -29,7 +30,7 @@ enum Told {
 pub struct ProvedBody {
     map: Map,
     /// What was told last, which a reply borrows.
-    told: Told,
+    told: ProvedReply,
     /// The text that was told last, so that few texts need memory of their own.
     text: Vec<u8>,
     /// How many keys held something when that was last asked, unless a request may have changed it since.
@@ -43,7 +44,7 @@ impl ProvedBody {
     pub fn new() -> Result<ProvedBody, MapFault> {
         Ok(ProvedBody {
             map: Map::new()?,
-            told: Told::Nothing,
+            told: ProvedReply::Nothing,
             text: Vec::new(),
             keys: Some(0),
             deleted: 0,
@@ -51,28 +52,28 @@ impl ProvedBody {
     }
 
     /// Whether the map made the request, or the refusal with which it changed nothing; what it told is kept.
-    fn ask(&mut self, request: &Asked<'_>) -> Result<(), Refusal> {
+    fn ask(&mut self, request: &Request<'_>) -> Result<(), BodyRefusal> {
         self.told = match lent(&mut self.map, request)? {
-            LentReply::Nothing => Told::Nothing,
-            LentReply::Done => Told::Done,
+            LentReply::Nothing => ProvedReply::Nothing,
+            LentReply::Done => ProvedReply::Done,
             LentReply::Text(text) => {
                 keep(text, &mut self.text)?;
-                Told::Text
+                ProvedReply::Text
             }
-            LentReply::Count(count) => Told::Count(count),
-            LentReply::Pairs(pairs) => Told::Pairs(pairs),
-            LentReply::WrongKind => return Err(Refusal::WrongKind),
-            LentReply::Overflow => return Err(Refusal::Overflow),
-            LentReply::TextTooLong => return Err(Refusal::TooLong),
+            LentReply::Count(count) => ProvedReply::Count(count),
+            LentReply::Pairs(pairs) => ProvedReply::Pairs(pairs),
+            LentReply::WrongKind => return Err(BodyRefusal::WrongKind),
+            LentReply::Overflow => return Err(BodyRefusal::Overflow),
+            LentReply::TextTooLong => return Err(BodyRefusal::TooLong),
         };
         Ok(())
     }
 
     /// What was told last, where that was a value.
-    fn value(&self) -> Option<Value<'_>> {
+    fn value(&self) -> Option<ValueRef<'_>> {
         match &self.told {
-            Told::Text => Some(Value::Text(&self.text)),
-            Told::Count(count) => Some(Value::Count(*count)),
+            ProvedReply::Text => Some(ValueRef::Text(&self.text)),
+            ProvedReply::Count(count) => Some(ValueRef::Count(*count)),
             _ => None,
         }
     }
@@ -80,9 +81,9 @@ impl ProvedBody {
     /// Has the key hold a value of another kind than it may hold now.
     // Outside of `put`, so that most puts save no registers for it.
     #[inline(never)]
-    fn put_over(&mut self, key: &[u8], value: Value<'_>) -> Result<(), Refusal> {
-        self.ask(&Asked::Get(key))?;
-        lent(&mut self.map, &Asked::Remove(key))?;
+    fn put_over(&mut self, key: &[u8], value: ValueRef<'_>) -> Result<(), BodyRefusal> {
+        self.ask(&Request::Get(key))?;
+        lent(&mut self.map, &Request::Remove(key))?;
         if let Err(refusal) = lent(&mut self.map, &asked_for(key, value)) {
             // It holds again what it held, unless memory is refused for that too.
             if let Some(held) = self.value().map(owned) {
@@ -95,7 +96,7 @@ impl ProvedBody {
     }
 
     /// How many bytes the key's text has.
-    fn length(&mut self, key: &[u8]) -> Result<usize, Refusal> {
+    fn length(&mut self, key: &[u8]) -> Result<usize, BodyRefusal> {
         match self.map.measure(key).map_err(refusal_of)? {
             Some(Measure::Text(length)) => Ok(length),
             other => unreachable!("a text was appended to, and the key holds {other:?}"),
@@ -103,8 +104,8 @@ impl ProvedBody {
     }
 
     /// Has the pairs of the range be told.
-    fn scan(&mut self, range: Range<'_>) -> Result<(), Refusal> {
-        self.told = Told::Pairs(Vec::new());
+    fn scan(&mut self, range: RangeRef<'_>) -> Result<(), BodyRefusal> {
+        self.told = ProvedReply::Pairs(Vec::new());
         let Some(low) = lowest(range.low) else {
             return Ok(());
         };
@@ -113,7 +114,7 @@ impl ProvedBody {
             return Ok(());
         }
         let most = range.most.min(MAX_PAIRS);
-        self.ask(&Asked::Scan(&low, high, most as u32))?;
+        self.ask(&Request::Scan(&low, high, most as u32))?;
         if range.high.is_none() && low.as_slice() <= &LAST_KEY[..] {
             self.scan_last(most)?;
         }
@@ -121,12 +122,12 @@ impl ProvedBody {
     }
 
     /// Has the greatest key of all be told after the others, where it holds something: no bound is above it.
-    fn scan_last(&mut self, most: usize) -> Result<(), Refusal> {
-        let before = std::mem::replace(&mut self.told, Told::Nothing);
-        self.ask(&Asked::Get(&LAST_KEY))?;
+    fn scan_last(&mut self, most: usize) -> Result<(), BodyRefusal> {
+        let before = std::mem::replace(&mut self.told, ProvedReply::Nothing);
+        self.ask(&Request::Get(&LAST_KEY))?;
         let last = self.value().map(owned);
         self.told = before;
-        if let (Told::Pairs(pairs), Some(value)) = (&mut self.told, last) {
+        if let (ProvedReply::Pairs(pairs), Some(value)) = (&mut self.told, last) {
             if pairs.len() < most {
                 pairs.push((LAST_KEY.to_vec(), value));
             }
@@ -135,16 +136,16 @@ impl ProvedBody {
     }
 
     /// Makes the request, of which `told` has the reply.
-    fn make(&mut self, request: &Asked<'_>) -> Result<(), Refusal> {
+    fn make(&mut self, request: &Request<'_>) -> Result<(), BodyRefusal> {
         // Whether it holds another number of keys since then isn't told.
         self.keys = None;
         self.ask(request)
     }
 
     /// Has the key hold nothing.
-    fn delete(&mut self, key: &[u8]) -> Result<(), Refusal> {
+    fn delete(&mut self, key: &[u8]) -> Result<(), BodyRefusal> {
         let length = self.measure(key)?;
-        self.make(&Asked::Remove(key))?;
+        self.make(&Request::Remove(key))?;
         self.deleted += length.map_or(0, |it| key.len() + it);
         if self.deleted > MOST_DELETED {
             self.deleted = 0;
@@ -157,39 +158,39 @@ impl ProvedBody {
     /// that holds nothing holds nothing behind that, too.
     fn give_back(&mut self, key: &[u8]) {
         let map = &mut self.map;
-        let written = memory::with_spare(|| lent(map, &Asked::Append(key, b"")).is_ok());
-        if written && lent(&mut self.map, &Asked::Remove(key)).is_err() {
+        let written = memory::with_spare(|| lent(map, &Request::Append(key, b"")).is_ok());
+        if written && lent(&mut self.map, &Request::Remove(key)).is_err() {
             unreachable!("to remove a key takes no memory");
         }
     }
 
     /// What was told of a request that was made.
-    fn reply(&self) -> Reply<'_> {
+    fn reply(&self) -> BodyReply<'_> {
         match &self.told {
-            Told::Nothing => Reply::Nothing,
-            Told::Done => Reply::Done,
-            Told::Text => Reply::Value(Value::Text(&self.text)),
-            Told::Count(count) => Reply::Value(Value::Count(*count)),
-            Told::Pairs(pairs) => Reply::Pairs(pairs.iter().map(lent_pair).collect()),
+            ProvedReply::Nothing => BodyReply::Nothing,
+            ProvedReply::Done => BodyReply::Done,
+            ProvedReply::Text => BodyReply::Value(ValueRef::Text(&self.text)),
+            ProvedReply::Count(count) => BodyReply::Value(ValueRef::Count(*count)),
+            ProvedReply::Pairs(pairs) => BodyReply::Pairs(pairs.iter().map(lent_pair).collect()),
         }
     }
 }
 
 impl ShardBody for ProvedBody {
-    fn get(&mut self, key: &[u8]) -> Result<Option<Value<'_>>, Refusal> {
+    fn get(&mut self, key: &[u8]) -> Result<Option<ValueRef<'_>>, BodyRefusal> {
         let (map, text) = (&mut self.map, &mut self.text);
         let held = memory::fallibly(|| map.get_in(key, text)).map_err(refusal_of)?;
         Ok(held.map(|it| match it {
-            HeldIn::Text(text) => Value::Text(text),
-            HeldIn::Count(count) => Value::Count(count),
+            Held::Text(text) => ValueRef::Text(text),
+            Held::Count(count) => ValueRef::Count(count),
         }))
     }
 
-    fn put(&mut self, key: &[u8], value: Value<'_>) -> Result<(), Refusal> {
+    fn put(&mut self, key: &[u8], value: ValueRef<'_>) -> Result<(), BodyRefusal> {
         self.keys = None;
-        if let Value::Text(text) = value {
+        if let ValueRef::Text(text) = value {
             if text.len() > MAX_TEXT {
-                return Err(Refusal::TooLong);
+                return Err(BodyRefusal::TooLong);
             }
             match self.map.put(key, text) {
                 Err(MapFault::WrongKind) => {}
@@ -199,7 +200,7 @@ impl ShardBody for ProvedBody {
         self.put_over(key, value)
     }
 
-    fn add(&mut self, key: &[u8], number: i64) -> Result<i64, Refusal> {
+    fn add(&mut self, key: &[u8], number: i64) -> Result<i64, BodyRefusal> {
         let sum = self.map.add(key, number).map_err(refusal_of)?;
         // A key that held nothing until now holds the number itself.
         if sum == number {
@@ -208,42 +209,48 @@ impl ShardBody for ProvedBody {
         Ok(sum)
     }
 
-    fn apply<'a>(&'a mut self, request: Request<'_>) -> Reply<'a> {
+    fn apply<'a>(&'a mut self, request: BodyRequest<'_>) -> BodyReply<'a> {
         let made = match request {
-            Request::Get(key) => self.ask(&Asked::Get(key)),
-            Request::Put(key, value) => {
+            BodyRequest::Get(key) => self.ask(&Request::Get(key)),
+            BodyRequest::Put(key, value) => {
                 return self
                     .put(key, value)
-                    .map_or_else(Reply::Refused, |()| Reply::Done)
+                    .map_or_else(BodyReply::Refused, |()| BodyReply::Done)
             }
-            Request::Add(key, number) => {
+            BodyRequest::Add(key, number) => {
                 return self
                     .add(key, number)
-                    .map_or_else(Reply::Refused, Reply::Count)
+                    .map_or_else(BodyReply::Refused, BodyReply::Count)
             }
-            Request::Append(key, more) => {
-                let made = self.make(&Asked::Append(key, more));
+            BodyRequest::Append(key, more) => {
+                let made = self.make(&Request::Append(key, more));
                 let length = made.and_then(|()| self.length(key));
-                return length.map_or_else(Reply::Refused, Reply::Length);
+                return length.map_or_else(BodyReply::Refused, BodyReply::Length);
             }
-            Request::Delete(key) => self.delete(key),
-            Request::Scan(range) => self.scan(range),
+            BodyRequest::Delete(key) => self.delete(key),
+            BodyRequest::Scan(range) => self.scan(range),
         };
         match made {
             Ok(()) => self.reply(),
-            Err(refusal) => Reply::Refused(refusal),
+            Err(refusal) => BodyReply::Refused(refusal),
         }
     }
 
+    fn clear(&mut self) -> Result<(), BodyRefusal> {
+        // A new map holds nothing.
+        *self = memory::fallibly(ProvedBody::new).map_err(refusal_of)?;
+        Ok(())
+    }
+
     fn forget(&mut self) {
-        self.told = Told::Nothing;
+        self.told = ProvedReply::Nothing;
         if self.text.len() > KEPT_ROOM {
             self.text.truncate(KEPT_ROOM);
             self.text.shrink_to_fit();
         }
     }
 
-    fn measure(&mut self, key: &[u8]) -> Result<Option<usize>, Refusal> {
+    fn measure(&mut self, key: &[u8]) -> Result<Option<usize>, BodyRefusal> {
         let held = self.map.measure(key).map_err(refusal_of)?;
         Ok(held.map(|it| match it {
             Measure::Text(length) => length,
@@ -279,54 +286,54 @@ fn lowest(bound: Bound<&[u8]>) -> Option<Vec<u8>> {
 }
 
 /// The request that has a key that holds nothing hold the value.
-fn asked_for<'a>(key: &'a [u8], value: Value<'a>) -> Asked<'a> {
+fn asked_for<'a>(key: &'a [u8], value: ValueRef<'a>) -> Request<'a> {
     match value {
-        Value::Text(text) => Asked::Put(key, text),
-        Value::Count(count) => Asked::Add(key, count),
+        ValueRef::Text(text) => Request::Put(key, text),
+        ValueRef::Count(count) => Request::Add(key, count),
     }
 }
 
 /// Has the text stand in the room, and nothing else.
-fn keep(text: LentText<'_>, room: &mut Vec<u8>) -> Result<(), Refusal> {
+fn keep(text: LentText<'_>, room: &mut Vec<u8>) -> Result<(), BodyRefusal> {
     room.clear();
     room.shrink_to(KEPT_ROOM);
-    memory::reserve(room, text.len()).map_err(|NoRoom| Refusal::NoMemory)?;
+    memory::reserve(room, text.len()).map_err(|NoRoom| BodyRefusal::NoMemory)?;
     text.append_to(room);
     Ok(())
 }
 
 /// What the map lends for the request; or that memory is refused.
 #[inline]
-fn lent<'a>(map: &'a mut Map, request: &Asked<'_>) -> Result<LentReply<'a>, Refusal> {
+fn lent<'a>(map: &'a mut Map, request: &Request<'_>) -> Result<LentReply<'a>, BodyRefusal> {
     memory::fallibly(|| map.lend(request)).map_err(refusal_of)
 }
 
 /// Why a request of a key that was judged before changes nothing.
-fn refusal_of(fault: MapFault) -> Refusal {
+fn refusal_of(fault: MapFault) -> BodyRefusal {
     match fault {
-        MapFault::NoMemory => Refusal::NoMemory,
-        MapFault::WrongKind => Refusal::WrongKind,
-        MapFault::Overflow => Refusal::Overflow,
-        MapFault::TextTooLong => Refusal::TooLong,
+        MapFault::NoMemory => BodyRefusal::NoMemory,
+        MapFault::WrongKind => BodyRefusal::WrongKind,
+        MapFault::Overflow => BodyRefusal::Overflow,
+        MapFault::TextTooLong => BodyRefusal::TooLong,
         other => unreachable!("a key was judged before: {other}"),
     }
 }
 
-fn owned(value: Value<'_>) -> Held {
+fn owned(value: ValueRef<'_>) -> Value {
     match value {
-        Value::Text(text) => Held::Text(text.to_vec()),
-        Value::Count(count) => Held::Count(count),
+        ValueRef::Text(text) => Value::Text(text.to_vec()),
+        ValueRef::Count(count) => Value::Count(count),
     }
 }
 
-fn lent_pair((key, held): &(Vec<u8>, Held)) -> Pair<'_> {
+fn lent_pair((key, held): &(Vec<u8>, Value)) -> PairRef<'_> {
     (key, borrowed(held))
 }
 
-fn borrowed(held: &Held) -> Value<'_> {
+fn borrowed(held: &Value) -> ValueRef<'_> {
     match held {
-        Held::Text(text) => Value::Text(text),
-        Held::Count(count) => Value::Count(*count),
+        Value::Text(text) => ValueRef::Text(text),
+        Value::Count(count) => ValueRef::Count(*count),
     }
 }
 
@@ -341,22 +348,28 @@ mod tests {
     #[test]
     fn texts_and_counts_are_two_kinds() {
         let mut body = body();
-        assert_eq!(body.apply(Request::Get(b"a")), Reply::Nothing);
-        assert_eq!(body.apply(Request::Append(b"a", b"x")), Reply::Length(1));
-        assert_eq!(body.apply(Request::Append(b"a", b"yz")), Reply::Length(3));
-        let wrong = Reply::Refused(Refusal::WrongKind);
-        assert_eq!(body.apply(Request::Add(b"a", 1)), wrong);
-        assert_eq!(body.apply(Request::Add(b"b", -7)), Reply::Count(-7));
-        assert_eq!(body.apply(Request::Append(b"b", b"x")), wrong);
-        let overflow = Reply::Refused(Refusal::Overflow);
-        assert_eq!(body.apply(Request::Add(b"b", i64::MIN)), overflow);
+        assert_eq!(body.apply(BodyRequest::Get(b"a")), BodyReply::Nothing);
         assert_eq!(
-            body.apply(Request::Get(b"b")),
-            Reply::Value(Value::Count(-7))
+            body.apply(BodyRequest::Append(b"a", b"x")),
+            BodyReply::Length(1)
+        );
+        assert_eq!(
+            body.apply(BodyRequest::Append(b"a", b"yz")),
+            BodyReply::Length(3)
+        );
+        let wrong = BodyReply::Refused(BodyRefusal::WrongKind);
+        assert_eq!(body.apply(BodyRequest::Add(b"a", 1)), wrong);
+        assert_eq!(body.apply(BodyRequest::Add(b"b", -7)), BodyReply::Count(-7));
+        assert_eq!(body.apply(BodyRequest::Append(b"b", b"x")), wrong);
+        let overflow = BodyReply::Refused(BodyRefusal::Overflow);
+        assert_eq!(body.apply(BodyRequest::Add(b"b", i64::MIN)), overflow);
+        assert_eq!(
+            body.apply(BodyRequest::Get(b"b")),
+            BodyReply::Value(ValueRef::Count(-7))
         );
         assert_eq!(body.keys(), 2);
-        assert_eq!(body.apply(Request::Delete(b"b")), Reply::Done);
-        assert_eq!(body.apply(Request::Delete(b"b")), Reply::Nothing);
+        assert_eq!(body.apply(BodyRequest::Delete(b"b")), BodyReply::Done);
+        assert_eq!(body.apply(BodyRequest::Delete(b"b")), BodyReply::Nothing);
         assert_eq!(body.keys(), 1);
     }
 
@@ -364,15 +377,18 @@ mod tests {
     fn a_put_writes_over_either_kind() {
         let mut body = body();
         let values = [
-            Value::Text(b"one"),
-            Value::Count(2),
-            Value::Count(-3),
-            Value::Text(b""),
-            Value::Text(b"five"),
+            ValueRef::Text(b"one"),
+            ValueRef::Count(2),
+            ValueRef::Count(-3),
+            ValueRef::Text(b""),
+            ValueRef::Text(b"five"),
         ];
         for value in values {
-            assert_eq!(body.apply(Request::Put(b"key", value)), Reply::Done);
-            assert_eq!(body.apply(Request::Get(b"key")), Reply::Value(value));
+            assert_eq!(body.apply(BodyRequest::Put(b"key", value)), BodyReply::Done);
+            assert_eq!(
+                body.apply(BodyRequest::Get(b"key")),
+                BodyReply::Value(value)
+            );
             assert_eq!(body.keys(), 1);
         }
     }
@@ -384,43 +400,46 @@ mod tests {
         for round in 0..3 {
             for number in 0..20_u8 {
                 assert_eq!(
-                    body.apply(Request::Put(&[b'k', number], Value::Text(&text))),
-                    Reply::Done
+                    body.apply(BodyRequest::Put(&[b'k', number], ValueRef::Text(&text))),
+                    BodyReply::Done
                 );
             }
             for number in 0..20 - round {
                 let key = [b'k', number];
-                assert_eq!(body.apply(Request::Delete(&key)), Reply::Done);
-                assert_eq!(body.apply(Request::Delete(&key)), Reply::Nothing);
-                assert_eq!(body.apply(Request::Get(&key)), Reply::Nothing);
+                assert_eq!(body.apply(BodyRequest::Delete(&key)), BodyReply::Done);
+                assert_eq!(body.apply(BodyRequest::Delete(&key)), BodyReply::Nothing);
+                assert_eq!(body.apply(BodyRequest::Get(&key)), BodyReply::Nothing);
                 assert_eq!(body.keys(), 19 - usize::from(number));
             }
         }
         assert_eq!(
-            body.apply(Request::Get(&[b'k', 18])),
-            Reply::Value(Value::Text(&text))
+            body.apply(BodyRequest::Get(&[b'k', 18])),
+            BodyReply::Value(ValueRef::Text(&text))
         );
     }
 
     #[test]
     fn texts_are_bounded() {
         let (mut body, long) = (body(), vec![0; MAX_TEXT + 1]);
-        let refused = Reply::Refused(Refusal::TooLong);
-        body.apply(Request::Add(b"count", 1));
+        let refused = BodyReply::Refused(BodyRefusal::TooLong);
+        body.apply(BodyRequest::Add(b"count", 1));
         for key in [b"a".as_slice(), b"count"] {
-            assert_eq!(body.apply(Request::Put(key, Value::Text(&long))), refused);
+            assert_eq!(
+                body.apply(BodyRequest::Put(key, ValueRef::Text(&long))),
+                refused
+            );
         }
         assert_eq!(
-            body.apply(Request::Get(b"count")),
-            Reply::Value(Value::Count(1))
+            body.apply(BodyRequest::Get(b"count")),
+            BodyReply::Value(ValueRef::Count(1))
         );
-        assert_eq!(body.apply(Request::Append(b"a", &long)), refused);
-        let most = Value::Text(&long[1..]);
-        assert_eq!(body.apply(Request::Put(b"a", most)), Reply::Done);
-        assert_eq!(body.apply(Request::Append(b"a", b"x")), refused);
+        assert_eq!(body.apply(BodyRequest::Append(b"a", &long)), refused);
+        let most = ValueRef::Text(&long[1..]);
+        assert_eq!(body.apply(BodyRequest::Put(b"a", most)), BodyReply::Done);
+        assert_eq!(body.apply(BodyRequest::Append(b"a", b"x")), refused);
         assert_eq!(
-            body.apply(Request::Append(b"a", b"")),
-            Reply::Length(MAX_TEXT)
+            body.apply(BodyRequest::Append(b"a", b"")),
+            BodyReply::Length(MAX_TEXT)
         );
     }
 
@@ -428,13 +447,15 @@ mod tests {
     fn scans_go_in_order_within_bounds() {
         let mut body = body();
         for key in [b"c", b"a", b"b", b"d"] {
-            body.apply(Request::Add(key, i64::from(key[0])));
+            body.apply(BodyRequest::Add(key, i64::from(key[0])));
         }
-        let mut keys = |low, high, most| match body.apply(Request::Scan(Range { low, high, most }))
-        {
-            Reply::Pairs(pairs) => pairs.iter().map(|it| it.0[0] as char).collect::<String>(),
-            other => panic!("{other:?}"),
-        };
+        let mut keys =
+            |low, high, most| match body.apply(BodyRequest::Scan(RangeRef { low, high, most })) {
+                BodyReply::Pairs(pairs) => {
+                    pairs.iter().map(|it| it.0[0] as char).collect::<String>()
+                }
+                other => panic!("{other:?}"),
+            };
         assert_eq!(keys(Bound::Unbounded, None, 9), "abcd");
         assert_eq!(keys(Bound::Included(b"b"), Some(b"d"), 9), "bc");
         assert_eq!(keys(Bound::Excluded(b"b"), None, 1), "c");
@@ -449,14 +470,14 @@ mod tests {
         let least: &[u8] = &[0];
         let below = [&LAST_KEY[..MAX_KEY - 1], &[254]].concat();
         for key in [&LAST_KEY, least, &below] {
-            body.apply(Request::Add(key, 1));
+            body.apply(BodyRequest::Add(key, 1));
         }
-        let mut keys = |low, most| match body.apply(Request::Scan(Range {
+        let mut keys = |low, most| match body.apply(BodyRequest::Scan(RangeRef {
             low,
             high: None,
             most,
         })) {
-            Reply::Pairs(pairs) => pairs.iter().map(|it| it.0.to_vec()).collect::<Vec<_>>(),
+            BodyReply::Pairs(pairs) => pairs.iter().map(|it| it.0.to_vec()).collect::<Vec<_>>(),
             other => panic!("{other:?}"),
         };
         assert_eq!(keys(Bound::Unbounded, 9), [least, &below, &LAST_KEY]);

@@ -1,8 +1,10 @@
 //! What the commands with keys do to a shard. Redis has one kind of value, and a shard two: a text that is a number is
 //! kept as a count, so that it can be added to, and a count is a text wherever a text is wanted.
+use super::long_double::LongDouble;
+use super::spec::Spec;
 use super::Fault;
-use crate::body::{Refusal, Reply, Request, ShardBody, Value, MAX_TEXT};
-use crate::memory;
+use crate::body::{BodyRefusal, BodyReply, BodyRequest, ShardBody, ValueRef, MAX_TEXT};
+use crate::memory::{self, CEILING};
 use crate::resp::number::{self, Digits};
 use crate::resp::{Command, Replies, MAX_REPLY};
 
@@ -11,59 +13,17 @@ const SURELY_FIT: usize = MAX_REPLY / (MAX_TEXT + 16);
 /// The fewest bytes that say that there is nothing.
 const LEAST_NULL: usize = "_\r\n".len();
 
-/// A command with keys of one shard.
-#[derive(Clone, Copy, Debug, PartialEq, Eq)]
-#[allow(missing_docs)]
-pub enum DataWord {
-    Append,
-    Decr,
-    DecrBy,
-    Del,
-    Exists,
-    Get,
-    GetDel,
-    GetRange,
-    GetSet,
-    Incr,
-    IncrBy,
-    MGet,
-    MSet,
-    MSetNx,
-    Set,
-    SetNx,
-    StrLen,
-    Type,
-}
+/// Does a command of the right number of arguments, whose keys are all of the shard with this body, and answers it.
+///
+/// In memory the body is the shard's own. Over a store it holds what the command's keys held, or it is a `BlindBody`,
+/// which only notes what is written. So what a command asks for next may depend on what it has read, and on no reply to
+/// what it wrote.
+pub type Execute = fn(Command<'_>, &mut dyn ShardBody, &mut Replies) -> Result<(), Fault>;
 
-/// Does the command, whose keys are all of this shard and whose number of arguments is right, and answers it.
-pub fn execute(
-    word: DataWord,
-    command: Command<'_>,
-    body: &mut dyn ShardBody,
-    replies: &mut Replies,
-) {
+/// Does the command of this row, whose keys are all of this shard, and answers it.
+pub fn answer(spec: &Spec, command: Command<'_>, body: &mut dyn ShardBody, replies: &mut Replies) {
     let mark = replies.mark();
-    let done = match word {
-        DataWord::Get => get(body, command.get(1), replies),
-        DataWord::GetDel => take(body, command.get(1), replies),
-        DataWord::GetRange => get_range(body, command, replies),
-        DataWord::GetSet => swap(body, command, replies),
-        DataWord::Set => set(body, command, replies),
-        DataWord::SetNx => set_new(body, command, replies),
-        DataWord::Incr => add(body, command.get(1), Some(1), replies),
-        DataWord::Decr => add(body, command.get(1), Some(-1), replies),
-        DataWord::IncrBy => add(body, command.get(1), number::parse(command.get(2)), replies),
-        DataWord::DecrBy => subtract(body, command, replies),
-        DataWord::Append => append(body, command.get(1), command.get(2), replies),
-        DataWord::StrLen => length(body, command.get(1)).map(|it| replies.count(it)),
-        DataWord::Type => is_held(body, command.get(1))
-            .map(|it| replies.simple(if it { "string" } else { "none" })),
-        DataWord::Del => counted(command, replies, |key| delete(body, key)),
-        DataWord::Exists => counted(command, replies, |key| is_held(body, key)),
-        DataWord::MGet => get_all(body, command, replies),
-        DataWord::MSet => set_all(body, command, replies),
-        DataWord::MSetNx => set_all_new(body, command, replies),
-    };
+    let done = spec.execute(command, body, replies);
     // What changed something is answered by what there was room for.
     if let Err(fault) = done.and_then(|()| Ok(replies.are_whole()?)) {
         replies.take_back(mark);
@@ -72,27 +32,33 @@ pub fn execute(
 }
 
 /// A value as a shard keeps it.
-fn value_of(text: &[u8]) -> Value<'_> {
-    number::parse(text).map_or(Value::Text(text), Value::Count)
+fn value_of(text: &[u8]) -> ValueRef<'_> {
+    number::parse(text).map_or(ValueRef::Text(text), ValueRef::Count)
 }
 
-fn write_value(value: Value<'_>, replies: &mut Replies) {
+fn write_value(value: ValueRef<'_>, replies: &mut Replies) {
     match value {
-        Value::Text(text) => replies.bulk(text),
-        Value::Count(count) => replies.bulk(Digits::new(count).as_bytes()),
+        ValueRef::Text(text) => replies.bulk(text),
+        ValueRef::Count(count) => replies.bulk(Digits::new(count).as_bytes()),
     }
 }
 
 /// What the key holds, if anything; or why that can't be told.
-fn held<'a>(body: &'a mut dyn ShardBody, key: &[u8]) -> Result<Option<Value<'a>>, Fault> {
+fn held<'a>(body: &'a mut dyn ShardBody, key: &[u8]) -> Result<Option<ValueRef<'a>>, Fault> {
     Ok(body.get(key)?)
 }
 
+/// GET: answers what the key holds.
 pub(super) fn get(
+    command: Command<'_>,
     body: &mut dyn ShardBody,
-    key: &[u8],
     replies: &mut Replies,
 ) -> Result<(), Fault> {
+    tell(body, command.get(1), replies)
+}
+
+/// Answers what the key holds.
+fn tell(body: &mut dyn ShardBody, key: &[u8], replies: &mut Replies) -> Result<(), Fault> {
     match held(body, key)? {
         Some(value) => write_value(value, replies),
         None => replies.null(),
@@ -101,9 +67,10 @@ pub(super) fn get(
     Ok(replies.are_whole()?)
 }
 
-fn get_all(
-    body: &mut dyn ShardBody,
+/// MGET: answers what each key holds.
+pub(super) fn get_all(
     command: Command<'_>,
+    body: &mut dyn ShardBody,
     replies: &mut Replies,
 ) -> Result<(), Fault> {
     let (keys, mark) = (command.len() - 1, replies.mark());
@@ -112,7 +79,7 @@ fn get_all(
     }
     replies.array(keys);
     for key in command.from(1).iter() {
-        get(body, key, replies)?;
+        tell(body, key, replies)?;
         if replies.is_too_large(mark) {
             return Err(Fault::ReplyTooLarge);
         }
@@ -138,23 +105,50 @@ fn size_of_bulk(length: usize) -> usize {
     "$\r\n\r\n".len() + Digits::new(length as i64).as_bytes().len() + length
 }
 
-pub(super) fn is_held(body: &mut dyn ShardBody, key: &[u8]) -> Result<bool, Fault> {
-    Ok(body.measure(key)?.is_some())
+/// STRLEN: answers how many bytes the key's value has.
+pub(super) fn length(
+    command: Command<'_>,
+    body: &mut dyn ShardBody,
+    replies: &mut Replies,
+) -> Result<(), Fault> {
+    let length = body.measure(command.get(1))?;
+    replies.count(length.unwrap_or(0));
+    Ok(())
 }
 
-fn length(body: &mut dyn ShardBody, key: &[u8]) -> Result<usize, Fault> {
-    Ok(body.measure(key)?.unwrap_or(0))
+/// TYPE: answers whether the key holds anything.
+pub(super) fn kind(
+    command: Command<'_>,
+    body: &mut dyn ShardBody,
+    replies: &mut Replies,
+) -> Result<(), Fault> {
+    replies.simple(match is_held(body, command.get(1))? {
+        true => "string",
+        false => "none",
+    });
+    Ok(())
 }
 
-/// Whether the key held something until now.
-pub(super) fn delete(body: &mut dyn ShardBody, key: &[u8]) -> Result<bool, Fault> {
-    match body.apply(Request::Delete(key)) {
-        Reply::Refused(refusal) => Err(refusal.into()),
-        reply => Ok(reply == Reply::Done),
-    }
+/// EXISTS: answers how many of the keys hold something.
+pub(super) fn exists(
+    command: Command<'_>,
+    body: &mut dyn ShardBody,
+    replies: &mut Replies,
+) -> Result<(), Fault> {
+    count(command, replies, |key| is_held(body, key))
 }
 
-fn counted(
+/// DEL: has the keys hold nothing, and answers how many of them held something.
+pub(super) fn delete(
+    command: Command<'_>,
+    body: &mut dyn ShardBody,
+    replies: &mut Replies,
+) -> Result<(), Fault> {
+    count(command, replies, |key| remove(body, key))
+}
+
+/// Answers how many of the keys count.
+fn count(
     command: Command<'_>,
     replies: &mut Replies,
     mut is_counted: impl FnMut(&[u8]) -> Result<bool, Fault>,
@@ -167,8 +161,20 @@ fn counted(
     Ok(())
 }
 
+fn is_held(body: &mut dyn ShardBody, key: &[u8]) -> Result<bool, Fault> {
+    Ok(body.measure(key)?.is_some())
+}
+
+/// Has the key hold nothing, and returns whether it held something until now.
+fn remove(body: &mut dyn ShardBody, key: &[u8]) -> Result<bool, Fault> {
+    match body.apply(BodyRequest::Delete(key)) {
+        BodyReply::Refused(refusal) => Err(refusal.into()),
+        reply => Ok(reply == BodyReply::Done),
+    }
+}
+
 /// Has the key hold the text.
-pub(super) fn put(body: &mut dyn ShardBody, key: &[u8], text: &[u8]) -> Result<(), Fault> {
+fn put(body: &mut dyn ShardBody, key: &[u8], text: &[u8]) -> Result<(), Fault> {
     Ok(body.put(key, value_of(text))?)
 }
 
@@ -206,7 +212,12 @@ impl SetOptions {
     }
 }
 
-fn set(body: &mut dyn ShardBody, command: Command<'_>, replies: &mut Replies) -> Result<(), Fault> {
+/// SET: has the key hold the text.
+pub(super) fn set(
+    command: Command<'_>,
+    body: &mut dyn ShardBody,
+    replies: &mut Replies,
+) -> Result<(), Fault> {
     let (key, text) = (command.get(1), command.get(2));
     if command.len() == 3 {
         put(body, key, text)?;
@@ -222,7 +233,7 @@ fn set(body: &mut dyn ShardBody, command: Command<'_>, replies: &mut Replies) ->
         false => !options.is_old,
     };
     match (options.gives_last, is_set) {
-        (true, _) => get(body, key, replies)?,
+        (true, _) => tell(body, key, replies)?,
         (false, true) => replies.ok(),
         (false, false) => replies.null(),
     }
@@ -232,10 +243,10 @@ fn set(body: &mut dyn ShardBody, command: Command<'_>, replies: &mut Replies) ->
     Ok(())
 }
 
-/// Has the key hold the text where it holds nothing, and answers whether it held nothing.
-fn set_new(
-    body: &mut dyn ShardBody,
+/// SETNX: has the key hold the text if it holds nothing, and answers whether it held nothing.
+pub(super) fn set_new(
     command: Command<'_>,
+    body: &mut dyn ShardBody,
     replies: &mut Replies,
 ) -> Result<(), Fault> {
     let (key, text) = (command.get(1), command.get(2));
@@ -250,38 +261,42 @@ fn set_new(
     Ok(())
 }
 
-/// Has the key hold the text, and answers what it held.
-fn swap(
-    body: &mut dyn ShardBody,
+/// GETSET: has the key hold the text, and answers what it held.
+pub(super) fn get_and_set(
     command: Command<'_>,
+    body: &mut dyn ShardBody,
     replies: &mut Replies,
 ) -> Result<(), Fault> {
     let (key, text) = (command.get(1), command.get(2));
     if text.len() > MAX_TEXT {
         return Err(Fault::TooLong);
     }
-    get(body, key, replies)?;
+    tell(body, key, replies)?;
     put(body, key, text)
 }
 
-/// Has the key hold nothing, and answers what it held.
-fn take(body: &mut dyn ShardBody, key: &[u8], replies: &mut Replies) -> Result<(), Fault> {
-    get(body, key, replies)?;
-    delete(body, key).map(drop)
+/// GETDEL: has the key hold nothing, and answers what it held.
+pub(super) fn get_and_delete(
+    command: Command<'_>,
+    body: &mut dyn ShardBody,
+    replies: &mut Replies,
+) -> Result<(), Fault> {
+    tell(body, command.get(1), replies)?;
+    remove(body, command.get(1)).map(drop)
 }
 
-/// Answers the bytes from one place to another, both counted from the end where they are below 0.
-fn get_range(
-    body: &mut dyn ShardBody,
+/// GETRANGE: answers the bytes from one place to another, both counted from the end if they are below 0.
+pub(super) fn get_range(
     command: Command<'_>,
+    body: &mut dyn ShardBody,
     replies: &mut Replies,
 ) -> Result<(), Fault> {
     let [start, end] = [2, 3].map(|it| number::parse(command.get(it)).ok_or(Fault::NotInteger));
     let (start, end) = (start?, end?);
     match held(body, command.get(1))? {
         None => replies.bulk(b""),
-        Some(Value::Text(text)) => replies.bulk(part_of(text, start, end)),
-        Some(Value::Count(count)) => {
+        Some(ValueRef::Text(text)) => replies.bulk(part_of(text, start, end)),
+        Some(ValueRef::Count(count)) => {
             replies.bulk(part_of(Digits::new(count).as_bytes(), start, end));
         }
     }
@@ -306,6 +321,47 @@ fn part_of(text: &[u8], start: i64, end: i64) -> &[u8] {
     }
 }
 
+/// SETRANGE: has the key's text hold these bytes from one place on, behind zeros if it is shorter, and answers how many
+/// bytes it has since then.
+pub(super) fn set_range(
+    command: Command<'_>,
+    body: &mut dyn ShardBody,
+    replies: &mut Replies,
+) -> Result<(), Fault> {
+    let (key, more) = (command.get(1), command.get(3));
+    let offset = number::parse(command.get(2)).ok_or(Fault::NotInteger)?;
+    let offset = usize::try_from(offset).map_err(|_| Fault::BadOffset)?;
+    if more.is_empty() {
+        replies.count(body.measure(key)?.unwrap_or(0));
+        return Ok(());
+    }
+    let end = offset.saturating_add(more.len());
+    if end > MAX_TEXT {
+        return Err(Fault::TooLong);
+    }
+    let mut text = text_of(body, key, end)?;
+    let before = text.len();
+    text.resize(before.max(end), 0);
+    text[offset..end].copy_from_slice(more);
+    put(body, key, &text)?;
+    CEILING.note_came(text.len() - before);
+    replies.count(text.len());
+    Ok(())
+}
+
+/// A copy of what the key holds, with room for so many bytes.
+fn text_of(body: &mut dyn ShardBody, key: &[u8], room: usize) -> Result<Vec<u8>, Fault> {
+    let mut text = Vec::new();
+    memory::reserve(&mut text, room)?;
+    match held(body, key)? {
+        Some(ValueRef::Count(count)) => memory::append(&mut text, Digits::new(count).as_bytes())?,
+        Some(ValueRef::Text(held)) => memory::append(&mut text, held)?,
+        None => {}
+    }
+    body.forget();
+    Ok(text)
+}
+
 /// Whether each key of the command, as MSET has them, has a value that is short enough, so that all are set or none.
 pub(super) fn check_values(name: &str, command: Command<'_>) -> Result<(), Fault> {
     if command.len() % 2 == 0 {
@@ -318,9 +374,10 @@ pub(super) fn check_values(name: &str, command: Command<'_>) -> Result<(), Fault
     }
 }
 
-fn set_all(
-    body: &mut dyn ShardBody,
+/// MSET: has each key hold its text.
+pub(super) fn set_all(
     command: Command<'_>,
+    body: &mut dyn ShardBody,
     replies: &mut Replies,
 ) -> Result<(), Fault> {
     check_values("mset", command)?;
@@ -337,10 +394,10 @@ fn put_all(body: &mut dyn ShardBody, command: Command<'_>) -> Result<(), Fault> 
     Ok(())
 }
 
-/// Has each key hold its text where none of them holds anything, and answers whether that was so.
-fn set_all_new(
-    body: &mut dyn ShardBody,
+/// MSETNX: has each key hold its text if none of them holds anything, and answers whether that was so.
+pub(super) fn set_all_new(
     command: Command<'_>,
+    body: &mut dyn ShardBody,
     replies: &mut Replies,
 ) -> Result<(), Fault> {
     check_values("msetnx", command)?;
@@ -360,7 +417,7 @@ fn put_all_or_none(body: &mut dyn ShardBody, command: Command<'_>) -> Result<(),
     let made = put_all(body, command);
     if made.is_err() {
         for key in command.iter().skip(1).step_by(2) {
-            delete(body, key)?;
+            remove(body, key)?;
         }
     }
     made.map_err(|fault| match fault {
@@ -369,26 +426,75 @@ fn put_all_or_none(body: &mut dyn ShardBody, command: Command<'_>) -> Result<(),
     })
 }
 
-fn subtract(
-    body: &mut dyn ShardBody,
+/// INCR: adds 1 to the key's number.
+pub(super) fn increment(
     command: Command<'_>,
+    body: &mut dyn ShardBody,
+    replies: &mut Replies,
+) -> Result<(), Fault> {
+    add_number(body, command.get(1), 1, replies)
+}
+
+/// DECR: subtracts 1 from the key's number.
+pub(super) fn decrement(
+    command: Command<'_>,
+    body: &mut dyn ShardBody,
+    replies: &mut Replies,
+) -> Result<(), Fault> {
+    add_number(body, command.get(1), -1, replies)
+}
+
+/// INCRBY: adds to the key's number.
+pub(super) fn add(
+    command: Command<'_>,
+    body: &mut dyn ShardBody,
+    replies: &mut Replies,
+) -> Result<(), Fault> {
+    let number = number::parse(command.get(2)).ok_or(Fault::NotInteger)?;
+    add_number(body, command.get(1), number, replies)
+}
+
+/// DECRBY: subtracts from the key's number.
+pub(super) fn subtract(
+    command: Command<'_>,
+    body: &mut dyn ShardBody,
     replies: &mut Replies,
 ) -> Result<(), Fault> {
     let number = number::parse(command.get(2)).ok_or(Fault::NotInteger)?;
     let opposite = number.checked_neg().ok_or(Fault::NoOpposite)?;
-    add(body, command.get(1), Some(opposite), replies)
+    add_number(body, command.get(1), opposite, replies)
 }
 
-fn add(
+/// INCRBYFLOAT: adds to the key's number, which may have a fraction, and answers the sum.
+pub(super) fn add_float(
+    command: Command<'_>,
     body: &mut dyn ShardBody,
-    key: &[u8],
-    number: Option<i64>,
     replies: &mut Replies,
 ) -> Result<(), Fault> {
-    let number = number.ok_or(Fault::NotInteger)?;
+    let key = command.get(1);
+    let before = match held(body, key)? {
+        Some(ValueRef::Count(count)) => Some(LongDouble::from(count)),
+        Some(ValueRef::Text(text)) => LongDouble::parse(text),
+        None => Some(LongDouble::from(0)),
+    };
+    let more = LongDouble::parse(command.get(2));
+    let (before, more) = (before.ok_or(Fault::NotFloat)?, more.ok_or(Fault::NotFloat)?);
+    let sum = before.plus(more).ok_or(Fault::InfiniteSum)?.digits();
+    put(body, key, &sum)?;
+    CEILING.note_came(sum.len());
+    replies.bulk(&sum);
+    Ok(())
+}
+
+fn add_number(
+    body: &mut dyn ShardBody,
+    key: &[u8],
+    number: i64,
+    replies: &mut Replies,
+) -> Result<(), Fault> {
     let sum = match body.add(key, number) {
         Ok(sum) => sum,
-        Err(Refusal::WrongKind) => add_to_text(body, key, number)?,
+        Err(BodyRefusal::WrongKind) => add_to_text(body, key, number)?,
         Err(refusal) => return Err(refusal.into()),
     };
     replies.number(sum);
@@ -398,28 +504,29 @@ fn add(
 /// Adds to a text that APPEND made a number.
 fn add_to_text(body: &mut dyn ShardBody, key: &[u8], number: i64) -> Result<i64, Fault> {
     let before = match held(body, key)? {
-        Some(Value::Text(text)) => number::parse(text),
-        Some(Value::Count(count)) => Some(count),
+        Some(ValueRef::Text(text)) => number::parse(text),
+        Some(ValueRef::Count(count)) => Some(count),
         None => Some(0),
     };
     let sum = before
         .ok_or(Fault::NotInteger)?
         .checked_add(number)
         .ok_or(Fault::Overflow)?;
-    body.put(key, Value::Count(sum))?;
+    body.put(key, ValueRef::Count(sum))?;
     Ok(sum)
 }
 
-fn append(
+/// APPEND: adds to the key's text, and answers how many bytes it has since then.
+pub(super) fn append(
+    command: Command<'_>,
     body: &mut dyn ShardBody,
-    key: &[u8],
-    more: &[u8],
     replies: &mut Replies,
 ) -> Result<(), Fault> {
-    let length = match body.apply(Request::Append(key, more)) {
-        Reply::Length(length) => length,
-        Reply::Refused(Refusal::WrongKind) => append_to_count(body, key, more)?,
-        Reply::Refused(refusal) => return Err(refusal.into()),
+    let (key, more) = (command.get(1), command.get(2));
+    let length = match body.apply(BodyRequest::Append(key, more)) {
+        BodyReply::Length(length) => length,
+        BodyReply::Refused(BodyRefusal::WrongKind) => append_to_count(body, key, more)?,
+        BodyReply::Refused(refusal) => return Err(refusal.into()),
         _ => 0,
     };
     replies.count(length);
@@ -428,11 +535,7 @@ fn append(
 
 /// Adds to the digits of a count, which may be a count again.
 fn append_to_count(body: &mut dyn ShardBody, key: &[u8], more: &[u8]) -> Result<usize, Fault> {
-    let mut text = match held(body, key)? {
-        Some(Value::Count(count)) => Digits::new(count).as_bytes().to_vec(),
-        Some(Value::Text(text)) => text.to_vec(),
-        None => Vec::new(),
-    };
+    let mut text = text_of(body, key, more.len())?;
     memory::append(&mut text, more)?;
     put(body, key, &text)?;
     Ok(text.len())
@@ -440,7 +543,6 @@ fn append_to_count(body: &mut dyn ShardBody, key: &[u8], more: &[u8]) -> Result<
 
 #[cfg(test)]
 mod tests {
-    use super::super::spec::{Spec, Word};
     use super::*;
     use crate::body::ProvedBody;
     use crate::resp::{parse, Arguments};
@@ -450,10 +552,9 @@ mod tests {
         let (mut arguments, mut replies) = (Arguments::default(), Replies::default());
         parse(input.as_bytes(), &mut arguments).unwrap();
         let command = arguments.command(input.as_bytes());
-        let Word::Data(word) = Spec::of(command).unwrap().word else {
-            panic!("{line} has no keys");
-        };
-        execute(word, command, body, &mut replies);
+        let spec = Spec::of(command).unwrap();
+        assert!(spec.is_data(), "{line} has no keys");
+        answer(spec, command, body, &mut replies);
         let text = String::from_utf8_lossy(replies.unsent()).replace("\r\n", " ");
         text.trim_end().to_owned()
     }
@@ -462,28 +563,32 @@ mod tests {
     struct Refused(ProvedBody, usize);
 
     impl ShardBody for Refused {
-        fn get(&mut self, key: &[u8]) -> Result<Option<Value<'_>>, Refusal> {
+        fn get(&mut self, key: &[u8]) -> Result<Option<ValueRef<'_>>, BodyRefusal> {
             self.0.get(key)
         }
 
-        fn put(&mut self, key: &[u8], value: Value<'_>) -> Result<(), Refusal> {
-            self.1 = self.1.checked_sub(1).ok_or(Refusal::NoMemory)?;
+        fn put(&mut self, key: &[u8], value: ValueRef<'_>) -> Result<(), BodyRefusal> {
+            self.1 = self.1.checked_sub(1).ok_or(BodyRefusal::NoMemory)?;
             self.0.put(key, value)
         }
 
-        fn add(&mut self, key: &[u8], number: i64) -> Result<i64, Refusal> {
+        fn add(&mut self, key: &[u8], number: i64) -> Result<i64, BodyRefusal> {
             self.0.add(key, number)
         }
 
-        fn apply<'a>(&'a mut self, request: Request<'_>) -> Reply<'a> {
+        fn apply<'a>(&'a mut self, request: BodyRequest<'_>) -> BodyReply<'a> {
             self.0.apply(request)
+        }
+
+        fn clear(&mut self) -> Result<(), BodyRefusal> {
+            self.0.clear()
         }
 
         fn forget(&mut self) {
             self.0.forget();
         }
 
-        fn measure(&mut self, key: &[u8]) -> Result<Option<usize>, Refusal> {
+        fn measure(&mut self, key: &[u8]) -> Result<Option<usize>, BodyRefusal> {
             self.0.measure(key)
         }
 
@@ -508,7 +613,29 @@ mod tests {
     }
 
     /// Lines, and what Redis 7 answers each of them.
-    const LINES: [(&str, &str); 60] = [
+    const LINES: [(&str, &str); 76] = [
+        ("SETRANGE r 2 hi", ":4"),
+        ("GETRANGE r 2 9", "$2 hi"),
+        ("SETRANGE r 0 12", ":4"),
+        ("SETRANGE s 0 12", ":2"),
+        ("INCR s", ":13"),
+        ("SETRANGE s 1 4.5", ":4"),
+        ("INCRBYFLOAT s -0.25", "$5 14.25"),
+        ("INCRBYFLOAT s .75", "$2 15"),
+        ("INCR s", ":16"),
+        (
+            "INCRBYFLOAT s inf",
+            "-ERR increment would produce NaN or Infinity",
+        ),
+        ("INCRBYFLOAT s x", "-ERR value is not a valid float"),
+        ("INCRBYFLOAT r 1", "-ERR value is not a valid float"),
+        ("INCRBYFLOAT f 3.0e3", "$4 3000"),
+        ("SETRANGE f -1 x", "-ERR offset is out of range"),
+        (
+            "SETRANGE f x 1",
+            "-ERR value is not an integer or out of range",
+        ),
+        ("DEL r s f", ":3"),
         ("GET a", "$-1"),
         ("SET a 10", "+OK"),
         ("GET a", "$2 10"),
@@ -593,6 +720,16 @@ mod tests {
         assert_eq!(told(&mut body, &format!("APPEND a {rest}")), ":65535");
         assert!(told(&mut body, "APPEND a x").starts_with("-TOOLONG"));
         assert_eq!(told(&mut body, "STRLEN a"), ":65535");
+        let refused = "-TOOLONG a value has at most 65535 bytes";
+        for line in [
+            "SETRANGE a 65535 x",
+            "SETRANGE a 65534 xy",
+            "SETRANGE a 9223372036854775807 x",
+        ] {
+            assert_eq!(told(&mut body, line), refused);
+        }
+        assert_eq!(told(&mut body, "SETRANGE a 65534 z"), ":65535");
+        assert_eq!(told(&mut body, "SETRANGE a 99999 \"\""), ":65535");
         assert!(told(&mut body, "SET a 1 EX 10").starts_with("-NOEXPIRY"));
     }
 }

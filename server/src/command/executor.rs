@@ -1,23 +1,24 @@
-use super::by_key::ByKey;
 use super::cross_protocol;
 use super::data;
-use super::durable::gather;
+use super::durable::next_request;
 use super::reader::Reader;
 use super::scan::Scanner;
 use super::session::Session;
 use super::spec::{shard_of, Spec, TalkWord, Word};
+use super::split::SplitCommand;
 use super::step::{Keyed, Step};
 use super::stop::Stop;
 use super::talk;
 use super::unanswered::Unanswered;
 use super::Fault;
 use crate::admission::Admission;
-use crate::body::Shard;
+use crate::body::BoxedBody;
 use crate::cluster::Cluster;
 use crate::keyspace::Keyspace;
 use crate::memory::{self, CEILING};
 use crate::resp::{number, Arguments, Command, Oversized, OwnedCommand, Replies, Unparsed};
 use crate::wait::{NotAdmitted, Wait};
+use std::ops::ControlFlow::{self, Break, Continue};
 use std::sync::Arc;
 
 /// How many bytes are written, and not sent, before no further command is done.
@@ -42,7 +43,7 @@ pub struct Executor {
 impl Executor {
     /// One for a thread that is admitted so.
     pub fn new(cluster: Arc<Cluster>, admission: Admission, keyspace: Keyspace) -> Executor {
-        let is_durable = cluster.storage.durable().is_some();
+        let is_durable = !admission.has_passes();
         Executor {
             cluster,
             admission,
@@ -75,8 +76,8 @@ impl Executor {
                 break Stop::Full;
             }
             match self.turn(next, session, &mut reader, replies) {
-                Ok(found) => next = found,
-                Err(stop) => break stop,
+                Continue(found) => next = found,
+                Break(stop) => break stop,
             }
         };
         let done = reader.at();
@@ -94,16 +95,13 @@ impl Executor {
     ) -> usize {
         let mut reader = Reader::new(input, &mut self.arguments);
         let named = reader.peek().ok().and_then(|it| Spec::named(it.get(0)));
-        let word = named.map(|it| it.word);
-        if word == Some(Word::Exec) {
+        if named.is_some_and(Spec::is_exec) {
             session.transaction = None;
         }
-        let part = std::mem::take(&mut session.part);
         reader.advance();
-        let by_key = word.and_then(Word::data).and_then(ByKey::of);
-        match by_key.is_some_and(|it| it.has_written(part)) {
-            true => replies.error(Fault::InPart),
-            false => replies.error(wait),
+        match in_part(named, session) {
+            Some(fault) => replies.error(fault),
+            None => replies.error(wait),
         }
         self.admission.stats().refused.add(1);
         self.admission.stats().commands.add(1);
@@ -130,14 +128,14 @@ impl Executor {
         session: &mut Session,
         reader: &mut Reader<'_>,
         replies: &mut Replies,
-    ) -> Result<Option<Keyed>, Stop> {
+    ) -> ControlFlow<Stop, Option<Keyed>> {
         let keyed = match next {
             Some(keyed) => Some(keyed),
             None => self.step(session, reader, replies)?,
         };
         match keyed {
             Some(keyed) => self.data(keyed, session, reader, replies),
-            None => Ok(None),
+            None => Continue(None),
         }
     }
 
@@ -147,27 +145,27 @@ impl Executor {
         session: &mut Session,
         reader: &mut Reader<'_>,
         replies: &mut Replies,
-    ) -> Result<Option<Keyed>, Stop> {
-        if self.is_durable && self.gather(session, reader, replies)? {
-            return Ok(None);
+    ) -> ControlFlow<Stop, Option<Keyed>> {
+        if self.is_durable && self.next_request(session, reader, replies)? {
+            return Continue(None);
         }
         let command = match reader.peek() {
             Ok(command) => command,
-            Err(Unparsed::Incomplete(needs)) => return Err(Stop::Incomplete(needs)),
-            Err(Unparsed::Oversized(why)) => return Err(Stop::Oversized(why)),
+            Err(Unparsed::Incomplete(needs)) => return Break(Stop::Incomplete(needs)),
+            Err(Unparsed::Oversized(why)) => return Break(Stop::Oversized(why)),
             Err(Unparsed::Malformed(fault)) => {
                 replies.error(format_args!("ERR {fault}"));
-                return Err(Stop::End);
+                return Break(Stop::End);
             }
         };
         if command.is_empty() {
             reader.advance();
-            return Ok(None);
+            return Continue(None);
         }
         let mark = replies.mark();
         let done = match Step::of(session, command, &self.keyspace) {
-            Ok(Step::Data(keyed)) => return Ok(Some(keyed)),
-            Ok(Step::Each(word)) => self.each(word, command, session, replies),
+            Ok(Step::Data(keyed)) => return Continue(Some(keyed)),
+            Ok(Step::Each(spec)) => self.each(spec, command, session, replies),
             Ok(Step::Other(spec)) => self.other(spec.word, command, session, replies),
             Ok(Step::Queue(shard)) => session.queue(command, shard, replies).map_err(Into::into),
             Err(fault) => Err(fault.into()),
@@ -179,24 +177,24 @@ impl Executor {
             replies.take_back(mark);
         }
         self.settle(done, session, reader, replies)?;
-        Ok(None)
+        Continue(None)
     }
 
     /// Stops where the next commands ask something of shards whose data outlives the process. Returns whether the next
     /// one is refused.
-    fn gather(
+    fn next_request(
         &self,
         session: &mut Session,
         reader: &mut Reader<'_>,
         replies: &mut Replies,
-    ) -> Result<bool, Stop> {
+    ) -> ControlFlow<Stop, bool> {
         let over = (&self.keyspace, &self.cluster.cursors);
-        match gather(reader, session, over, replies.protocol) {
-            Ok(Some(asked)) => Err(Stop::Durable(asked)),
-            Ok(None) => Ok(false),
+        match next_request(reader, session, over, replies.protocol) {
+            Ok(Some(request)) => Break(Stop::Durable(request)),
+            Ok(None) => Continue(false),
             Err(fault) => {
                 self.settle(Err(fault.into()), session, reader, replies)?;
-                Ok(true)
+                Continue(true)
             }
         }
     }
@@ -208,11 +206,11 @@ impl Executor {
         session: &mut Session,
         reader: &mut Reader<'_>,
         replies: &mut Replies,
-    ) -> Result<(), Stop> {
+    ) -> ControlFlow<Stop> {
         let stop = match done {
             Ok(()) => None,
-            Err(Unanswered::Wait(wait)) => return Err(Stop::Wait(wait)),
-            Err(Unanswered::PutOff(wait)) => return Err(Stop::PutOff(wait)),
+            Err(Unanswered::Wait(wait)) => return Break(Stop::Wait(wait)),
+            Err(Unanswered::PutOff(wait)) => return Break(Stop::PutOff(wait)),
             Err(Unanswered::Long) => Some(Stop::Full),
             Err(Unanswered::End) => Some(Stop::End),
             Err(Unanswered::Control) => reader
@@ -228,30 +226,32 @@ impl Executor {
             }
             Err(Unanswered::Fault(fault)) => {
                 // Much was read in vain: others have their turn.
-                let stop = (fault == Fault::ReplyTooLarge).then_some(Stop::Full);
+                let is_long = matches!(fault, Fault::ReplyTooLarge | Fault::ManyKeys);
+                let named = reader.peek().ok().and_then(|it| Spec::named(it.get(0)));
+                let fault = in_part(named, session).unwrap_or(fault);
                 session.refuse(fault, replies);
-                stop
+                is_long.then_some(Stop::Full)
             }
         };
         reader.advance();
         self.admission.stats().commands.add(1);
-        stop.map_or(Ok(()), Err)
+        stop.map_or(Continue(()), Break)
     }
 
     /// Does the next command, and those behind it while they are of the same shard, under one permit. Returns what the
     /// command behind them does, where it looked at that.
     fn data(
         &mut self,
-        (mut word, shard): Keyed,
+        (mut spec, shard): Keyed,
         session: &mut Session,
         reader: &mut Reader<'_>,
         replies: &mut Replies,
-    ) -> Result<Option<Keyed>, Stop> {
+    ) -> ControlFlow<Stop, Option<Keyed>> {
         let (keyspace, mut count) = (&self.keyspace, 0);
         let errors = replies.error_count();
         let done = self.admission.admit(shard, |body| loop {
             if let Ok(command) = reader.peek() {
-                data::execute(word, command, body.as_mut(), replies);
+                data::answer(spec, command, body.as_mut(), replies);
             }
             reader.advance();
             count += 1;
@@ -261,7 +261,7 @@ impl Executor {
             }
             let next = reader.peek().ok();
             match next.and_then(|it| Step::keyed(session, it, keyspace)) {
-                Some((next, other)) if other == shard => word = next,
+                Some((next, other)) if other == shard => spec = next,
                 next => break next,
             }
         });
@@ -270,11 +270,11 @@ impl Executor {
             Ok(next) => {
                 let errors = replies.error_count() - errors;
                 self.admission.note_done(count, errors);
-                Ok(next)
+                Continue(next)
             }
             Err(refused) => {
                 self.settle(Err(refused.into()), session, reader, replies)?;
-                Ok(None)
+                Continue(None)
             }
         }
     }
@@ -283,29 +283,30 @@ impl Executor {
     /// done; but what they hold is read anew.
     fn each(
         &mut self,
-        word: ByKey,
+        spec: &'static Spec,
         command: Command<'_>,
         session: &mut Session,
         replies: &mut Replies,
     ) -> Result<(), Unanswered> {
-        let (mark, mut part) = (replies.mark(), std::mem::take(&mut session.part));
-        word.begin(command, replies)?;
-        while let Some(key) = word.next_key(command, part) {
+        let (mark, mut progress) = (replies.mark(), std::mem::take(&mut session.progress));
+        let split = SplitCommand::new(spec, command)?;
+        split.begin(replies)?;
+        while let Some(key) = split.next_key(progress) {
             let next =
-                |body: &mut Shard| word.execute_next(command, body.as_mut(), &mut part, replies);
+                |body: &mut BoxedBody| split.execute_next(body.as_mut(), &mut progress, replies);
             match self.admission.admit(self.keyspace.shard_of(key), next) {
                 Ok(done) => {
                     self.admission.note_done(1, u64::from(done.is_err()));
-                    done.map_err(|it| match word.has_written(part) {
+                    done.map_err(|it| match split.has_written(progress) {
                         true => Fault::InPart,
                         false => it,
                     })?;
                 }
                 Err(NotAdmitted::Wait(wait)) => {
-                    session.part = word.kept(part);
+                    session.progress = split.kept(progress);
                     return Err(Unanswered::Wait(wait));
                 }
-                Err(NotAdmitted::Refused(_)) if word.has_written(part) => {
+                Err(NotAdmitted::Refused(_)) if split.has_written(progress) => {
                     return Err(Fault::InPart.into());
                 }
                 Err(refused) => return Err(refused.into()),
@@ -314,7 +315,7 @@ impl Executor {
                 return Err(Fault::ReplyTooLarge.into());
             }
         }
-        word.end(part, replies);
+        split.end(progress, replies);
         Ok(())
     }
 
@@ -335,9 +336,15 @@ impl Executor {
             (Word::Exec, _) => return self.exec(session, replies),
             (Word::Discard, Some(_)) => session.transaction = None,
             (Word::Discard, None) => return Err(Fault::NoMulti("DISCARD").into()),
-            (Word::Control | Word::Scan | Word::ScanRange | Word::Data(_), Some(_)) => {
-                return Err(Fault::NotQueued.into())
-            }
+            (
+                Word::Control
+                | Word::Scan
+                | Word::ScanRange
+                | Word::Keys
+                | Word::Flush
+                | Word::Data(_),
+                Some(_),
+            ) => return Err(Fault::NotQueued.into()),
             (Word::Control, None) => return self.control(command, replies),
             (Word::Scan, None) => {
                 self.scanner().scan(command, session.cursors(), replies)?;
@@ -345,6 +352,15 @@ impl Executor {
             }
             (Word::ScanRange, None) => {
                 self.scanner().scan_range(command, replies)?;
+                return Err(Unanswered::Long);
+            }
+            (Word::Keys, None) => {
+                self.scanner().keys(command, replies)?;
+                return Err(Unanswered::Long);
+            }
+            (Word::Flush, None) => {
+                self.scanner().flush(command, &mut session.progress)?;
+                replies.ok();
                 return Err(Unanswered::Long);
             }
             (Word::Data(_), None) => return Err(Fault::BadKey.into()),
@@ -399,17 +415,17 @@ impl Executor {
     fn at_server(&mut self, command: Command<'_>, replies: &mut Replies) -> Result<(), Unanswered> {
         let server = number::parse(command.get(2))
             .and_then(|it| u16::try_from(it).ok())
-            .filter(|it| self.cluster.presence.standing(*it).is_some())
+            .filter(|it| self.cluster.presence.state(*it).is_some())
             .ok_or(Fault::UnknownServer)?;
         let inner = command.from(3);
         let spec = Spec::of(inner)?;
         spec.check_memory()?;
-        let place = spec.place(inner, &self.keyspace).map_err(Fault::from)?;
-        let (Some(word), Some(shard)) = (spec.word.data(), place.one()?) else {
+        let shards = spec.shards(inner, &self.keyspace).map_err(Fault::from)?;
+        let Some(shard) = shards.one()? else {
             return Err(Fault::NoKeys.into());
         };
         let errors = replies.error_count();
-        let execute = |body: &mut Shard| data::execute(word, inner, body.as_mut(), replies);
+        let execute = |body: &mut BoxedBody| data::answer(spec, inner, body.as_mut(), replies);
         self.admission.admit_as(server, shard, execute)?;
         let errors = replies.error_count() - errors;
         self.admission.note_done(1, errors);
@@ -449,14 +465,22 @@ impl Executor {
     }
 }
 
+/// Returns what is told if the session's next command, which is of this row, is refused after it has waited; none if
+/// nothing has changed. The command behind it begins anew.
+fn in_part(named: Option<&Spec>, session: &mut Session) -> Option<Fault> {
+    let progress = std::mem::take(&mut session.progress);
+    named.and_then(|it| it.in_part(progress))
+}
+
 #[cfg(test)]
 mod tests {
     use super::*;
-    use crate::body::Memory;
     use crate::chance::Chance;
-    use crate::cluster::Configuration;
-    use crate::command::spec::{Keys, COMMANDS};
+    use crate::command::found_keys::MOST_FOUND;
+    use crate::command::spec::Keys;
+    use crate::command::table::COMMANDS;
     use crate::command::MOST_OF_A_STRANGER;
+    use crate::configuration::Configuration;
     use crate::keyspace::Rule;
     use crate::resp::MAX_REPLY;
     use crate::settings::MAX_CEILING;
@@ -476,7 +500,7 @@ mod tests {
             ceiling,
             ..Configuration::new(rule)
         };
-        let cluster = Arc::new(Cluster::new(configuration, Box::new(Memory)).unwrap());
+        let cluster = Arc::new(Cluster::in_memory(configuration).unwrap());
         for shard in 0..2 {
             cluster.board().control().assign(shard, 1).unwrap();
         }
@@ -553,11 +577,13 @@ mod tests {
         // Of so many some have no room.
         told(&format!("MULTI\n{}", "GET a\n".repeat(200)));
         told("INCR b\nSET c 1\nSET d 1 NX\nSET e 1 GET\nGET f\nCLIENT ID\nDEL f\n");
+        told("SETRANGE h 1 x\nINCRBYFLOAT i 1\nGETDEL c\n");
         let text = told("EXEC\n");
-        let behind = format!("{refused} :1 +OK +OK {refused} {refused} :1 :1");
-        assert!(text.starts_with("*207 $60000 ") && text.ends_with(&behind));
-        assert_eq!(text.matches(refused).count(), 200 - 139 + 2);
-        assert_eq!(told("MGET b c d e f\n"), "*5 $1 1 $1 1 $1 1 $-1 $-1");
+        let behind =
+            format!("{refused} :1 +OK +OK {refused} {refused} :1 :1 :2 {refused} {refused}");
+        assert!(text.starts_with("*210 $60000 ") && text.ends_with(&behind));
+        assert_eq!(text.matches(refused).count(), 200 - 139 + 4);
+        assert_eq!(told("MGET b c d e f i\n"), "*6 $1 1 $1 1 $1 1 $-1 $-1 $-1");
         // One that is too large by itself takes no room from others.
         told(&format!(
             "MULTI\nMGET{}\nGET b\nSET b 2 GET\n",
@@ -678,6 +704,20 @@ mod tests {
     }
 
     #[test]
+    fn who_asks_for_too_many_keys_ends_a_turn() {
+        let (_, mut executor) = begun();
+        let mut session = Session::new(1, true);
+        let lines: String = (0..=MOST_FOUND)
+            .map(|it| format!("SET a{it} 1\n"))
+            .collect();
+        told(&mut executor, &mut session, &lines);
+        let mut replies = Replies::default();
+        let (done, stop) = executor.run(&mut session, b"KEYS *\nKEYS *\n", &mut replies);
+        assert!(done == 7 && matches!(stop, Stop::Full), "{stop:?}");
+        assert!(replies.unsent().starts_with(b"-TOOLARGE KEYS"));
+    }
+
+    #[test]
     fn many_scans_leave_the_cursors_of_others_known() {
         let (_, mut executor) = begun();
         let (mut one, mut other) = (Session::new(1, true), Session::new(2, true));
@@ -734,6 +774,74 @@ mod tests {
         cluster.board().control().resume(1).unwrap();
         answers(&mut executor, "SET a 2\n");
         assert_eq!(answers(&mut executor, "MGET a z\n"), "*2 $1 2 $-1");
+    }
+
+    #[test]
+    fn what_is_refused_after_it_waited_leaves_nothing_to_the_next_command() {
+        let (cluster, mut executor) = begun();
+        for (lines, why) in [
+            ("MSET a 1 z 2\n", "-UNKNOWN some of these keys"),
+            ("FLUSHDB\n", "-UNKNOWN some keys are deleted"),
+            ("DEL none z\n", "-NOAUTH"),
+        ] {
+            answers(&mut executor, "MSET a 1 z 2\n");
+            cluster.board().control().pause(1).unwrap();
+            let mut session = Session::new(1, true);
+            let (text, stop) = told(&mut executor, &mut session, lines);
+            assert!(text.is_empty() && matches!(stop, Stop::Wait(_)), "{text}");
+            cluster.board().control().resume(1).unwrap();
+            session.is_known = false;
+            let (text, _) = told(&mut executor, &mut session, lines);
+            assert!(text.starts_with(why), "{text}");
+            session.is_known = true;
+            answers(&mut executor, "MSET a 1 z 2\n");
+            let (text, _) = told(&mut executor, &mut session, "FLUSHDB\nKEYS *\n");
+            assert_eq!(text, "+OK *0", "{lines}");
+        }
+    }
+
+    #[test]
+    fn all_keys_are_listed_and_deleted() {
+        let (cluster, mut executor) = begun();
+        answers(&mut executor, "MSET a 1 b text z 2\n");
+        for (lines, told) in [
+            ("KEYS *\n", "*3 $1 a $1 b $1 z"),
+            ("KEYS [az]\nKEYS nothing\n", "*2 $1 a $1 z *0"),
+            ("FLUSHDB NOW\nDBSIZE\n", "-ERR syntax error :3"),
+            (
+                "MULTI\nFLUSHDB\nEXEC\n",
+                "+OK -ERR Command not allowed inside a transaction \
+                 -EXECABORT Transaction discarded because of previous errors.",
+            ),
+            ("FLUSHDB\nDBSIZE\nMGET a b z\n", "+OK :0 *3 $-1 $-1 $-1"),
+            ("INCR a\nFLUSHDB async\nKEYS *\n", ":1 +OK *0"),
+        ] {
+            assert_eq!(answers(&mut executor, lines), told, "{lines}");
+        }
+        // It goes on where it waited, and a shard before that keeps what was written meanwhile.
+        answers(&mut executor, "MSET a 1 z 2\n");
+        cluster.board().control().pause(1).unwrap();
+        let mut session = Session::new(1, true);
+        let (text, stop) = told(&mut executor, &mut session, "FLUSHDB\n");
+        assert!(text.is_empty() && matches!(stop, Stop::Wait(_)), "{text}");
+        assert_eq!(answers(&mut executor, "GET a\nSET b 1\n"), "$-1 +OK");
+        cluster.board().control().resume(1).unwrap();
+        let (text, _) = told(&mut executor, &mut session, "FLUSHDB\n");
+        assert_eq!(text, "+OK");
+        assert_eq!(answers(&mut executor, "KEYS *\n"), "*1 $1 b");
+        for (shard, answer) in [(1, "-UNKNOWN some keys are deleted"), (0, "-SHARDPAUSED")] {
+            cluster.board().control().pause(shard).unwrap();
+            told(&mut executor, &mut session, "FLUSHDB\n");
+            let mut replies = Replies::default();
+            executor.refuse(
+                &mut session,
+                b"FLUSHDB\n",
+                Wait::Paused(shard),
+                &mut replies,
+            );
+            assert!(replies.unsent().starts_with(answer.as_bytes()), "{shard}");
+            cluster.board().control().resume(shard).unwrap();
+        }
     }
 
     #[test]

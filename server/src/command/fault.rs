@@ -1,5 +1,6 @@
+use super::found_keys::{MOST_FOUND, MOST_SEEN, MOST_SEEN_BYTES};
 use super::glob::{LongPattern, MAX_PATTERN};
-use crate::body::{Refusal, MAX_KEY, MAX_TEXT};
+use crate::body::{BodyRefusal, MAX_KEY, MAX_TEXT};
 use crate::memory::NoRoom;
 use crate::resp::{Command, Oversized, Replies, MAX_REPLY};
 use crate::wait::Wait;
@@ -30,6 +31,16 @@ pub enum Fault {
     NotInteger,
     /// A sum lies outside of 64 bits.
     Overflow,
+    /// A number that may have a fraction is none, or out of range.
+    NotFloat,
+    /// A sum of such numbers would be infinite, or none.
+    InfiniteSum,
+    /// The place of a byte is below 0.
+    BadOffset,
+    /// KEYS would give more keys, or look at more, than it may.
+    ManyKeys,
+    /// FLUSHDB deleted the keys of some shards, and not of others.
+    FlushedInPart,
     /// The opposite of a number lies outside of 64 bits.
     NoOpposite,
     /// A text would be too long.
@@ -92,8 +103,10 @@ pub enum Fault {
     UnknownServer,
     /// A command for a server has no keys.
     NoKeys,
-    /// A command that reads before it writes, or writes much, has no number.
+    /// A command with keys of several shards, or that writes much, has no number.
     NotNumbered,
+    /// A command that doesn't write without reading first has no number, by its name.
+    NotBlind(&'static str),
     /// The number of a client, or that of its request, is out of bounds.
     BadNumber,
     /// The command is there for data in memory alone.
@@ -231,13 +244,13 @@ impl From<LongPattern> for Fault {
     }
 }
 
-impl From<Refusal> for Fault {
-    fn from(refusal: Refusal) -> Fault {
+impl From<BodyRefusal> for Fault {
+    fn from(refusal: BodyRefusal) -> Fault {
         match refusal {
-            Refusal::WrongKind => Fault::NotInteger,
-            Refusal::TooLong => Fault::TooLong,
-            Refusal::Overflow => Fault::Overflow,
-            Refusal::NoMemory => Fault::NoMemory,
+            BodyRefusal::WrongKind => Fault::NotInteger,
+            BodyRefusal::TooLong => Fault::TooLong,
+            BodyRefusal::Overflow => Fault::Overflow,
+            BodyRefusal::NoMemory => Fault::NoMemory,
         }
     }
 }
@@ -253,6 +266,8 @@ const CROSS_SHARD: &str =
      give them one {tag} where keys go by hash";
 const IN_PART: &str =
     "UNKNOWN some of these keys are written, or may be, and others aren't: read before you try again";
+const FLUSHED_IN_PART: &str =
+    "UNKNOWN some keys are deleted, or may be, and others aren't: send FLUSHDB again";
 const NO_EXPIRY: &str = "NOEXPIRY keys don't expire here: SET takes no EX, PX, EXAT and PXAT";
 const QUEUE_FULL: &str =
     "QUEUEFULL a transaction has at most 1024 commands, of 1 MiB in all: send it in parts";
@@ -269,9 +284,9 @@ const EXEC_MAX_MEMORY: &str =
     "EXECABORT Transaction discarded because of: OOM command not allowed when used memory > 'maxmemory'.";
 const UNKNOWN_SERVER: &str =
     "REFUSED UnknownServer: there is no server of that number; try: SM SERVERS lists them";
-const NOT_NUMBERED: &str =
-    "NOTNUMBERED SM CALL takes what writes without reading first, with keys of one shard: SET without options, \
-     MSET of 8 keys, DEL of 16, INCR, INCRBY, DECR, DECRBY";
+const NUMBERED: &str =
+    "with keys of one shard it takes SET without options, MSET of 8 keys, DEL or UNLINK of 16, INCR, INCRBY, DECR, \
+     DECRBY";
 const EXEC_ARITY: &str =
     "EXECABORT Transaction discarded because of: wrong number of arguments for 'exec' command";
 const ABORTED: &str = "EXECABORT Transaction discarded because of previous errors.";
@@ -287,6 +302,10 @@ impl fmt::Display for Fault {
             Fault::NoExpiry => NO_EXPIRY,
             Fault::NotInteger => "ERR value is not an integer or out of range",
             Fault::Overflow => "ERR increment or decrement would overflow",
+            Fault::NotFloat => "ERR value is not a valid float",
+            Fault::InfiniteSum => "ERR increment would produce NaN or Infinity",
+            Fault::BadOffset => "ERR offset is out of range",
+            Fault::FlushedInPart => FLUSHED_IN_PART,
             Fault::NoOpposite => "ERR decrement would overflow",
             Fault::NoMemory => NO_MEMORY,
             Fault::MaxMemory => MAX_MEMORY,
@@ -308,7 +327,6 @@ impl fmt::Display for Fault {
             Fault::NoProtocol => NO_PROTOCOL,
             Fault::BadName => BAD_NAME,
             Fault::UnknownServer => UNKNOWN_SERVER,
-            Fault::NotNumbered => NOT_NUMBERED,
             Fault::NoKeys => "ERR SM AT takes a command with keys of one shard",
             other => return composed(f, other),
         };
@@ -333,6 +351,11 @@ fn composed(f: &mut fmt::Formatter<'_>, fault: &Fault) -> fmt::Result {
         Fault::NotDone(shard, why) => not_done(f, *shard, why),
         Fault::TooLong => write!(f, "TOOLONG a value has at most {MAX_TEXT} bytes"),
         Fault::LongPattern => write!(f, "TOOLONG a pattern has at most {MAX_PATTERN} bytes"),
+        Fault::ManyKeys => write!(
+            f,
+            "TOOLARGE KEYS gives at most {MOST_FOUND} keys, and looks at {MOST_SEEN}, or at {MOST_SEEN_BYTES} bytes: \
+             use SCAN"
+        ),
         Fault::BadKey => write!(f, "BADKEY a key has 1 to {MAX_KEY} bytes"),
         Fault::Oversized(why) => write!(f, "TOOLARGE {why}: send it in parts"),
         Fault::ReplyTooLarge => write!(f, "TOOLARGE a reply has at most {MAX_REPLY} bytes"),
@@ -347,6 +370,14 @@ fn composed(f: &mut fmt::Formatter<'_>, fault: &Fault) -> fmt::Result {
                 "{QUEUE_OF} makes at most {most} writes, {may}: send it in parts"
             )
         }
+        Fault::NotBlind(name) => {
+            let why = "with these arguments doesn't write without reading first";
+            write!(
+                f,
+                "NOTNUMBERED {name} {why}, so SM CALL can't make it once: {NUMBERED}"
+            )
+        }
+        Fault::NotNumbered => write!(f, "NOTNUMBERED SM CALL makes no other: {NUMBERED}"),
         Fault::BadNumber => bad_number(f),
         other => write!(f, "ERR {}", name_of(other)),
     }

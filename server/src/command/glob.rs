@@ -10,10 +10,10 @@ pub struct LongPattern;
 /// A pattern, in which `*` stands for any bytes, `?` for one, `[a-c]` for one of these, `[^a]` for one of the others,
 /// and `\` before a byte for that byte.
 #[derive(Debug)]
-pub struct Pattern(Vec<Part>);
+pub struct Pattern(Vec<PatternPart>);
 
 #[derive(Debug)]
-enum Part {
+enum PatternPart {
     /// Any bytes.
     Any,
     /// One of these.
@@ -46,11 +46,11 @@ impl Pattern {
         let mut last: Option<(usize, &[u8])> = None;
         loop {
             match (self.0.get(at), rest) {
-                (Some(Part::Any), _) => {
+                (Some(PatternPart::Any), _) => {
                     at += 1;
                     last = Some((at, rest));
                 }
-                (Some(Part::One(bytes)), [byte, after @ ..]) if bytes.has(*byte) => {
+                (Some(PatternPart::One(bytes)), [byte, after @ ..]) if bytes.has(*byte) => {
                     at += 1;
                     rest = after;
                 }
@@ -69,17 +69,17 @@ impl Pattern {
 }
 
 /// The first part of a pattern that isn't empty, and how many bytes it has there.
-fn first(written: &[u8]) -> (Part, usize) {
+fn first(written: &[u8]) -> (PatternPart, usize) {
     match written {
-        [b'*', ..] => (Part::Any, 1),
-        [b'?', ..] => (Part::One(ByteSet::default().others()), 1),
+        [b'*', ..] => (PatternPart::Any, 1),
+        [b'?', ..] => (PatternPart::One(ByteSet::default().others()), 1),
         [b'[', class @ ..] => {
             let (bytes, length) = class_of(class);
-            (Part::One(bytes), length + 1)
+            (PatternPart::One(bytes), length + 1)
         }
-        [b'\\', wanted, ..] => (Part::One(ByteSet::from_to(*wanted, *wanted)), 2),
-        [wanted, ..] => (Part::One(ByteSet::from_to(*wanted, *wanted)), 1),
-        [] => (Part::Any, 0),
+        [b'\\', wanted, ..] => (PatternPart::One(ByteSet::from_to(*wanted, *wanted)), 2),
+        [wanted, ..] => (PatternPart::One(ByteSet::from_to(*wanted, *wanted)), 1),
+        [] => (PatternPart::Any, 0),
     }
 }
 

@@ -1,16 +1,5 @@
-use crate::resp::Command;
 use crate::safety::Safety;
-use crate::secret::Secret;
-
-/// Words of SM that change nothing, or are done as a client: every role may send them.
-const OF_ALL: [&str; 9] = [
-    "HELP", "SHARDS", "SERVERS", "LOOK", "KEY", "SETTINGS", "ROUTES", "AT", "CALL",
-];
-
-/// Whether every role may send this command of SM.
-pub fn is_of_all(command: Command<'_>) -> bool {
-    OF_ALL.iter().any(|it| command.is(1, it))
-}
+use durkenzo_control::links::Secret;
 
 /// What a client may do, by the password that it gave.
 #[derive(Clone, Copy, Debug, Default, PartialEq, Eq)]

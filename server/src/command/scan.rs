@@ -1,11 +1,13 @@
 use super::cursors::{Cursors, OwnCursors};
+use super::found_keys::FoundKeys;
 use super::latest::Position;
 use super::merged::{Merged, OwnedPair};
+use super::split::KeysDone;
 use super::unanswered::Unanswered;
-use super::wanted::{self, cursor_of, Wanted, WantedRange};
+use super::wanted::{self, cursor_of, WantedRange, WantedScan};
 use super::Fault;
 use crate::admission::Admission;
-use crate::body::{Pair, Range, Reply, Request, Shard, Value, MAX_PAIRS};
+use crate::body::{BodyReply, BodyRequest, BoxedBody, PairRef, RangeRef, ValueRef, MAX_PAIRS};
 use crate::keyspace::Keyspace;
 use crate::memory;
 use crate::resp::number::Digits;
@@ -18,6 +20,8 @@ const MOST_YIELDS: usize = 1_000;
 
 /// The most bytes of a count as it is written.
 const LONGEST_COUNT: usize = 20;
+
+type Keys = Vec<Box<[u8]>>;
 
 /// Does what goes over the keys of several shards, each under a permit of its own.
 #[derive(Debug)]
@@ -50,7 +54,7 @@ impl<'a> Scanner<'a> {
         replies: &mut Replies,
     ) -> Result<(), Unanswered> {
         let cursor = cursor_of(command)?;
-        let wanted = Wanted::of(command)?;
+        let wanted = WantedScan::of(command)?;
         let mut next = self.cursors.position(cursor, own);
         if next.is_none() {
             return Err(Fault::BadCursor.into());
@@ -59,7 +63,7 @@ impl<'a> Scanner<'a> {
         let (mut found, mut seen) = (Vec::new(), 0);
         while let Some(position) = next.take_if(|_| seen < wanted.count) {
             let most = (wanted.count - seen).min(MAX_PAIRS);
-            let keys = self.keys_from(&position, most)?;
+            let (keys, _) = self.keys_from(&position, most)?;
             seen += keys.len();
             next = following(position, &keys, most, shards);
             found.extend(keys.into_iter().filter(|it| wanted.takes(it)));
@@ -69,23 +73,66 @@ impl<'a> Scanner<'a> {
         Ok(())
     }
 
-    /// The first keys of the position's shard behind it, so many at most.
-    fn keys_from(
-        &mut self,
-        position: &Position,
-        most: usize,
-    ) -> Result<Vec<Box<[u8]>>, Unanswered> {
+    /// The first keys of the position's shard behind it, so many at most, and how many bytes were read for them: what
+    /// they hold is read with them.
+    fn keys_from(&mut self, position: &Position, most: usize) -> Result<(Keys, usize), Unanswered> {
         let after = position.after.as_deref();
         let low = after.map_or(Bound::Unbounded, Bound::Excluded);
-        let range = Range {
+        let range = RangeRef {
             low,
             high: None,
             most,
         };
+        let mut bytes = 0;
         let keys = self.patiently(position.shard, |body| {
-            scanned(body, range, |it| it.0.into())
+            scanned(body, range, |it| {
+                bytes += size(it);
+                it.0.into()
+            })
         })?;
-        Ok(keys?)
+        Ok((keys?, bytes))
+    }
+
+    /// KEYS: all keys that match, of each shard at a moment of its own.
+    pub fn keys(&mut self, command: Command<'_>, replies: &mut Replies) -> Result<(), Unanswered> {
+        let (mut found, shards) = (FoundKeys::new(command)?, self.keyspace.shards());
+        // It begins anew each time it waits: so it waits for all shards before it looks at the first one's keys.
+        for shard in 0..shards {
+            self.patiently(shard, |_| ())?;
+        }
+        let mut next = Some(Position::default());
+        while let Some(position) = next {
+            let (keys, bytes) = self.keys_from(&position, MAX_PAIRS)?;
+            next = following(position, &keys, MAX_PAIRS, shards);
+            found.add(keys, bytes)?;
+        }
+        found.answer(replies);
+        Ok(())
+    }
+
+    /// FLUSHDB: has all keys hold nothing, shard after shard. While one waits, those before it stay done.
+    pub fn flush(
+        &mut self,
+        command: Command<'_>,
+        progress: &mut KeysDone,
+    ) -> Result<(), Unanswered> {
+        wanted::check_flush(command)?;
+        let mut done = std::mem::take(progress);
+        while done.done < usize::from(self.keyspace.shards()) {
+            match self.patiently(done.done as u16, |body| body.clear()) {
+                Ok(Ok(())) => done.done += 1,
+                Err(NotAdmitted::Wait(wait)) => {
+                    *progress = done;
+                    return Err(Unanswered::Wait(wait));
+                }
+                Ok(Err(_)) | Err(NotAdmitted::Refused(_)) if done.done > 0 => {
+                    return Err(Fault::FlushedInPart.into());
+                }
+                Ok(Err(refusal)) => return Err(Fault::from(refusal).into()),
+                Err(refused) => return Err(refused.into()),
+            }
+        }
+        Ok(())
     }
 
     /// SCANRANGE: the first pairs with keys from LOW on and below HIGH, in the order of their keys over all shards. An
@@ -102,7 +149,7 @@ impl<'a> Scanner<'a> {
                 break;
             }
             let high = found.below(high);
-            let range = Range {
+            let range = RangeRef {
                 low: Bound::Included(low),
                 high: high.as_deref(),
                 most,
@@ -113,7 +160,7 @@ impl<'a> Scanner<'a> {
         Ok(())
     }
 
-    fn pairs(&mut self, shard: u16, range: Range<'_>) -> Result<Vec<OwnedPair>, Unanswered> {
+    fn pairs(&mut self, shard: u16, range: RangeRef<'_>) -> Result<Vec<OwnedPair>, Unanswered> {
         let pairs = self.patiently(shard, |body| {
             scanned(body, range, |(key, value)| ((*key).into(), text_of(*value)))
         })?;
@@ -125,7 +172,7 @@ impl<'a> Scanner<'a> {
     fn patiently<R>(
         &mut self,
         shard: u16,
-        mut work: impl FnMut(&mut Shard) -> R,
+        mut work: impl FnMut(&mut BoxedBody) -> R,
     ) -> Result<R, NotAdmitted> {
         for _ in 0..MOST_YIELDS {
             match self.admission.admit(shard, &mut work) {
@@ -139,25 +186,32 @@ impl<'a> Scanner<'a> {
 
 /// What is taken of each pair of the range; or why none is told.
 fn scanned<T>(
-    body: &mut Shard,
-    range: Range<'_>,
-    taken: impl FnMut(&Pair<'_>) -> T,
+    body: &mut BoxedBody,
+    range: RangeRef<'_>,
+    taken: impl FnMut(&PairRef<'_>) -> T,
 ) -> Result<Vec<T>, Fault> {
-    let found = match body.apply(Request::Scan(range)) {
-        Reply::Pairs(pairs) => taken_of(&pairs, taken),
-        Reply::Refused(refusal) => Err(refusal.into()),
+    let found = match body.apply(BodyRequest::Scan(range)) {
+        BodyReply::Pairs(pairs) => taken_of(&pairs, taken),
+        BodyReply::Refused(refusal) => Err(refusal.into()),
         _ => Ok(Vec::new()),
     };
     body.forget();
     found
 }
 
+/// How many bytes a pair has at most.
+fn size((key, value): &PairRef<'_>) -> usize {
+    match value {
+        ValueRef::Text(text) => key.len() + text.len(),
+        ValueRef::Count(_) => key.len() + LONGEST_COUNT,
+    }
+}
+
 /// What is taken of each of these, unless there is no memory for it.
-fn taken_of<T>(pairs: &[Pair<'_>], taken: impl FnMut(&Pair<'_>) -> T) -> Result<Vec<T>, Fault> {
-    let size = |(key, value): &Pair<'_>| match value {
-        Value::Text(text) => key.len() + text.len(),
-        Value::Count(_) => key.len() + LONGEST_COUNT,
-    };
+fn taken_of<T>(
+    pairs: &[PairRef<'_>],
+    taken: impl FnMut(&PairRef<'_>) -> T,
+) -> Result<Vec<T>, Fault> {
     memory::has_room(pairs.iter().map(size).sum())?;
     Ok(pairs.iter().map(taken).collect())
 }
@@ -178,9 +232,9 @@ pub(super) fn following(
     (shard < shards).then_some(Position { shard, after: None })
 }
 
-fn text_of(value: Value<'_>) -> Box<[u8]> {
+fn text_of(value: ValueRef<'_>) -> Box<[u8]> {
     match value {
-        Value::Text(text) => text.into(),
-        Value::Count(count) => Digits::new(count).as_bytes().into(),
+        ValueRef::Text(text) => text.into(),
+        ValueRef::Count(count) => Digits::new(count).as_bytes().into(),
     }
 }

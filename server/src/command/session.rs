@@ -1,9 +1,9 @@
-use super::by_key::Part;
 use super::cursors::OwnCursors;
 use super::role::Role;
-use super::transaction::Transaction;
+use super::split::KeysDone;
+use super::transaction::MultiTransaction;
 use super::Fault;
-use crate::guesses::{Guesses, Origin};
+use crate::guesses::{ClientOrigin, Guesses};
 use crate::resp::{Command, Replies};
 use crate::safety::Safety;
 use std::net::{Ipv4Addr, SocketAddr};
@@ -33,9 +33,9 @@ pub struct Session {
     /// Whether its next password is looked at, whatever was given before.
     pub may_guess: bool,
     /// The transaction that was begun.
-    pub(super) transaction: Option<Box<Transaction>>,
+    pub(super) transaction: Option<Box<MultiTransaction>>,
     /// How far the next command has come, where it waits between its keys.
-    pub(super) part: Part,
+    pub(super) progress: KeysDone,
     /// The cursors that it was given last, if it was given any; most connections aren't, and have no room for them.
     cursors: Option<OwnCursors>,
 }
@@ -70,7 +70,7 @@ impl Session {
             wrong_guesses: 0,
             may_guess: false,
             transaction: None,
-            part: Part::default(),
+            progress: KeysDone::default(),
             cursors: None,
         }
     }
@@ -86,7 +86,7 @@ impl Session {
 
     /// For how long its next password isn't looked at.
     pub(super) fn wait_of_guess(&self, guesses: &Guesses) -> Duration {
-        let origin = Origin::from(self.address.ip());
+        let origin = ClientOrigin::from(self.address.ip());
         guesses.wait(origin, self.wrong_guesses)
     }
 

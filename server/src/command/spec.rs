@@ -1,11 +1,12 @@
-use super::data::DataWord;
+use super::data::Execute;
+use super::split::Split;
 use super::subcommands::Subcommands;
+use super::table::FIRST_TABLE;
 use super::{BadKey, Fault};
-use crate::body::MAX_KEY;
+use crate::body::{ShardBody, MAX_KEY};
 use crate::keyspace::Keyspace;
 use crate::memory::CEILING;
-use crate::packed::packed;
-use crate::resp::Command;
+use crate::resp::{Command, Replies};
 
 /// Which arguments of a command are keys.
 #[derive(Clone, Copy, Debug, PartialEq, Eq)]
@@ -16,37 +17,73 @@ pub enum Keys {
     First,
     /// All.
     All,
-    /// Each second one, from the first on.
-    Odd,
+    /// Each second one, from the first on, with a value behind it.
+    Pairs,
 }
 
-/// Where the keys of a command are.
+impl Keys {
+    /// Returns the place of the first key, that of the last one, from -1 for the last argument, and how many arguments
+    /// apart they are, as Redis tells them.
+    pub fn places(self) -> (i64, i64, i64) {
+        match self {
+            Keys::None => (0, 0, 0),
+            Keys::First => (1, 1, 1),
+            Keys::All => (1, -1, 1),
+            Keys::Pairs => (1, -1, 2),
+        }
+    }
+
+    /// Returns how many arguments a key has for itself: with a value behind it two.
+    pub fn step(self) -> usize {
+        match self {
+            Keys::None | Keys::First | Keys::All => 1,
+            Keys::Pairs => 2,
+        }
+    }
+
+    /// Returns the places of the command's keys, in their order.
+    pub fn places_in(self, command: Command<'_>) -> impl Iterator<Item = usize> {
+        let most = match self {
+            Keys::None => 0,
+            Keys::First => 1,
+            Keys::All | Keys::Pairs => usize::MAX,
+        };
+        (1..command.len()).step_by(self.step()).take(most)
+    }
+
+    /// Returns the command's keys, in their order, as often as it names them.
+    pub fn of(self, command: Command<'_>) -> impl Iterator<Item = &[u8]> {
+        self.places_in(command).map(move |it| command.get(it))
+    }
+}
+
+/// The shards of a command's keys.
 #[derive(Clone, Copy, Debug, PartialEq, Eq)]
-pub enum Place {
-    /// It has none.
-    Nowhere,
-    /// All are of this shard.
-    Shard(u16),
-    /// They are of several shards.
+pub enum KeyShards {
+    /// It has no keys.
+    None,
+    /// All keys are of this shard.
+    One(u16),
+    /// The keys are of several shards.
     Several,
 }
 
-impl Place {
-    /// The shard of all keys, if there are any; refused where they are of several.
+impl KeyShards {
+    /// Returns the shard of all keys, if there are any; refused if they are of several.
     pub fn one(self) -> Result<Option<u16>, Fault> {
         match self {
-            Place::Nowhere => Ok(None),
-            Place::Shard(shard) => Ok(Some(shard)),
-            Place::Several => Err(Fault::CrossShard),
+            KeyShards::None => Ok(None),
+            KeyShards::One(shard) => Ok(Some(shard)),
+            KeyShards::Several => Err(Fault::CrossShard),
         }
     }
 }
 
 /// What a command does.
-#[derive(Clone, Copy, Debug, PartialEq, Eq)]
+#[derive(Clone, Copy, Debug)]
 pub enum Word {
-    /// Something with keys of one shard.
-    Data(DataWord),
+    /// Something with keys of one shard, by this function.
+    Data(Execute),
     /// What needs no shard.
     Talk(TalkWord),
     /// Begins a transaction.
@@ -59,24 +96,12 @@ pub enum Word {
     Scan,
     /// Gives pairs of a range of keys.
     ScanRange,
+    /// Gives all keys that match.
+    Keys,
+    /// Has all keys hold nothing.
+    Flush,
     /// Asks the control, or a server.
     Control,
-}
-
-impl Word {
-    /// What it does with keys of one shard, if it does that.
-    pub fn data(self) -> Option<DataWord> {
-        match self {
-            Word::Data(word) => Some(word),
-            Word::Talk(_)
-            | Word::Multi
-            | Word::Exec
-            | Word::Discard
-            | Word::Scan
-            | Word::ScanRange
-            | Word::Control => None,
-        }
-    }
 }
 
 /// A command that needs no shard.
@@ -110,195 +135,161 @@ pub enum Effect {
     Grows,
 }
 
+/// What a command over a store needs memory for.
+#[derive(Clone, Copy, Debug, PartialEq, Eq, PartialOrd, Ord)]
+pub enum Need {
+    /// For its own bytes: it deletes, and reads nothing.
+    Bytes,
+    /// For what it reads, too.
+    Texts,
+    /// For what its shard may hold more, too.
+    Growth,
+}
+
 impl Effect {
-    /// What two commands do, one after the other: they free only if both do.
-    pub fn and(self, other: Effect) -> Effect {
-        match (self, other) {
-            (Effect::Grows, _) | (_, Effect::Grows) => Effect::Grows,
-            (Effect::Frees, Effect::Frees) => Effect::Frees,
-            (Effect::Reads | Effect::Frees, Effect::Reads) | (Effect::Reads, Effect::Frees) => {
-                Effect::Reads
-            }
+    /// Whether it changes what keys hold.
+    pub fn writes(self) -> bool {
+        match self {
+            Effect::Reads => false,
+            Effect::Frees | Effect::Grows => true,
+        }
+    }
+
+    /// Redis' flags of a command with keys.
+    pub fn flags(self) -> &'static [&'static str] {
+        match self {
+            Effect::Reads => &["readonly"],
+            Effect::Frees => &["write"],
+            Effect::Grows => &["write", "denyoom"],
         }
     }
 }
 
-/// How a command is written, and what it does.
+/// How large a command's answer may be, if it isn't an error.
+#[derive(Clone, Copy, Debug, PartialEq, Eq)]
+pub enum AnswerSize {
+    /// A number or a few words.
+    Short,
+    /// As large as a value.
+    Value,
+    /// As large as a value if the command has this option, and else short.
+    ValueWith(&'static str),
+    /// As large as the values of all its keys.
+    Values,
+    /// As large as what it repeats, or as there is to tell.
+    Any,
+}
+
+/// Whether a transaction may have a command.
+#[derive(Clone, Copy, Debug, PartialEq, Eq)]
+pub enum InMulti {
+    /// It may not: as in Redis it ends the connection or the transaction, or it goes over several shards.
+    Never,
+    /// It may, if data lies in memory only.
+    InMemory,
+    /// It may.
+    Always,
+}
+
+/// How a command is written, what it does, and how it is answered: a row of the table of commands.
 #[derive(Debug)]
 pub struct Spec {
     /// Its name, in small letters.
     pub name: &'static str,
-    /// How many arguments it takes, the name among them; at least so many where it is below 0.
+    /// How many arguments it takes, the name among them; at least so many if it is below 0.
     pub arity: i64,
     /// Which of them are keys.
     pub keys: Keys,
     /// What it does to what keys hold.
     pub effect: Effect,
+    /// Whether it never reads what its keys hold, so that they need no memory however many they are.
+    pub is_blind: bool,
+    /// How large its answer may be.
+    pub answer: AnswerSize,
+    /// How it is done with keys of several shards, if it is.
+    pub split: Option<Split>,
+    /// Whether a transaction may have it.
+    pub queued: InMulti,
     /// What it does.
     pub word: Word,
     /// The first version of the table that has it.
     pub since: u16,
 }
 
-/// The version of the table of commands: whoever adds commands raises it, and gives it to them by [`Spec::since`], so
-/// that no process sends them to one that doesn't know them.
-pub const TABLE: u16 = 2;
-/// That of 0.1.0, of which its processes don't tell.
-pub const FIRST_TABLE: u16 = 1;
-
-const fn data(name: &'static str, arity: i64, keys: Keys, effect: Effect, word: DataWord) -> Spec {
-    Spec {
-        name,
-        arity,
-        keys,
-        effect,
-        word: Word::Data(word),
-        since: FIRST_TABLE,
-    }
-}
-
-const fn talk(name: &'static str, arity: i64, word: TalkWord) -> Spec {
-    other(name, arity, Word::Talk(word))
-}
-
-const fn other(name: &'static str, arity: i64, word: Word) -> Spec {
-    Spec {
-        name,
-        arity,
-        keys: Keys::None,
-        effect: Effect::Reads,
-        word,
-        since: FIRST_TABLE,
-    }
-}
-
-/// One that version 2 of the table added.
-const fn since_2(spec: Spec) -> Spec {
-    Spec { since: 2, ..spec }
-}
-
-/// All commands, by their names.
-#[rustfmt::skip] // One row a line.
-pub static COMMANDS: [Spec; 41] = [
-    talk("acl", -2, TalkWord::Acl),
-    data("append", 3, Keys::First, Effect::Grows, DataWord::Append),
-    talk("auth", -2, TalkWord::Auth),
-    talk("client", -2, TalkWord::Client),
-    talk("command", -1, TalkWord::Command),
-    talk("config", -2, TalkWord::Config),
-    talk("dbsize", 1, TalkWord::DbSize),
-    data("decr", 2, Keys::First, Effect::Grows, DataWord::Decr),
-    data("decrby", 3, Keys::First, Effect::Grows, DataWord::DecrBy),
-    data("del", -2, Keys::All, Effect::Frees, DataWord::Del),
-    other("discard", 1, Word::Discard),
-    talk("echo", 2, TalkWord::Echo),
-    other("exec", 1, Word::Exec),
-    data("exists", -2, Keys::All, Effect::Reads, DataWord::Exists),
-    data("get", 2, Keys::First, Effect::Reads, DataWord::Get),
-    since_2(data("getdel", 2, Keys::First, Effect::Frees, DataWord::GetDel)),
-    since_2(data("getrange", 4, Keys::First, Effect::Reads, DataWord::GetRange)),
-    since_2(data("getset", 3, Keys::First, Effect::Grows, DataWord::GetSet)),
-    talk("hello", -1, TalkWord::Hello),
-    data("incr", 2, Keys::First, Effect::Grows, DataWord::Incr),
-    data("incrby", 3, Keys::First, Effect::Grows, DataWord::IncrBy),
-    talk("info", -1, TalkWord::Info),
-    data("mget", -2, Keys::All, Effect::Reads, DataWord::MGet),
-    data("mset", -3, Keys::Odd, Effect::Grows, DataWord::MSet),
-    since_2(data("msetnx", -3, Keys::Odd, Effect::Grows, DataWord::MSetNx)),
-    other("multi", 1, Word::Multi),
-    talk("ping", -1, TalkWord::Ping),
-    talk("quit", -1, TalkWord::Quit),
-    talk("reset", 1, TalkWord::Reset),
-    other("scan", -2, Word::Scan),
-    other("scanrange", 4, Word::ScanRange),
-    talk("select", 2, TalkWord::Select),
-    data("set", -3, Keys::First, Effect::Grows, DataWord::Set),
-    since_2(data("setnx", 3, Keys::First, Effect::Grows, DataWord::SetNx)),
-    other("sm", -2, Word::Control),
-    data("strlen", 2, Keys::First, Effect::Reads, DataWord::StrLen),
-    since_2(data("substr", 4, Keys::First, Effect::Reads, DataWord::GetRange)),
-    since_2(talk("time", 1, TalkWord::Time)),
-    since_2(data("touch", -2, Keys::All, Effect::Reads, DataWord::Exists)),
-    data("type", 2, Keys::First, Effect::Reads, DataWord::Type),
-    since_2(data("unlink", -2, Keys::All, Effect::Frees, DataWord::Del)),
-];
-
-/// How many places the commands' names are spread over, a power of two.
-const PLACES: usize = 256;
-/// The most letters of a name.
-const MOST_LETTERS: usize = 16;
-/// The bit that a small letter has beside the capital, of eight letters.
-const SMALL: u64 = u64::from_le_bytes([0x20; 8]);
-
-/// The commands' names as numbers.
-static NUMBERS: [u128; COMMANDS.len()] = numbers();
-/// An odd number by which each command's name falls on a place of its own.
-const SPREAD: u64 = spread();
-/// The command whose name falls on each place, or the first where none does.
-static AT_PLACES: [u8; PLACES] = at_places();
-
-const fn numbers() -> [u128; COMMANDS.len()] {
-    let (mut numbers, mut index) = ([0; COMMANDS.len()], 0);
-    while index < COMMANDS.len() {
-        numbers[index] = number_of(COMMANDS[index].name.as_bytes());
-        index += 1;
-    }
-    numbers
-}
-
-const fn spread() -> u64 {
-    const FIRST: u64 = 0x9e37_79b9_7f4a_7c15;
-    let mut odd = FIRST;
-    while !is_spread_by(odd) {
-        odd = odd.wrapping_mul(FIRST);
-    }
-    odd
-}
-
-/// Whether no two commands' names fall on one place by this number.
-const fn is_spread_by(odd: u64) -> bool {
-    let (mut is_taken, mut index) = ([false; PLACES], 0);
-    while index < COMMANDS.len() {
-        let place = place_of(number_of(COMMANDS[index].name.as_bytes()), odd);
-        if is_taken[place] {
-            return false;
+impl Spec {
+    /// The row of a command with keys, which it has this function do.
+    pub(super) const fn data(
+        name: &'static str,
+        arity: i64,
+        keys: Keys,
+        effect: Effect,
+        answer: AnswerSize,
+        execute: Execute,
+    ) -> Spec {
+        Spec {
+            keys,
+            effect,
+            answer,
+            queued: InMulti::Always,
+            ..Spec::other(name, arity, Word::Data(execute))
         }
-        is_taken[place] = true;
-        index += 1;
     }
-    true
-}
 
-const fn at_places() -> [u8; PLACES] {
-    let (mut commands, mut index) = ([0; PLACES], 0);
-    while index < COMMANDS.len() {
-        let place = place_of(number_of(COMMANDS[index].name.as_bytes()), SPREAD);
-        commands[place] = index as u8;
-        index += 1;
+    /// The row of a command that needs no shard.
+    pub(super) const fn talk(
+        name: &'static str,
+        arity: i64,
+        answer: AnswerSize,
+        queued: InMulti,
+        word: TalkWord,
+    ) -> Spec {
+        Spec {
+            answer,
+            queued,
+            ..Spec::other(name, arity, Word::Talk(word))
+        }
     }
-    commands
-}
 
-/// The place on which the name of this number falls by the odd one.
-const fn place_of(number: u128, odd: u64) -> usize {
-    let mixed = (number as u64 ^ (number >> 64) as u64).wrapping_mul(odd);
-    (mixed >> (u64::BITS - PLACES.ilog2())) as usize
-}
-
-/// A name of at most `MOST_LETTERS` as a number, in which no letter's case counts and no byte of the name is 0, so that
-/// each name has its own.
-const fn number_of(name: &[u8]) -> u128 {
-    match name.split_first_chunk::<8>() {
-        None => part_of(name) as u128,
-        Some((first, rest)) => part_of(first) as u128 | (part_of(rest) as u128) << 64,
+    /// The row of any other command.
+    pub(super) const fn other(name: &'static str, arity: i64, word: Word) -> Spec {
+        Spec {
+            name,
+            arity,
+            keys: Keys::None,
+            effect: Effect::Reads,
+            is_blind: false,
+            answer: AnswerSize::Any,
+            split: None,
+            queued: InMulti::Never,
+            word,
+            since: FIRST_TABLE,
+        }
     }
-}
 
-/// The same of at most eight letters.
-const fn part_of(letters: &[u8]) -> u64 {
-    match letters.len() {
-        0 => 0,
-        count => packed(letters) | SMALL >> (64 - 8 * count),
+    /// The row of one that has this effect on keys that it doesn't name.
+    pub(super) const fn effect(self, effect: Effect) -> Spec {
+        Spec { effect, ..self }
+    }
+
+    /// The row of one that never reads what its keys hold.
+    pub(super) const fn blind(self) -> Spec {
+        Spec {
+            is_blind: true,
+            ..self
+        }
+    }
+
+    /// The row of one that is done so with keys of several shards.
+    pub(super) const fn split(self, split: Split) -> Spec {
+        Spec {
+            split: Some(split),
+            ..self
+        }
+    }
+
+    /// The row of one that this version of the table added.
+    pub(super) const fn since(self, since: u16) -> Spec {
+        Spec { since, ..self }
     }
 }
 
@@ -323,7 +314,7 @@ impl Spec {
         };
         match is_well {
             true => Ok(spec),
-            false if spec.word == Word::Exec => Err(Fault::ExecArity),
+            false if spec.is_exec() => Err(Fault::ExecArity),
             false => Err(Fault::wrong_arity(spec.name)),
         }
     }
@@ -331,18 +322,48 @@ impl Spec {
     /// Whether the last key of the command has no value, where it takes keys with their values.
     #[inline]
     pub fn lacks_value(&self, command: Command<'_>) -> bool {
-        self.keys == Keys::Odd && command.len() % 2 == 0
+        self.keys == Keys::Pairs && command.len() % 2 == 0
     }
 
-    /// That of this name, in whatever case.
+    /// Whether it executes a transaction.
+    pub fn is_exec(&self) -> bool {
+        matches!(self.word, Word::Exec)
+    }
+
+    /// Whether it asks the control, or a server.
+    pub fn is_control(&self) -> bool {
+        matches!(self.word, Word::Control)
+    }
+
+    /// Whether it does something with keys of one shard.
+    pub fn is_data(&self) -> bool {
+        matches!(self.word, Word::Data(_))
+    }
+
+    /// Does the command of this row, whose keys are all of the shard with this body, and answers it.
+    ///
+    /// # Errors
+    ///
+    /// If the command is refused: what it has answered by then is to be taken back.
     #[inline]
-    pub fn named(name: &[u8]) -> Option<&'static Spec> {
-        if name.len() > MOST_LETTERS {
-            return None;
+    pub fn execute(
+        &self,
+        command: Command<'_>,
+        body: &mut dyn ShardBody,
+        replies: &mut Replies,
+    ) -> Result<(), Fault> {
+        match self.word {
+            Word::Data(execute) => execute(command, body, replies),
+            Word::Talk(_)
+            | Word::Multi
+            | Word::Exec
+            | Word::Discard
+            | Word::Scan
+            | Word::ScanRange
+            | Word::Keys
+            | Word::Flush
+            | Word::Control => Err(Fault::NoKeys),
         }
-        let number = number_of(name);
-        let index = usize::from(AT_PLACES[place_of(number, SPREAD)]);
-        (NUMBERS[index] == number).then(|| &COMMANDS[index])
     }
 
     /// Refuses a command that may have data take more memory, where too much is in use.
@@ -364,18 +385,36 @@ impl Spec {
             | Word::Discard
             | Word::Scan
             | Word::ScanRange
+            | Word::Keys
+            | Word::Flush
             | Word::Control => Ok(()),
         }
     }
 
-    /// The shards of the command's keys; refused where one is none.
+    /// Returns the shards of the command's keys; refused if one of them is no key.
     #[inline]
-    pub fn place(&self, command: Command<'_>, keyspace: &Keyspace) -> Result<Place, BadKey> {
+    pub fn shards(&self, command: Command<'_>, keyspace: &Keyspace) -> Result<KeyShards, BadKey> {
         match self.keys {
-            Keys::None => Ok(Place::Nowhere),
-            Keys::First => shard_of(command.get(1), keyspace).map(Place::Shard),
-            Keys::All => place_of_each(1, command, keyspace),
-            Keys::Odd => place_of_each(2, command, keyspace),
+            Keys::None => Ok(KeyShards::None),
+            Keys::First => shard_of(command.get(1), keyspace).map(KeyShards::One),
+            Keys::All | Keys::Pairs => shards_of_all(self.keys.of(command), keyspace),
+        }
+    }
+
+    /// How many texts the command reads at most, or 1.
+    pub fn texts(&self, command: Command<'_>) -> usize {
+        match self.is_blind {
+            true => 1,
+            false => self.keys.of(command).count().max(1),
+        }
+    }
+
+    /// Returns what it needs memory for over a store.
+    pub fn need(&self) -> Need {
+        match self.effect {
+            Effect::Grows => Need::Growth,
+            Effect::Frees if self.is_blind => Need::Bytes,
+            Effect::Frees | Effect::Reads => Need::Texts,
         }
     }
 
@@ -394,53 +433,33 @@ impl Spec {
             | Word::Discard
             | Word::Scan
             | Word::ScanRange
+            | Word::Keys
+            | Word::Flush
             | Word::Control => false,
         }
     }
 
-    /// Whether it may be a part of a transaction: as in Redis, what ends the connection or its transaction isn't.
+    /// Whether it may be a part of a transaction.
     pub fn is_queued(&self) -> bool {
-        use TalkWord::*;
-        match self.word {
-            Word::Data(_) => true,
-            Word::Talk(
-                Acl | Auth | Client | Command | Config | DbSize | Echo | Hello | Info | Ping
-                | Select | Time,
-            ) => true,
-            Word::Talk(Quit | Reset) => false,
-            Word::Multi
-            | Word::Exec
-            | Word::Discard
-            | Word::Scan
-            | Word::ScanRange
-            | Word::Control => false,
-        }
+        self.queued != InMulti::Never
     }
 }
 
-impl Effect {
-    /// Redis' flags of a command with keys.
-    pub fn flags(self) -> &'static [&'static str] {
-        match self {
-            Effect::Reads => &["readonly"],
-            Effect::Frees => &["write"],
-            Effect::Grows => &["write", "denyoom"],
-        }
-    }
-}
-
-/// The shards of the command's keys, which stand so many arguments apart; refused where one is none.
-fn place_of_each(step: usize, command: Command<'_>, keyspace: &Keyspace) -> Result<Place, BadKey> {
-    let mut place = Place::Nowhere;
-    for key in command.iter().skip(1).step_by(step) {
+/// Returns the shards of these keys; refused if one of them is no key.
+fn shards_of_all<'a>(
+    keys: impl Iterator<Item = &'a [u8]>,
+    keyspace: &Keyspace,
+) -> Result<KeyShards, BadKey> {
+    let mut shards = KeyShards::None;
+    for key in keys {
         let shard = shard_of(key, keyspace)?;
-        place = match place {
-            Place::Nowhere => Place::Shard(shard),
-            Place::Shard(other) if other != shard => Place::Several,
-            place => place,
+        shards = match shards {
+            KeyShards::None => KeyShards::One(shard),
+            KeyShards::One(other) if other != shard => KeyShards::Several,
+            shards => shards,
         };
     }
-    Ok(place)
+    Ok(shards)
 }
 
 /// The shard of the key, which has to be one.
@@ -449,34 +468,5 @@ pub fn shard_of(key: &[u8], keyspace: &Keyspace) -> Result<u16, BadKey> {
     match key.len() {
         1..=MAX_KEY => Ok(keyspace.shard_of(key)),
         _ => Err(BadKey),
-    }
-}
-
-#[cfg(test)]
-mod tests {
-    use super::*;
-
-    #[test]
-    fn the_tables_version_is_that_of_its_latest_commands() {
-        let versions = COMMANDS.iter().map(|it| it.since);
-        assert_eq!(versions.clone().max(), Some(TABLE));
-        // How many each version added, from the first.
-        let added = (FIRST_TABLE..=TABLE).map(|it| versions.clone().filter(|of| *of == it).count());
-        assert_eq!(added.collect::<Vec<_>>(), [32, 9]);
-    }
-
-    #[test]
-    fn commands_are_found_by_name() {
-        assert!(COMMANDS.windows(2).all(|it| it[0].name < it[1].name));
-        for spec in &COMMANDS {
-            let name = spec.name.to_uppercase();
-            assert_eq!(Spec::named(name.as_bytes()).unwrap().name, spec.name);
-        }
-        let long = "getgetgetgetgetget";
-        for name in [
-            "", "flushall", "setx", "se", "zzz", "{", "1", "\u{ff}", "g%t", "get\0", long,
-        ] {
-            assert!(Spec::named(name.as_bytes()).is_none(), "{name}");
-        }
     }
 }

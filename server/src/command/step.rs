@@ -1,22 +1,20 @@
-use super::by_key::ByKey;
-use super::data::DataWord;
-use super::role::is_of_all;
 use super::session::Session;
-use super::spec::{Place, Spec, Word};
+use super::spec::{KeyShards, Spec, Word};
 use super::Fault;
+use crate::control::is_of_all;
 use crate::keyspace::Keyspace;
 use crate::memory::CEILING;
 use crate::resp::Command;
 
-/// What a command does, and the shard of its keys.
-pub type Keyed = (DataWord, u16);
+/// The row of a command, and the shard of its keys.
+pub type Keyed = (&'static Spec, u16);
 
 /// What becomes of a command.
 pub enum Step {
     /// It is done with keys of one shard.
     Data(Keyed),
     /// It is done with keys of several shards, each by itself.
-    Each(ByKey),
+    Each(&'static Spec),
     /// It is queued for EXEC, with keys of this shard.
     Queue(Option<u16>),
     /// It is done otherwise.
@@ -25,7 +23,7 @@ pub enum Step {
 
 impl Step {
     /// That of the command; or why it is refused.
-    // Where it is inlined, a fault is made as far as it is looked at.
+    // When this is inlined, the compiler builds only the parts of the fault that the caller reads.
     #[inline(always)]
     pub fn of(session: &Session, command: Command<'_>, keyspace: &Keyspace) -> Result<Step, Fault> {
         let is_within = session.transaction.is_some();
@@ -36,20 +34,21 @@ impl Step {
         if !session.is_known && !spec.is_open() {
             return Err(Fault::NoAuth);
         }
-        if spec.word == Word::Control && !session.may_control && !is_of_all(command) {
+        if spec.is_control() && !session.may_control && !is_of_all(command) {
             return Err(Fault::no_permission(spec.name, command.get(1)));
         }
         check_memory(session, spec)?;
-        let place = spec.place(command, keyspace)?;
+        let shards = spec.shards(command, keyspace)?;
         if is_within && spec.is_queued() {
             spec.check_subcommand(command)?;
-            return place.one().map(Step::Queue);
+            return shards.one().map(Step::Queue);
         }
         Ok(match spec.word {
-            Word::Data(word) => match place {
-                Place::Shard(shard) => Step::Data((word, shard)),
-                Place::Several => Step::Each(ByKey::of(word).ok_or(Fault::CrossShard)?),
-                Place::Nowhere => Step::Other(spec),
+            Word::Data(_) => match shards {
+                KeyShards::One(shard) => Step::Data((spec, shard)),
+                KeyShards::Several if spec.split.is_some() => Step::Each(spec),
+                KeyShards::Several => return Err(Fault::CrossShard),
+                KeyShards::None => Step::Other(spec),
             },
             Word::Talk(_)
             | Word::Multi
@@ -57,6 +56,8 @@ impl Step {
             | Word::Discard
             | Word::Scan
             | Word::ScanRange
+            | Word::Keys
+            | Word::Flush
             | Word::Control => Step::Other(spec),
         })
     }
@@ -75,7 +76,7 @@ impl Step {
 fn check_memory(session: &Session, spec: &Spec) -> Result<(), Fault> {
     match &session.transaction {
         None => spec.check_memory(),
-        Some(transaction) if spec.word == Word::Exec => transaction.check_memory(),
+        Some(transaction) if spec.is_exec() => transaction.check_memory(),
         Some(_) if spec.is_queued() && CEILING.is_passed() => Err(Fault::MaxMemory),
         Some(_) => Ok(()),
     }

@@ -1,4 +1,4 @@
-use super::Asked;
+use super::ShardRequest;
 use crate::resp::{Oversized, OwnedCommand};
 use crate::wait::Wait;
 use std::time::Duration;
@@ -19,7 +19,7 @@ pub enum Stop {
     /// The next command waits.
     Wait(Wait),
     /// Shards whose data outlives the process answer this.
-    Durable(Asked),
+    Durable(ShardRequest),
     /// The control answers this command.
     Control(OwnedCommand),
 }

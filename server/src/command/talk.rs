@@ -3,8 +3,9 @@ use super::glob::Pattern;
 use super::info;
 use super::role::Role;
 use super::session::Session;
-use super::spec::{Keys, Spec, TalkWord, Word, COMMANDS};
+use super::spec::{Spec, TalkWord, Word};
 use super::subcommands::Subcommands;
+use super::table::COMMANDS;
 use super::unanswered::Unanswered;
 use super::Fault;
 use crate::body::{MAX_KEY, MAX_TEXT};
@@ -38,7 +39,7 @@ pub fn answer(
         TalkWord::Time => time(SystemTime::now(), replies),
         TalkWord::DbSize => {
             // Where they aren't counted, shards were asked before it came here.
-            replies.count(cluster.all_keys().unwrap_or(0) as usize);
+            replies.count(cluster.storage.all_keys().unwrap_or(0) as usize);
         }
         TalkWord::Acl => who_am_i(command, session, replies)?,
         TalkWord::Auth => auth(command, session, cluster, replies)?,
@@ -282,15 +283,12 @@ fn describe(command: Command<'_>, replies: &mut Replies) -> Result<(), Fault> {
 /// As Redis describes a command: name, arity, flags, and the first, last and each further key.
 fn describe_one(spec: &Spec, replies: &mut Replies) {
     let flags = match spec.word {
-        Word::Data(_) | Word::Scan | Word::ScanRange => spec.effect.flags(),
+        Word::Data(_) | Word::Scan | Word::ScanRange | Word::Keys | Word::Flush => {
+            spec.effect.flags()
+        }
         Word::Talk(_) | Word::Multi | Word::Exec | Word::Discard | Word::Control => &["fast"],
     };
-    let (first, last, step) = match spec.keys {
-        Keys::None => (0, 0, 0),
-        Keys::First => (1, 1, 1),
-        Keys::All => (1, -1, 1),
-        Keys::Odd => (1, -1, 2),
-    };
+    let (first, last, step) = spec.keys.places();
     replies.array(6);
     replies.bulk(spec.name.as_bytes());
     replies.number(spec.arity);

@@ -1,6 +1,6 @@
-use super::data::{self, DataWord};
+use super::data;
 use super::session::Session;
-use super::spec::{Effect, Spec, TalkWord, Word};
+use super::spec::{AnswerSize, Need, Spec, TalkWord, Word};
 use super::talk;
 use super::unanswered::Unanswered;
 use super::Fault;
@@ -14,19 +14,20 @@ const MOST_OF_VALUE: usize = MAX_TEXT + 16;
 
 /// Commands that EXEC does at once, whose keys are of one shard.
 #[derive(Debug, Default)]
-pub struct Transaction {
-    commands: Vec<OwnedCommand>,
+pub struct MultiTransaction {
+    /// Its commands, with their rows.
+    commands: Vec<(&'static Spec, OwnedCommand)>,
     shard: Option<u16>,
     size: usize,
     is_aborted: bool,
-    /// What its commands do to what keys hold; of none, as if they read.
-    effect: Option<Effect>,
+    /// The most that one of its commands needs memory for.
+    need: Option<Need>,
 }
 
-impl Transaction {
+impl MultiTransaction {
     /// Adds a command with keys of this shard, if it has any.
     pub fn push(&mut self, command: Command<'_>, shard: Option<u16>) -> Result<(), Fault> {
-        let effect = Spec::queued(command)?.effect;
+        let spec = Spec::queued(command)?;
         let size = self.size + command.size();
         if self.commands.len() >= MAX_ARGUMENTS || size > MAX_COMMAND {
             return Err(Fault::QueueFull);
@@ -35,10 +36,10 @@ impl Transaction {
             return Err(Fault::CrossShard);
         }
         memory::reserve(&mut self.commands, 1)?;
-        self.commands.push(OwnedCommand::copied(command)?);
+        self.commands.push((spec, OwnedCommand::copied(command)?));
         self.shard = self.shard.or(shard);
         self.size = size;
-        self.effect = Some(self.effect.map_or(effect, |it| it.and(effect)));
+        self.need = self.need.max(Some(spec.need()));
         Ok(())
     }
 
@@ -55,7 +56,7 @@ impl Transaction {
 
     /// Refuses EXEC, if it may have data take more memory and too much is in use.
     pub fn check_memory(&self) -> Result<(), Fault> {
-        match self.effect() == Effect::Grows && !self.is_aborted && CEILING.is_passed() {
+        match self.need() == Need::Growth && !self.is_aborted && CEILING.is_passed() {
             true => Err(Fault::ExecMaxMemory),
             false => Ok(()),
         }
@@ -66,9 +67,9 @@ impl Transaction {
         self.commands.len() as u64
     }
 
-    /// What they do to what keys hold.
-    pub fn effect(&self) -> Effect {
-        self.effect.unwrap_or(Effect::Reads)
+    /// Returns what they need memory for over a store.
+    pub fn need(&self) -> Need {
+        self.need.unwrap_or(Need::Texts)
     }
 
     /// How many bytes their arguments have.
@@ -78,20 +79,25 @@ impl Transaction {
 
     /// All commands.
     pub fn commands(&self) -> impl Iterator<Item = &OwnedCommand> {
-        self.commands.iter()
+        self.commands.iter().map(|it| &it.1)
     }
 
-    /// The commands with keys.
-    pub fn data(&self) -> impl Iterator<Item = (DataWord, &OwnedCommand)> {
-        self.commands.iter().filter_map(|it| {
-            let word = Spec::named(it.command().get(0))?.word.data()?;
-            Some((word, it))
-        })
+    /// The commands with keys, and their rows.
+    pub fn data(&self) -> impl Iterator<Item = (&'static Spec, &OwnedCommand)> {
+        let commands = self.commands.iter().map(|it| (it.0, &it.1));
+        commands.filter(|it| it.0.is_data())
     }
 
     /// How many arguments the commands with keys have, at most so many of which are keys.
     pub fn arguments(&self) -> usize {
         self.data().map(|it| it.1.command().len() - 1).sum()
+    }
+
+    /// How many texts the answers to the commands with keys have at most.
+    pub fn texts_told(&self) -> usize {
+        let told = self.data().map(|(spec, it)| (spec, it.command()));
+        let told = told.filter(|(spec, it)| ReplySize::of(spec, *it) != ReplySize::Short);
+        told.map(|(spec, it)| spec.texts(it)).sum()
     }
 
     /// The shard of all keys, if there are any.
@@ -110,41 +116,39 @@ impl Transaction {
         let (first, mut is_full) = (replies.mark(), false);
         replies.array(self.commands.len());
         let left = (0..self.commands.len()).rev();
-        for (command, left) in self.commands.iter().zip(left) {
+        for ((spec, command), left) in self.commands.iter().zip(left) {
             replies.owe(left);
             let (command, mark) = (command.command(), replies.mark());
-            let word = Spec::named(command.get(0)).map(|it| it.word);
-            let size = Size::of(word, command);
-            is_full |= size == Size::OfValue && !replies.has_room(first, MOST_OF_VALUE);
-            let done = match (word, &mut body) {
-                _ if is_full && size != Size::Short => Err(Fault::ReplyTooLarge.into()),
-                (Some(Word::Data(word)), Some(body)) => {
-                    data::execute(word, command, *body, replies);
+            let size = ReplySize::of(spec, command);
+            is_full |= size == ReplySize::OfValue && !replies.has_room(first, MOST_OF_VALUE);
+            let done = match (spec.word, &mut body) {
+                _ if is_full && size != ReplySize::Short => Err(Fault::ReplyTooLarge.into()),
+                (Word::Data(_), Some(body)) => {
+                    data::answer(spec, command, *body, replies);
                     Ok(())
                 }
-                (Some(Word::Talk(word)), body) => {
+                (Word::Talk(word), body) => {
                     self.note_keys(word, body, cluster);
                     talk::answer(word, command, session, cluster, replies)
                 }
                 // None of these is queued.
-                (Some(Word::Data(_)), None)
+                (Word::Data(_), None)
                 | (
-                    None
-                    | Some(
-                        Word::Multi
-                        | Word::Exec
-                        | Word::Discard
-                        | Word::Scan
-                        | Word::ScanRange
-                        | Word::Control,
-                    ),
+                    Word::Multi
+                    | Word::Exec
+                    | Word::Discard
+                    | Word::Scan
+                    | Word::ScanRange
+                    | Word::Keys
+                    | Word::Flush
+                    | Word::Control,
                     _,
                 ) => Err(Fault::NotQueued.into()),
             };
             is_full |= replies.is_too_large(first);
             let done = match replies.are_whole() {
                 Err(refused) => Err(Fault::from(refused).into()),
-                Ok(()) if size == Size::OfRead && replies.is_too_large(first) => {
+                Ok(()) if size == ReplySize::OfRead && replies.is_too_large(first) => {
                     Err(Fault::ReplyTooLarge.into())
                 }
                 Ok(()) => done,
@@ -170,14 +174,14 @@ impl Transaction {
             | Select | Time => false,
         };
         if let (true, Some(shard), Some(body)) = (is_told, self.shard, body) {
-            cluster.note_keys(shard, body.keys());
+            cluster.storage.note_keys(shard, body.keys());
         }
     }
 }
 
 /// How large an answer may be, by which it is decided whether a command is done where the whole reply is full.
 #[derive(Clone, Copy, PartialEq, Eq)]
-enum Size {
+enum ReplySize {
     /// It is always done, and answered truly: where it changes something nobody is told that it didn't.
     Short,
     /// It changes something, and is answered by what was there: it is done where the largest value has room.
@@ -186,43 +190,21 @@ enum Size {
     OfRead,
 }
 
-impl Size {
-    fn of(word: Option<Word>, command: Command<'_>) -> Size {
-        match word {
-            Some(Word::Data(word)) => Size::of_data(word, command),
-            Some(Word::Talk(word)) => Size::of_talk(word),
-            // None of these is queued.
-            None
-            | Some(
-                Word::Multi
-                | Word::Exec
-                | Word::Discard
-                | Word::Scan
-                | Word::ScanRange
-                | Word::Control,
-            ) => Size::OfRead,
+impl ReplySize {
+    fn of(spec: &Spec, command: Command<'_>) -> ReplySize {
+        if spec.is_data() && !spec.effect.writes() {
+            return ReplySize::OfRead;
         }
-    }
-
-    fn of_data(word: DataWord, command: Command<'_>) -> Size {
-        use DataWord::*;
-        match word {
-            Get | GetRange | MGet | Exists | StrLen | Type => Size::OfRead,
-            GetDel | GetSet => Size::OfValue,
-            Set if (3..command.len()).any(|it| command.is(it, "GET")) => Size::OfValue,
-            Set | SetNx | Append | Decr | DecrBy | Del | Incr | IncrBy | MSet | MSetNx => {
-                Size::Short
+        match spec.answer {
+            AnswerSize::Short => ReplySize::Short,
+            AnswerSize::Value => ReplySize::OfValue,
+            AnswerSize::ValueWith(option) => {
+                match (3..command.len()).any(|it| command.is(it, option)) {
+                    true => ReplySize::OfValue,
+                    false => ReplySize::Short,
+                }
             }
-        }
-    }
-
-    fn of_talk(word: TalkWord) -> Size {
-        use TalkWord::*;
-        match word {
-            Auth | Client | Hello | Time => Size::Short,
-            Acl | Command | Config | DbSize | Echo | Info | Ping | Quit | Reset | Select => {
-                Size::OfRead
-            }
+            AnswerSize::Values | AnswerSize::Any => ReplySize::OfRead,
         }
     }
 }

@@ -10,7 +10,7 @@ const MOST_COUNT: i64 = 1_000;
 
 /// What SCAN is asked for.
 #[derive(Debug)]
-pub(super) struct Wanted {
+pub(super) struct WantedScan {
     pattern: Option<Pattern>,
     /// How many keys it looks at.
     pub(super) count: usize,
@@ -27,9 +27,9 @@ pub(super) struct WantedRange<'a> {
     pub(super) most: usize,
 }
 
-impl Wanted {
+impl WantedScan {
     /// What the command says; or why it isn't one.
-    pub(super) fn of(command: Command<'_>) -> Result<Wanted, Fault> {
+    pub(super) fn of(command: Command<'_>) -> Result<WantedScan, Fault> {
         let (mut pattern, mut count, mut is_none) = (None, USUAL_COUNT, false);
         for index in (2..command.len()).step_by(2) {
             if index + 1 == command.len() {
@@ -50,7 +50,7 @@ impl Wanted {
             }
         }
         let count = count.min(MOST_COUNT) as usize;
-        Ok(Wanted {
+        Ok(WantedScan {
             pattern,
             count,
             is_none,
@@ -74,6 +74,15 @@ impl<'a> WantedRange<'a> {
         let most = usize::try_from(most).unwrap_or(0).min(MAX_PAIRS);
         let high = (!high.is_empty()).then_some(high);
         Ok(WantedRange { low, high, most })
+    }
+}
+
+/// Refuses a FLUSHDB with other words than those that say how soon its memory is given back, which is at once.
+pub(super) fn check_flush(command: Command<'_>) -> Result<(), Fault> {
+    let is_known = ["SYNC", "ASYNC"].iter().any(|it| command.is(1, it));
+    match command.len() == 1 || command.len() == 2 && is_known {
+        true => Ok(()),
+        false => Err(Fault::Syntax),
     }
 }
 

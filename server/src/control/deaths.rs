@@ -1,18 +1,17 @@
 //! Leaders that die after each of their commands in turn, or whose store falters then: whoever leads ends what was
 //! under way.
-use super::leading::FIRST_WAIT;
-use super::stored::TURN;
-use super::StoredController;
-use super::{Asked, Campaigner};
-use crate::body::{InFolder, OnEtcd};
-use crate::cluster::{Cluster, Configuration};
-use crate::io::ReplyTo;
+use super::{Asked, Campaigner, ClusterHost, Controller, StoreBackend, Words};
+use crate::cluster::Cluster;
+use crate::configuration::Configuration;
+use crate::io::ReplyAddress;
 use crate::keyspace::Rule;
-use crate::peers::{Identity, Peers, Terms};
-use crate::resp::OwnedCommand;
-use crate::stored;
+use crate::settings;
+use crate::storage::{InFolder, OnEtcd, Storage};
+use crate::works::Peers;
 use durkenzo::Stand;
-use durkenzo_driver::{keys, Addresses, Control, Durable, Member, Own};
+use durkenzo_control::control::{FIRST_WAIT, TURN};
+use durkenzo_control::links::{Identity, Terms};
+use durkenzo_driver::{keys, Addresses, Durable, DurableControl, Member, Own};
 use durkenzo_store::{
     CompactError, Done, Embedded, LeaseError, LeaseId, ReadError, Reading, Store, Sync as SyncTime,
     Transaction, Watch, Watcher, WriteError,
@@ -229,17 +228,17 @@ impl Process {
         let peers = Arc::new(Peers::new(terms, member.clone(), configuration.wait));
         let elsewhere = peers.hand_over();
         let own = Own { member, elsewhere };
-        let (shards, tuning) = (configuration.rule.shards(), stored::tuning(configuration));
+        let (shards, tuning) = (configuration.rule.shards(), configuration.tuning());
         let durable = Durable::open_one(way.clone(), shards, tuning, own, Box::new(|| {}));
         let durable = Arc::new(durable.unwrap());
-        let storage = Box::new(OnEtcd::new(durable.clone(), peers.clone()));
-        let cluster = Arc::new(Cluster::new(configuration.clone(), storage).unwrap());
+        let storage = Storage::Etcd(OnEtcd::new(durable.clone(), peers.clone()));
+        let cluster = Arc::new(Cluster::new(configuration.clone(), storage));
         let (control, asked) = mpsc::sync_channel(9);
         let begun = peers.begin(listener, &durable, &cluster, control.clone());
         drop(begun.unwrap());
-        let line = stored::line(configuration);
-        let campaigner =
-            Campaigner::new(cluster.clone(), durable.clone(), peers.clone(), line, true);
+        let line = settings::line(configuration);
+        let host = Arc::new(ClusterHost::new(cluster.clone()).unwrap());
+        let campaigner = Campaigner::new(host, durable.clone(), peers.clone(), line, true);
         thread::spawn(move || campaigner.run(asked));
         Process {
             way,
@@ -295,12 +294,15 @@ impl Drop for Process {
 /// Asks a control, and gives where the answer comes.
 fn ask(control: &SyncSender<Asked>, words: &[&str]) -> Receiver<Vec<u8>> {
     let (tell, told) = mpsc::channel();
-    let reply_to = ReplyTo::process(move |answer| {
+    let reply_to = ReplyAddress::process(move |answer| {
         // Who dies isn't told.
         let _ = tell.send(answer);
     });
-    let command = OwnedCommand::of(words);
-    control.send(Asked { command, reply_to }).unwrap();
+    let asked = Asked {
+        words: Words::of(words),
+        reply_to: Box::new(reply_to),
+    };
+    control.send(asked).unwrap();
     told
 }
 
@@ -331,7 +333,7 @@ impl Three {
         if is_full {
             let each = format!("\"capacity\":{}", SHARDS / SERVERS);
             let much = format!("\"capacity\":{}", u32::MAX);
-            let line = stored::line(&configuration).replace(&much, &each);
+            let line = settings::line(&configuration).replace(&much, &each);
             configuration.settings = Some(line.into());
         }
         let start = |it| Process::begin(&store, it, &configuration);
@@ -361,9 +363,9 @@ impl Three {
         self.first.kill();
     }
 
-    /// That the control wants nothing more.
-    fn nothing_is_wished(&self) {
-        wait_until("nothing is wished for", || {
+    /// That the control intends nothing more.
+    fn nothing_is_intended(&self) {
+        wait_until("nothing is intended", || {
             let lies = |prefix| !self.store.read_all(prefix).unwrap().pairs.is_empty();
             !lies(keys::DRAINS) && !lies(keys::HOMES)
         });
@@ -477,7 +479,7 @@ fn a_drain_for_a_restart_is_ended_by_the_next_leader() {
             !(1..=SERVERS).any(|it| second.durable.is_away(it))
         });
         three.stands_become(of_third);
-        three.nothing_is_wished();
+        three.nothing_is_intended();
         drop((first, third));
     });
 }
@@ -494,7 +496,7 @@ fn shards_come_home_by_the_next_leader() {
         let third = three.start(3);
         three.await_death();
         three.stands_become(of_third);
-        three.nothing_is_wished();
+        three.nothing_is_intended();
         three.stands_become(|them| them.iter().all(|it| matches!(it, Stand::Serving(2 | 3))));
         drop(third);
     });
@@ -509,7 +511,7 @@ fn a_drain_is_ended_by_the_next_leader() {
         three.first.ask(&["SM", "DRAIN", "3"]);
         three.await_death();
         three.stands_become(|them| them.iter().all(|it| *it == Stand::Serving(2)));
-        three.nothing_is_wished();
+        three.nothing_is_intended();
     });
 }
 
@@ -522,7 +524,7 @@ fn who_drains_a_server_is_told_where_its_shards_went() {
         b"*2\r\n$3\r\n2>1\r\n$3\r\n5>1\r\n"
     );
     assert_eq!(told(&["SM", "DRAIN", "3"]), b"*0\r\n");
-    three.nothing_is_wished();
+    three.nothing_is_intended();
 }
 
 /// Three processes of these settings, of which the first leads; each of its commands takes so long.
@@ -577,7 +579,7 @@ fn all_processes_are_not_restarted_at_once() {
     let three = Three::begin(false);
     let told = three.first.ask(&["SM", "RESTART"]).recv_timeout(PATIENCE);
     assert!(told.unwrap().starts_with(b"-REFUSED OneByOne: "));
-    three.nothing_is_wished();
+    three.nothing_is_intended();
 }
 
 #[test]
@@ -593,7 +595,7 @@ fn a_shard_that_somebody_moves_stays_there() {
     three.third.kill();
     let third = three.start(3);
     three.stands_become(|them| them[2] == Stand::Serving(3));
-    three.nothing_is_wished();
+    three.nothing_is_intended();
     assert_eq!(three.second.stand(5), Stand::Serving(2));
     drop((first, third));
 }
@@ -614,7 +616,7 @@ fn a_shard_that_somebody_moves_while_nobody_leads_stays_there() {
     assert!(told.starts_with(b"-REFUSED SameServer"));
     let third = three.start(3);
     three.stands_become(|them| them[2] == Stand::Serving(3));
-    three.nothing_is_wished();
+    three.nothing_is_intended();
     assert_eq!(three.second.stand(5), Stand::Serving(2));
     drop(third);
 }
@@ -741,7 +743,7 @@ fn a_leader_whose_store_falters_ends_a_drain() {
     at_each_falter(8, |three| {
         three.first.ask(&["SM", "DRAIN", "3"]);
         three.stands_become(|them| them.iter().all(|it| matches!(it, Stand::Serving(1 | 2))));
-        three.nothing_is_wished();
+        three.nothing_is_intended();
     });
 }
 
@@ -763,13 +765,15 @@ fn alone() -> (Arc<Way>, Arc<Durable>, SyncSender<Asked>) {
         servers: SERVERS,
         ..Configuration::new(Rule::Hash(SHARDS))
     };
-    let tuning = stored::tuning(&configuration);
+    let tuning = configuration.tuning();
     let durable = Arc::new(Durable::open(way.clone(), SHARDS, tuning, Box::new(|| {})).unwrap());
-    let storage = Box::new(InFolder::new(durable.clone(), SyncTime::No));
-    let line = stored::line(&configuration);
-    let cluster = Arc::new(Cluster::new(configuration, storage).unwrap());
-    let control = Control::lead(durable.clone(), &line).unwrap();
-    let mut controller = StoredController::new(cluster, control).unwrap();
+    let storage = Storage::Folder(InFolder::new(durable.clone(), SyncTime::No));
+    let line = settings::line(&configuration);
+    let cluster = Arc::new(Cluster::new(configuration, storage));
+    let control = DurableControl::lead(durable.clone(), &line).unwrap();
+    let backend = StoreBackend::alone(control, durable.clone());
+    let host = Arc::new(ClusterHost::new(cluster).unwrap());
+    let mut controller = Controller::new(host, Box::new(backend));
     controller.begin(true).unwrap();
     let (control, asked) = mpsc::sync_channel(9);
     thread::spawn(move || controller.run(asked));

@@ -1,31 +1,42 @@
-//! The control: who owns a shard, and which server is restarted, as `SM` asks. It has a thread of its own.
-mod campaigner;
-mod change;
-mod controller;
+//! The control of this server: `durkenzo_control`, with what it needs of a server for Redis clients round it.
+mod cluster_host;
 #[cfg(test)]
 mod deaths;
-mod drain;
-mod dumping;
-mod help;
-mod homes;
-mod leading;
-mod loading;
-mod migration;
-mod mover;
-mod moving;
-mod refusal;
-mod restart;
-mod restarting;
-mod returning;
+mod dump;
+mod load;
+mod memory_backend;
+mod notice;
+mod others;
+mod refusals;
+mod reply;
 mod routes;
-mod spreading;
-mod standings;
-mod stored;
-mod task;
-mod waiting;
 
-pub use campaigner::Campaigner;
-pub use controller::{Asked, Controller, MOST_ASKED};
-pub use refusal::Refusal;
-pub use stored::StoredController;
-pub use waiting::{Again, Waiting};
+pub use cluster_host::ClusterHost;
+pub use durkenzo_control::control::{
+    Again, Asked, Backend, Campaigner, Controller, Refusal, StoreBackend, Waiting, Words,
+    MOST_ASKED,
+};
+pub use memory_backend::MemoryBackend;
+
+use crate::io::ReplyAddress;
+use crate::resp::{Command, OwnedCommand};
+use durkenzo_control::control;
+
+/// Returns whether every role may send this command of SM.
+pub fn is_of_all(command: Command<'_>) -> bool {
+    control::is_of_all(command.get(1))
+}
+
+/// Returns the command as the control takes it.
+pub fn asked(command: Command<'_>, reply_to: ReplyAddress) -> Asked {
+    Asked {
+        words: Words::of(command.iter()),
+        reply_to: Box::new(reply_to),
+    }
+}
+
+/// Returns the bytes of the command, as a client would send it.
+pub fn spelled(words: &Words) -> Vec<u8> {
+    let words: Vec<_> = words.iter().collect();
+    OwnedCommand::of(&words).spell()
+}

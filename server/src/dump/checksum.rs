@@ -1,12 +1,12 @@
 /// A sum of all bytes in their order, by which files that were cut or changed by chance are told from whole ones:
 /// FNV-1a of 64 bits.
 #[derive(Clone, Copy, Debug)]
-pub(super) struct Checksum(u64);
+pub(super) struct DumpChecksum(u64);
 
-impl Checksum {
+impl DumpChecksum {
     /// That of no bytes.
-    pub(super) fn new() -> Checksum {
-        Checksum(0xcbf2_9ce4_8422_2325)
+    pub(super) fn new() -> DumpChecksum {
+        DumpChecksum(0xcbf2_9ce4_8422_2325)
     }
 
     /// Takes these bytes in.
@@ -28,7 +28,7 @@ mod tests {
 
     #[test]
     fn sums_are_those_of_fnv() {
-        let mut sum = Checksum::new();
+        let mut sum = DumpChecksum::new();
         sum.take(b"foo");
         sum.take(b"bar");
         assert_eq!(sum.sum(), 0x8594_4171_f739_67e8);

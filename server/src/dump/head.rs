@@ -9,7 +9,7 @@ pub(super) const MAX_GENERATION: u64 = 1 << 62;
 /// Of what a dump is.
 #[derive(Clone, Debug, PartialEq, Eq, Serialize, Deserialize)]
 #[serde(deny_unknown_fields)]
-pub struct Head {
+pub struct DumpHead {
     /// Servers 1 to this one.
     pub servers: u16,
     /// How many shards there are.
@@ -18,10 +18,10 @@ pub struct Head {
     pub bounds: Option<Vec<Vec<u8>>>,
 }
 
-impl Head {
+impl DumpHead {
     /// That of so many servers, and shards by this rule.
-    pub fn new(servers: u16, rule: &Rule) -> Head {
-        Head {
+    pub fn new(servers: u16, rule: &Rule) -> DumpHead {
+        DumpHead {
             servers,
             shards: rule.shards(),
             bounds: match rule {
@@ -33,7 +33,7 @@ impl Head {
 
     /// Refused where a server that is as this one tells can't take the other's shards: it has fewer servers, or gives
     /// keys to other shards.
-    pub fn takes(&self, other: &Head) -> Result<(), DumpFault> {
+    pub fn takes(&self, other: &DumpHead) -> Result<(), DumpFault> {
         if other.servers <= self.servers
             && (other.shards, &other.bounds) == (self.shards, &self.bounds)
         {

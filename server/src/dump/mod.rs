@@ -13,7 +13,7 @@ mod restore;
 mod writer;
 
 pub use fault::DumpFault;
-pub use head::{Head, ShardHead};
+pub use head::{DumpHead, ShardHead};
 pub use reader::{read, Loaded};
 pub use restore::restore;
 pub use writer::{shard_text, DumpFile};

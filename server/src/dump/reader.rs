@@ -1,7 +1,7 @@
-use super::checksum::Checksum;
+use super::checksum::DumpChecksum;
 use super::writer::path_of;
-use super::{DumpFault, Head, ShardHead, MAGIC, VERSION};
-use crate::body::{Reply, Request, Shard, Storage, Value, MAX_KEY, MAX_TEXT};
+use super::{DumpFault, DumpHead, ShardHead, MAGIC, VERSION};
+use crate::body::{new_shard, BodyReply, BodyRequest, BoxedBody, ValueRef, MAX_KEY, MAX_TEXT};
 use crate::memory;
 use rustix::fs::OFlags;
 use std::fs::{File, OpenOptions};
@@ -19,20 +19,15 @@ pub struct Loaded {
     /// How each shard stood.
     pub heads: Vec<ShardHead>,
     /// What each shard holds.
-    pub bodies: Vec<Shard>,
+    pub bodies: Vec<BoxedBody>,
 }
 
-/// Reads the whole file of this name in the folder, for a server with this head, whose data lies there.
-pub fn read(
-    folder: &Path,
-    name: &str,
-    head: &Head,
-    storage: &dyn Storage,
-) -> Result<Loaded, DumpFault> {
+/// Reads the whole file of this name in the folder, for a server with this head.
+pub fn read(folder: &Path, name: &str, head: &DumpHead) -> Result<Loaded, DumpFault> {
     let file = opened(&path_of(folder, name)?)?;
-    let mut dump = Dump {
+    let mut dump = DumpInput {
         file: BufReader::new(file),
-        sum: Checksum::new(),
+        sum: DumpChecksum::new(),
     };
     head.takes(&dump.head()?)?;
     let mut loaded = Loaded {
@@ -43,7 +38,7 @@ pub fn read(
         let line = dump.line(MAX_LINE)?;
         let head = shard_of(&line).filter(|it| it.shard == shard);
         let head = head.ok_or(DumpFault::Torn)?;
-        let mut body = storage.open(shard).map_err(|_| DumpFault::NoMemory)?;
+        let mut body = new_shard().map_err(|_| DumpFault::NoMemory)?;
         for _ in 0..head.pairs {
             dump.pair(&mut body)?;
         }
@@ -76,12 +71,12 @@ fn shard_of(line: &str) -> Option<ShardHead> {
 }
 
 /// A file that is read from its front.
-struct Dump {
+struct DumpInput {
     file: BufReader<File>,
-    sum: Checksum,
+    sum: DumpChecksum,
 }
 
-impl Dump {
+impl DumpInput {
     /// The next line without its end, of at most so many bytes.
     fn line(&mut self, most: u64) -> Result<String, DumpFault> {
         let mut line = Vec::new();
@@ -93,7 +88,7 @@ impl Dump {
         }
     }
 
-    fn head(&mut self) -> Result<Head, DumpFault> {
+    fn head(&mut self) -> Result<DumpHead, DumpFault> {
         let first = self.line(MAX_LINE).map_err(|fault| match fault {
             DumpFault::Torn => DumpFault::Foreign,
             other => other,
@@ -117,7 +112,7 @@ impl Dump {
     }
 
     /// Has the body hold the next pair.
-    fn pair(&mut self, body: &mut Shard) -> Result<(), DumpFault> {
+    fn pair(&mut self, body: &mut BoxedBody) -> Result<(), DumpFault> {
         let line = self.line(MAX_LINE)?;
         let words: Vec<_> = line.split(' ').collect();
         let [kind, length, rest] = words[..] else {
@@ -127,18 +122,18 @@ impl Dump {
         let key = self.bytes(length.ok_or(DumpFault::Torn)?)?;
         let text;
         let value = match kind {
-            "count" => Value::Count(rest.parse().map_err(|_| DumpFault::Torn)?),
+            "count" => ValueRef::Count(rest.parse().map_err(|_| DumpFault::Torn)?),
             "text" => {
                 text = self.bytes(bounded(rest, MAX_TEXT).ok_or(DumpFault::Torn)?)?;
-                Value::Text(&text)
+                ValueRef::Text(&text)
             }
             _ => return Err(DumpFault::Torn),
         };
         if self.bytes(1)? != b"\n" {
             return Err(DumpFault::Torn);
         }
-        match body.apply(Request::Put(&key, value)) {
-            Reply::Refused(_) => Err(DumpFault::NoMemory),
+        match body.apply(BodyRequest::Put(&key, value)) {
+            BodyReply::Refused(_) => Err(DumpFault::NoMemory),
             _ => Ok(()),
         }
     }
@@ -164,13 +159,12 @@ mod tests {
     use super::super::head::MAX_GENERATION;
     use super::super::{shard_text, DumpFile};
     use super::*;
-    use crate::body::Memory;
     use crate::keyspace::Rule;
     use durkenzo::{Record, Stand};
     use std::fs;
 
-    fn head() -> Head {
-        Head::new(2, &Rule::Bounds(vec![Vec::new(), b"m".to_vec()]))
+    fn head() -> DumpHead {
+        DumpHead::new(2, &Rule::Bounds(vec![Vec::new(), b"m".to_vec()]))
     }
 
     /// A folder of its own, with a dump of two shards, and the bytes of that.
@@ -184,14 +178,14 @@ mod tests {
         fs::create_dir_all(&folder).unwrap();
         let mut file = DumpFile::create(&folder, "dump", &head()).unwrap();
         for shard in 0..2 {
-            let mut body = Memory.open(shard).unwrap();
+            let mut body = new_shard().unwrap();
             for number in 0..250 {
                 let key = format!("key {number}\n");
                 let value = match number % 2 {
-                    0 => Value::Count(number - 100),
-                    _ => Value::Text(b"two\nlines"),
+                    0 => ValueRef::Count(number - 100),
+                    _ => ValueRef::Text(b"two\nlines"),
                 };
-                body.apply(Request::Put(key.as_bytes(), value));
+                body.apply(BodyRequest::Put(key.as_bytes(), value));
             }
             let (text, pairs) = shard_text(body.as_mut()).unwrap();
             let stand = Stand::Forwarding { owner: 1, next: 2 };
@@ -211,7 +205,7 @@ mod tests {
     #[test]
     fn what_was_written_is_read() {
         let (folder, _) = dumped("whole");
-        let mut loaded = read(&folder, "dump", &head(), &Memory).unwrap();
+        let mut loaded = read(&folder, "dump", &head()).unwrap();
         assert_eq!(
             loaded.heads[1].stand,
             Stand::Forwarding { owner: 1, next: 2 }
@@ -220,8 +214,8 @@ mod tests {
             (loaded.heads[0].generation, loaded.bodies[0].keys()),
             (9, 250)
         );
-        let told = loaded.bodies[1].apply(Request::Get(b"key 4\n"));
-        assert_eq!(told, Reply::Value(Value::Count(-96)));
+        let told = loaded.bodies[1].apply(BodyRequest::Get(b"key 4\n"));
+        assert_eq!(told, BodyReply::Value(ValueRef::Count(-96)));
         fs::remove_dir_all(folder).unwrap();
     }
 
@@ -230,7 +224,7 @@ mod tests {
         let (folder, bytes) = dumped("torn");
         let name = |bytes: &[u8]| {
             fs::write(folder.join("other"), bytes).unwrap();
-            let read = read(&folder, "other", &head(), &Memory);
+            let read = read(&folder, "other", &head());
             read.map(|_| "Read").unwrap_or_else(|fault| fault.name())
         };
         assert_eq!(name(&bytes), "Read");
@@ -258,7 +252,7 @@ mod tests {
             (u64::MAX, "TornFile"),
         ] {
             let (folder, _) = dumped_at("high", generation);
-            let read = read(&folder, "dump", &head(), &Memory);
+            let read = read(&folder, "dump", &head());
             let found = read.map_or_else(|fault| fault.name(), |_| "Read");
             assert_eq!(found, wanted, "{generation}");
             fs::remove_dir_all(folder).unwrap();
@@ -268,8 +262,8 @@ mod tests {
     #[test]
     fn other_shards_and_names_are_refused() {
         let (folder, _) = dumped("other");
-        let other = Head::new(1, &Rule::Hash(2));
-        let name = |name, head| read(&folder, name, head, &Memory).err().unwrap().name();
+        let other = DumpHead::new(1, &Rule::Hash(2));
+        let name = |name, head| read(&folder, name, head).err().unwrap().name();
         assert_eq!(name("dump", &other), "OtherShards");
         assert_eq!(name("none", &other), "BadFile");
         for wrong in ["", ".", "..", "../dump", "a/b", "-x", "dump.part"] {

@@ -1,16 +1,16 @@
 use super::{DumpFault, ShardHead};
-use crate::body::Shard;
+use crate::body::BoxedBody;
 use durkenzo::{ChangeFault, Control, Stand};
 
 /// Has each shard of a board on which nobody owns one stand as its head says.
-pub fn restore(control: &Control<Shard>, heads: &[ShardHead]) -> Result<(), DumpFault> {
+pub fn restore(control: &Control<BoxedBody>, heads: &[ShardHead]) -> Result<(), DumpFault> {
     heads.iter().try_for_each(|head| {
         let made = restore_one(control, head.shard, head.stand);
         made.map_err(|fault| DumpFault::Stand(head.shard, fault))
     })
 }
 
-fn restore_one(control: &Control<Shard>, shard: u16, stand: Stand) -> Result<(), ChangeFault> {
+fn restore_one(control: &Control<BoxedBody>, shard: u16, stand: Stand) -> Result<(), ChangeFault> {
     let prepare = |owner, next| {
         control.assign(shard, owner)?;
         control.prepare_add_shard(shard, next)

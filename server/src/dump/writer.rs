@@ -1,7 +1,7 @@
-use super::checksum::Checksum;
+use super::checksum::DumpChecksum;
 use super::reader::opened;
-use super::{DumpFault, Head, MAGIC, VERSION};
-use crate::body::{Range, Refusal, Reply, Request, ShardBody, Value, MAX_PAIRS};
+use super::{DumpFault, DumpHead, MAGIC, VERSION};
+use crate::body::{BodyRefusal, BodyReply, BodyRequest, RangeRef, ShardBody, ValueRef, MAX_PAIRS};
 use crate::memory::{self, NoRoom};
 use std::fs::{self, DirBuilder, File};
 use std::io::{BufWriter, ErrorKind, Read, Write};
@@ -20,7 +20,7 @@ pub struct DumpFile {
     file: BufWriter<File>,
     path: PathBuf,
     part: PathBuf,
-    sum: Checksum,
+    sum: DumpChecksum,
     shards: u16,
     pairs: u64,
     is_whole: bool,
@@ -45,7 +45,7 @@ impl DumpFile {
     ///
     /// Returns `BadName` of a name that isn't a file's, `Taken` where something of the name isn't a dump, and `File`
     /// where the system refuses.
-    pub fn create(folder: &Path, name: &str, head: &Head) -> Result<DumpFile, DumpFault> {
+    pub fn create(folder: &Path, name: &str, head: &DumpHead) -> Result<DumpFile, DumpFault> {
         let path = path_of(folder, name)?;
         let mut folders = DirBuilder::new();
         folders.recursive(true).mode(FOLDER_MODE).create(folder)?;
@@ -55,7 +55,7 @@ impl DumpFile {
             file: BufWriter::new(file),
             path,
             part,
-            sum: Checksum::new(),
+            sum: DumpChecksum::new(),
             shards: 0,
             pairs: 0,
             is_whole: false,
@@ -136,22 +136,22 @@ pub(super) fn path_of(folder: &Path, name: &str) -> Result<PathBuf, DumpFault> {
 }
 
 /// The pairs of a shard as they are written, and how many there are; or why they aren't told.
-pub fn shard_text(body: &mut dyn ShardBody) -> Result<(Vec<u8>, u64), Refusal> {
+pub fn shard_text(body: &mut dyn ShardBody) -> Result<(Vec<u8>, u64), BodyRefusal> {
     let (mut text, mut count, mut last, mut most) = (Vec::new(), 0, None::<Vec<u8>>, MAX_PAIRS);
     loop {
-        let range = Range {
+        let range = RangeRef {
             low: last.as_deref().map_or(Bound::Unbounded, Bound::Excluded),
             high: None,
             most,
         };
-        let pairs = match body.apply(Request::Scan(range)) {
-            Reply::Pairs(pairs) => pairs,
+        let pairs = match body.apply(BodyRequest::Scan(range)) {
+            BodyReply::Pairs(pairs) => pairs,
             // There may be memory for fewer.
-            Reply::Refused(Refusal::NoMemory) if most > 1 => {
+            BodyReply::Refused(BodyRefusal::NoMemory) if most > 1 => {
                 most /= 2;
                 continue;
             }
-            Reply::Refused(refusal) => return Err(refusal),
+            BodyReply::Refused(refusal) => return Err(refusal),
             _ => Vec::new(),
         };
         let Some((key, _)) = pairs.last() else {
@@ -159,17 +159,17 @@ pub fn shard_text(body: &mut dyn ShardBody) -> Result<(Vec<u8>, u64), Refusal> {
             return Ok((text, count));
         };
         let mut written = pairs.iter().map(|it| write_pair(*it, &mut text));
-        written.try_for_each(|it| it.map_err(|NoRoom| Refusal::NoMemory))?;
+        written.try_for_each(|it| it.map_err(|NoRoom| BodyRefusal::NoMemory))?;
         count += pairs.len() as u64;
         last = Some(key.to_vec());
     }
 }
 
-fn write_pair((key, value): (&[u8], Value<'_>), text: &mut Vec<u8>) -> Result<(), NoRoom> {
+fn write_pair((key, value): (&[u8], ValueRef<'_>), text: &mut Vec<u8>) -> Result<(), NoRoom> {
     let length = key.len();
     let (head, tail) = match value {
-        Value::Text(told) => (format!("text {length} {}\n", told.len()), told),
-        Value::Count(count) => (format!("count {length} {count}\n"), &b""[..]),
+        ValueRef::Text(told) => (format!("text {length} {}\n", told.len()), told),
+        ValueRef::Count(count) => (format!("count {length} {count}\n"), &b""[..]),
     };
     for bytes in [head.as_bytes(), key, tail, b"\n"] {
         memory::append(text, bytes)?;

@@ -1,121 +1,38 @@
 use crate::cluster::Cluster;
-use crate::log;
-use crate::memory::{resident, used, CEILING};
-use crate::peers::Peers;
+use crate::metric::{self, Metric, Source};
 use crate::snapshot::Snapshot;
-use crate::stats::{Stats, LATENCY_BOUNDS};
+use crate::stats::LATENCY_BOUNDS;
 use prometheus::{Encoder, IntCounterVec, IntGaugeVec, Opts, Registry, TextEncoder};
 
-/// A count of each thread: its name, what it is, and where it stands.
-type OfThreads = (&'static str, &'static str, fn(&Stats) -> u64);
-
-/// The same where servers have a process each.
-type OfProcesses = (&'static str, &'static str, fn(&Peers) -> u64);
-
-const DONE: &str = "Commands that were done, refused ones among them";
-const FORWARDED: &str = "Requests that a server forwarded to the one that executed them";
-const RACED: &str = "Tries that found a shard with another thread";
-const WAITED: &str = "Commands that began to wait for a shard that nobody executes";
-const REFUSED: &str = "Commands that waited in vain";
 const LATENCY: &str =
     "Seconds from when commands were there to be read, or began to wait, until they were answered";
-const DROPPED: &str = "Lines that are missing in the log, because nobody read it";
-const WAITING: &str = "Connections whose next command waits for a shard";
-const OF_THREADS: [OfThreads; 10] = [
-    ("commands_total", DONE, |it| it.commands.get()),
-    ("forwarded_total", FORWARDED, |it| it.forwarded.get()),
-    ("raced_total", RACED, |it| it.raced.get()),
-    ("waited_total", WAITED, |it| it.waited.get()),
-    ("refused_total", REFUSED, |it| it.refused.get()),
-    ("accepted_total", "Connections that came", |it| {
-        it.accepted.get()
-    }),
-    ("connections", "Connections that are open", |it| {
-        it.open.get()
-    }),
-    ("waiting", WAITING, |it| it.waiting.get()),
-    ("received_bytes_total", "Bytes that came", |it| {
-        it.received.get()
-    }),
-    ("sent_bytes_total", "Bytes that went", |it| it.sent.get()),
-];
-
-const SENT: &str = "Works that went to other processes";
-const CAME: &str = "Works that came from other processes";
-const AGAIN: &str = "Works that came back and went on here";
-const UNASKED: &str = "Works for which a process couldn't be asked";
-const KEPT: &str =
-    "Processes whose last requests shards may keep: there is room for 16 whose rounds were full";
-const CLIENTS: &str =
-    "Clients whose last request is kept, at the shard that keeps most: 131072 are a full one";
-/// What there is where servers have a process each: its name, what it is, and where it stands.
-const OF_PROCESSES: [OfProcesses; 11] = [
-    ("works_sent_total", SENT, |it| it.counts().sent()),
-    ("works_came_total", CAME, |it| it.counts().came()),
-    ("works_again_total", AGAIN, |it| it.counts().again()),
-    ("works_refused_total", UNASKED, |it| it.counts().refused()),
-    (
-        "processes_reached",
-        "Processes that this one has reached",
-        |it| it.connections().0 as u64,
-    ),
-    (
-        "processes_answered",
-        "Processes that reached this one",
-        |it| it.connections().1 as u64,
-    ),
-    ("servers_there", "Servers whose process is there", |it| {
-        it.member().members().len() as u64
-    }),
-    ("processes_kept", KEPT, |it| it.member().processes_kept()),
-    ("leads", "Whether this process leads", |it| {
-        u64::from(it.leader() == Some(it.member().server()))
-    }),
-    ("led", "Whether a process leads", |it| {
-        u64::from(it.leader().is_some())
-    }),
-    ("lease_kept", "Whether this process has a lease", |it| {
-        u64::from(it.member().lease().is_some())
-    }),
-];
 
 /// How all stands, in the text format of Prometheus.
 pub(super) fn text(cluster: &Cluster, snapshot: &Snapshot) -> prometheus::Result<Vec<u8>> {
     let registry = Registry::new_custom(Some("durkenzo".into()), None)?;
-    for (name, help, of) in OF_THREADS {
-        let family = Family::new(&registry, name, help, &["thread"])?;
-        for (thread, inlet) in cluster.inlets().iter().enumerate() {
-            family.set(&[&thread.to_string()], of(inlet.stats()));
-        }
+    for metric in metric::all() {
+        told(&registry, metric, cluster)?;
     }
     servers(&registry, cluster, snapshot)?;
     by_name(&registry, cluster)?;
     shards(&registry, snapshot)?;
-    if let Some(durable) = cluster.storage.durable() {
-        let kept = Family::new(&registry, "clients_kept", CLIENTS, &[])?;
-        kept.set(&[], durable.clients_kept() as u64);
-    }
-    if let Some(peers) = cluster.storage.peers() {
-        processes(&registry, peers)?;
-    }
-    let uptime = Family::new(&registry, "uptime_seconds", "Seconds since the start", &[])?;
-    uptime.set(&[], cluster.started.elapsed().as_secs());
-    let dropped = Family::new(&registry, "log_lines_dropped_total", DROPPED, &[])?;
-    dropped.set(&[], log::dropped());
-    memory(&registry)?;
     let mut text = Vec::new();
     TextEncoder::new().encode(&registry.gather(), &mut text)?;
     text.extend_from_slice(latencies(cluster).as_bytes());
     Ok(text)
 }
 
-fn memory(registry: &Registry) -> prometheus::Result<()> {
-    for (name, help, bytes) in [
-        ("memory_bytes", "Memory of the process", resident()),
-        ("memory_used_bytes", "Memory that is in use", used()),
-        ("memory_max_bytes", "--max-memory, or 0", CEILING.most()),
-    ] {
-        Family::new(registry, name, help, &[])?.set(&[], bytes);
+/// Adds a number of the table, for each thread if threads have it. A number that this process hasn't isn't told.
+fn told(registry: &Registry, metric: &Metric, cluster: &Cluster) -> prometheus::Result<()> {
+    let Source::Thread(of) = metric.source else {
+        if let Some(value) = metric.value(cluster) {
+            Family::new(registry, &metric.family(), metric.help, &[])?.set(&[], value);
+        }
+        return Ok(());
+    };
+    let threads = Family::new(registry, &metric.family(), metric.help, &["thread"])?;
+    for (thread, inlet) in cluster.inlets().iter().enumerate() {
+        threads.set(&[&thread.to_string()], of(inlet.stats()));
     }
     Ok(())
 }
@@ -185,14 +102,6 @@ fn servers(registry: &Registry, cluster: &Cluster, snapshot: &Snapshot) -> prome
             requests.set(&[&server, "error"], of.errors.get());
             requests.set(&[&server, "done"], of.done.get());
         }
-    }
-    Ok(())
-}
-
-/// What there is between this process and others of its cluster.
-fn processes(registry: &Registry, peers: &Peers) -> prometheus::Result<()> {
-    for (name, help, of) in OF_PROCESSES {
-        Family::new(registry, name, help, &[])?.set(&[], of(peers));
     }
     Ok(())
 }

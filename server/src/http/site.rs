@@ -2,10 +2,10 @@ use super::{metrics, undated};
 use crate::cluster::Cluster;
 use crate::memory;
 use crate::observer::Observer;
-use crate::run::Fault;
+use crate::run::BoxError;
 use crate::snapshot::Snapshot;
-use crate::tls::ClientsTls;
 use durkenzo::PassFault;
+use durkenzo_control::tls::ClientsTls;
 use hyper::header::{CACHE_CONTROL, CONTENT_TYPE};
 use hyper::server::conn::Http;
 use hyper::service::service_fn;
@@ -42,7 +42,7 @@ struct Site {
 }
 
 /// Serves there for as long as it is polled.
-pub async fn serve(cluster: Arc<Cluster>, listener: TcpListener) -> Result<(), Fault> {
+pub async fn serve(cluster: Arc<Cluster>, listener: TcpListener) -> Result<(), BoxError> {
     let site = Arc::new(Site { cluster });
     tracing::info!(address = %listener.local_addr()?, "page, /metrics and /healthz");
     let configuration = &site.cluster.configuration;
@@ -180,22 +180,22 @@ fn told(status: StatusCode, kind: &'static str, body: impl Into<Body>) -> Respon
 #[cfg(test)]
 mod tests {
     use super::*;
-    use crate::body::{Memory, Shard, Storage};
-    use crate::cluster::Configuration;
+    use crate::body::new_shard;
+    use crate::configuration::Configuration;
     use crate::keyspace::Rule;
+    use crate::storage::{InMemory, Storage};
 
     #[test]
     fn no_earlier_board_is_kept_for_the_page() {
         let configuration = Configuration::new(Rule::Hash(1));
-        let cluster = Cluster::new(configuration, Box::new(Memory)).unwrap();
-        let cluster = Arc::new(cluster);
-        let site = Site {
-            cluster: cluster.clone(),
-        };
+        let memory = Arc::new(InMemory::new(&configuration).unwrap());
+        let storage = Storage::Memory(memory.clone());
+        let cluster = Arc::new(Cluster::new(configuration, storage));
+        let site = Site { cluster };
         assert_eq!(site.snapshot().unwrap().shards.len(), 1);
-        let bodies: Vec<Shard> = vec![Memory.open(0).unwrap()];
-        let (before, opened) = (cluster.board(), cluster.open(&[], bodies).unwrap());
-        cluster.take(opened, &[0]);
+        let bodies = vec![new_shard().unwrap()];
+        let (before, opened) = (memory.board(), memory.open(&[], bodies).unwrap());
+        memory.take(opened, &[0]);
         assert!(before.into_bodies().is_ok());
     }
 }

@@ -159,8 +159,7 @@ fn is_of_the_client(error: &io::Error) -> bool {
 #[cfg(test)]
 mod tests {
     use super::*;
-    use crate::body::Memory;
-    use crate::cluster::Configuration;
+    use crate::configuration::Configuration;
     use crate::io::Inlet;
     use crate::keyspace::Rule;
 
@@ -170,7 +169,7 @@ mod tests {
             most_clients,
             ..Configuration::new(Rule::Hash(1))
         };
-        let cluster = Arc::new(Cluster::new(configuration, Box::new(Memory)).unwrap());
+        let cluster = Arc::new(Cluster::in_memory(configuration).unwrap());
         let polls = [Poll::new().unwrap(), Poll::new().unwrap()];
         let inlets = polls.each_ref().map(|it| Inlet::new(it, 1).map(Arc::new));
         let inlets = inlets.map(Result::unwrap);

@@ -13,7 +13,7 @@ const TERM: u32 = 32_768;
 pub(super) struct BusyPoll {
     most: Duration,
     comes_soon: bool,
-    stage: Stage,
+    stage: PollStage,
     /// How many waits are left of the stage.
     left: u32,
     /// How long its waits took, of which each counts as twice the most at most.
@@ -21,7 +21,7 @@ pub(super) struct BusyPoll {
 }
 
 #[derive(Clone, Copy, Debug, PartialEq, Eq)]
-enum Stage {
+enum PollStage {
     TryPolling,
     /// After polling took so long.
     TrySleeping(Duration),
@@ -35,7 +35,7 @@ impl BusyPoll {
         BusyPoll {
             most,
             comes_soon: true,
-            stage: Stage::TryPolling,
+            stage: PollStage::TryPolling,
             left: TRIAL,
             spent: Duration::ZERO,
         }
@@ -43,7 +43,7 @@ impl BusyPoll {
 
     /// Whether to poll.
     pub(super) fn begins(&self) -> bool {
-        let polls = matches!(self.stage, Stage::TryPolling | Stage::Poll);
+        let polls = matches!(self.stage, PollStage::TryPolling | PollStage::Poll);
         polls && self.comes_soon && !self.most.is_zero()
     }
 
@@ -64,12 +64,12 @@ impl BusyPoll {
     }
 
     /// The next stage, and of how many waits it is.
-    fn next(&self) -> (Stage, u32) {
+    fn next(&self) -> (PollStage, u32) {
         match self.stage {
-            Stage::TryPolling => (Stage::TrySleeping(self.spent), TRIAL),
-            Stage::TrySleeping(polling) if polling < self.spent => (Stage::Poll, TERM),
-            Stage::TrySleeping(_) => (Stage::Sleep, TERM),
-            Stage::Poll | Stage::Sleep => (Stage::TryPolling, TRIAL),
+            PollStage::TryPolling => (PollStage::TrySleeping(self.spent), TRIAL),
+            PollStage::TrySleeping(polling) if polling < self.spent => (PollStage::Poll, TERM),
+            PollStage::TrySleeping(_) => (PollStage::Sleep, TERM),
+            PollStage::Poll | PollStage::Sleep => (PollStage::TryPolling, TRIAL),
         }
     }
 }

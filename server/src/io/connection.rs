@@ -1,7 +1,7 @@
 use super::arrived::Arrived;
 use super::caller::Caller;
 use super::stream::Stream;
-use crate::command::{Asked, Executor, Session, Stop, MOST_OF_A_STRANGER};
+use crate::command::{Executor, Session, ShardRequest, Stop, MOST_OF_A_STRANGER};
 use crate::memory::{self, NoRoom, CEILING};
 use crate::resp::{Oversized, OwnedCommand, ReadAway, Replies};
 use crate::stats::ErrorCounts;
@@ -37,7 +37,7 @@ pub(super) enum Turn {
     /// The control's answer to this command.
     Control(OwnedCommand),
     /// The answer of shards whose data outlives the process.
-    Durable(Asked),
+    Durable(ShardRequest),
     /// Nothing: it is over.
     Over,
 }
@@ -465,8 +465,8 @@ impl Connection {
 mod tests {
     use super::*;
     use crate::admission::Admission;
-    use crate::body::Memory;
-    use crate::cluster::{Cluster, Configuration};
+    use crate::cluster::Cluster;
+    use crate::configuration::Configuration;
     use crate::keyspace::{Keyspace, Rule};
     use crate::stats::Stats;
     use mio::net::TcpStream;
@@ -475,7 +475,7 @@ mod tests {
     fn executor() -> Executor {
         let rule = Rule::Hash(1);
         let keyspace = Keyspace::new(&rule).unwrap();
-        let cluster = Cluster::new(Configuration::new(rule), Box::new(Memory)).unwrap();
+        let cluster = Cluster::in_memory(Configuration::new(rule)).unwrap();
         let cluster = Arc::new(cluster);
         let admission = Admission::new(cluster.clone(), Arc::new(Stats::new(1))).unwrap();
         Executor::new(cluster, admission, keyspace)

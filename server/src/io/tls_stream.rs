@@ -1,4 +1,4 @@
-use crate::tls::Connection;
+use durkenzo_control::tls::TlsConnection;
 use mio::net::TcpStream;
 use std::cell::RefCell;
 use std::io::{self, ErrorKind, Read, Write};
@@ -19,14 +19,14 @@ thread_local! {
 #[derive(Debug)]
 pub(super) struct TlsStream {
     socket: TcpStream,
-    connection: Connection,
+    connection: TlsConnection,
     /// Whether the last read of the socket left nothing there.
     is_drained: bool,
 }
 
 impl TlsStream {
     /// A connection before its handshake.
-    pub(super) fn new(socket: TcpStream, connection: Connection) -> TlsStream {
+    pub(super) fn new(socket: TcpStream, connection: TlsConnection) -> TlsStream {
         TlsStream {
             socket,
             connection,

@@ -3,12 +3,12 @@ use super::busy_poll::BusyPoll;
 use super::connection::{Connection, Turn};
 use super::half_closed::HalfClosed;
 use super::inlet::{Brought, Inlet, WAKE};
-use super::reply_to::ReplyTo;
+use super::reply_address::ReplyAddress;
 use super::strangers::Whereabouts;
 use super::stream::Stream;
 use crate::cluster::Cluster;
-use crate::command::{is_of_all, Asked as AskedOfShards, Executor, Session};
-use crate::control::{Asked, Refusal};
+use crate::command::{is_of_all, Executor, Session, ShardRequest};
+use crate::control::{asked, Asked, Refusal};
 use crate::keep_alive;
 use crate::memory;
 use crate::resp::OwnedCommand;
@@ -440,13 +440,13 @@ impl Worker {
     }
 
     /// Where what is owed to the connection there goes.
-    fn reply_to(&mut self, place: usize) -> ReplyTo {
+    fn reply_to(&mut self, place: usize) -> ReplyAddress {
         let connection = &mut self.connections[place];
         let to = (place, connection.session.id);
-        ReplyTo::connection(self.inlet.clone(), to, connection.caller())
+        ReplyAddress::connection(self.inlet.clone(), to, connection.caller())
     }
 
-    fn ask_shards(&mut self, place: usize, asked: AskedOfShards) {
+    fn ask_shards(&mut self, place: usize, asked: ShardRequest) {
         let reply_to = self.reply_to(place);
         if let Some(durable) = self.cluster.storage.durable() {
             asked.submit(durable, &self.cluster, reply_to);
@@ -456,12 +456,12 @@ impl Worker {
     fn ask(&mut self, place: usize, command: OwnedCommand) {
         let mut reply_to = self.reply_to(place);
         if !is_of_all(command.command()) {
-            let (asked, session) = (command.shown(), &self.connections[place].session);
+            let (shown, session) = (command.shown(), &self.connections[place].session);
             let (from, role) = (session.address, session.role.name());
-            tracing::info!(asked, %from, role, "a client asks the control");
-            reply_to = reply_to.logged(asked);
+            tracing::info!(asked = shown, %from, role, "a client asks the control");
+            reply_to = reply_to.logged(shown);
         }
-        match self.control.try_send(Asked { command, reply_to }) {
+        match self.control.try_send(asked(command.command(), reply_to)) {
             Ok(()) => {}
             Err(TrySendError::Full(asked)) => asked.refuse(Refusal::crowded()),
             // The control ends after all threads that ask it, or by a fault of its own.
@@ -504,8 +504,7 @@ impl Worker {
 mod tests {
     use super::*;
     use crate::admission::Admission;
-    use crate::body::Memory;
-    use crate::cluster::Configuration;
+    use crate::configuration::Configuration;
     use crate::keyspace::{Keyspace, Rule};
     use mio::net::TcpStream;
     use std::io::{Read, Write};
@@ -537,7 +536,7 @@ mod tests {
             wait,
             ..Configuration::new(rule)
         };
-        let cluster = Arc::new(Cluster::new(configuration, Box::new(Memory)).unwrap());
+        let cluster = Arc::new(Cluster::in_memory(configuration).unwrap());
         for shard in 0..2 {
             cluster.board().control().assign(shard, 1).unwrap();
         }
@@ -623,7 +622,7 @@ mod tests {
         }
         assert_eq!(clients.iter().filter(|it| is_refused(it)).count(), 1);
         for it in asked.try_iter() {
-            it.reply_to.send(b"+OK\r\n".to_vec());
+            it.reply_to.pass_on(b"+OK\r\n".to_vec());
         }
         cluster.stop();
         thread.join().unwrap().unwrap();

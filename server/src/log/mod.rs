@@ -5,7 +5,7 @@ mod queue;
 mod stderr;
 
 use crate::options::{LogFormat, Options};
-use crate::run::Fault;
+use crate::run::BoxError;
 use lines::Lines;
 use queue::Queue;
 use std::backtrace::{Backtrace, BacktraceStatus};
@@ -37,7 +37,7 @@ pub fn say(line: &str) {
 /// # Errors
 ///
 /// The filter isn't one, or there is no memory or no thread for the log.
-pub fn begin(options: &Options) -> Result<(), Fault> {
+pub fn begin(options: &Options) -> Result<(), BoxError> {
     let (memory, spare) = (Lines::reserved()?, Lines::reserved()?);
     let format = options.log_format;
     thread::Builder::new()
@@ -115,10 +115,8 @@ mod tests {
         assert!(thread.spawn(panics).unwrap().join().is_err());
         panic::set_hook(hook);
         let line = told.iter().find(|it| it.contains("'fails'")).unwrap();
-        assert!(
-            line.starts_with("thread 'fails' panicked at src/log/mod.rs:"),
-            "{line}"
-        );
+        let begun = concat!("thread 'fails' panicked at ", file!(), ":");
+        assert!(line.starts_with(begun), "{line}");
         assert!(line.contains("as a test asks"), "{line}");
     }
 }

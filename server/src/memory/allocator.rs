@@ -20,12 +20,12 @@ const KEPT: usize = COUNT * GRANULE;
 pub struct Allocator;
 
 #[repr(align(256))]
-struct Room(UnsafeCell<[MaybeUninit<u8>; KEPT]>);
+struct ReservedRoom(UnsafeCell<[MaybeUninit<u8>; KEPT]>);
 
 // SAFETY: each byte is of who took its granule, and of nobody else.
-unsafe impl Sync for Room {}
+unsafe impl Sync for ReservedRoom {}
 
-static ROOM: Room = Room(UnsafeCell::new([MaybeUninit::uninit(); KEPT]));
+static ROOM: ReservedRoom = ReservedRoom(UnsafeCell::new([MaybeUninit::uninit(); KEPT]));
 static GRANULES: Mutex<Granules> = Mutex::new(Granules::new());
 /// Whether less than half of the room is left.
 static IS_LOW: AtomicBool = AtomicBool::new(false);

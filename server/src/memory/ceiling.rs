@@ -6,8 +6,8 @@ use std::time::{Duration, Instant};
 /// How much of the process' memory may be in use before commands are refused that may have data take more.
 pub static CEILING: Ceiling = Ceiling::new();
 
-/// Of the bytes that are left, one part of so many may come from clients before it is looked again; and at least so
-/// many, and one part of so many of all.
+/// Of the bytes that are left, one part of so many may come before it is looked again; and at least so many, and one
+/// part of so many of all.
 const OF_LEFT: u64 = 8;
 const LEAST_STEP: u64 = 64 << 10;
 const OF_ALL: u64 = 1_024;
@@ -19,8 +19,8 @@ const REST: u32 = 20;
 const LONGEST_REST: Duration = Duration::from_millis(100);
 const MUCH: u64 = 4;
 
-/// How much memory may be in use, and whether more is: it is looked once so much has come from clients that more could
-/// be, and not at each command.
+/// How much memory may be in use, and whether more is. It is looked once so much has come from clients, or was made of
+/// less by their commands, that more could be, and not at each command.
 #[derive(Debug)]
 pub struct Ceiling {
     /// How many bytes may be in use; 0 is any number.
@@ -55,7 +55,8 @@ impl Ceiling {
         self.most.load(Ordering::Relaxed)
     }
 
-    /// Notes that so many bytes came, by which data may grow.
+    /// Notes that so many bytes came from a client, by which data may grow; or that a command made data grow by so many
+    /// that didn't come.
     #[inline]
     pub fn note_came(&self, bytes: usize) {
         if self.most() == 0 {

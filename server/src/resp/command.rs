@@ -41,6 +41,11 @@ impl<'a> Command<'a> {
         Command::new(self.bytes, self.spans.get(first..).unwrap_or(&[]))
     }
 
+    /// The arguments from one place on, up to another one, which is none of them.
+    pub fn within(&self, first: usize, end: usize) -> Command<'a> {
+        Command::new(self.bytes, self.spans.get(first..end).unwrap_or(&[]))
+    }
+
     /// All arguments in order.
     pub fn iter(&self) -> impl Iterator<Item = &'a [u8]> {
         let bytes = self.bytes;
@@ -97,22 +102,16 @@ impl OwnedCommand {
     }
 
     /// The command of these words.
-    pub fn of(words: &[&str]) -> OwnedCommand {
+    pub fn of(words: &[impl AsRef<[u8]>]) -> OwnedCommand {
         let (mut bytes, mut spans) = (Vec::new(), Vec::new());
         for word in words {
             let start = bytes.len();
-            bytes.extend_from_slice(word.as_bytes());
+            bytes.extend_from_slice(word.as_ref());
             let end = bytes.len();
             spans.push(Span { start, end });
         }
         let (bytes, spans) = (bytes.into(), spans.into());
         OwnedCommand { bytes, spans }
-    }
-
-    /// A copy of these of its words.
-    pub fn of_words(command: Command<'_>, places: &[usize]) -> OwnedCommand {
-        let spans: Vec<Span> = places.iter().map(|it| command.spans[*it]).collect();
-        OwnedCommand::new(Command::new(command.bytes, &spans))
     }
 
     /// The command whose bytes these are, as [`OwnedCommand::spell`] writes them; none where they aren't one's.
@@ -123,12 +122,20 @@ impl OwnedCommand {
 
     /// The command with which the bytes begin, and where it ends.
     pub fn first_spelled(bytes: &[u8]) -> Option<(OwnedCommand, usize)> {
+        OwnedCommand::of_first_spelled(bytes, OwnedCommand::new)
+    }
+
+    /// Returns what this finds of the command with which the bytes begin, and where the command ends. It isn't copied.
+    pub fn of_first_spelled<T>(
+        bytes: &[u8],
+        find: impl FnOnce(Command<'_>) -> T,
+    ) -> Option<(T, usize)> {
         let mut arguments = Arguments::default();
         if bytes.first() != Some(&b'*') {
             return None;
         }
         let end = parse(bytes, &mut arguments).ok()?;
-        Some((OwnedCommand::new(arguments.command(bytes)), end))
+        Some((find(arguments.command(bytes)), end))
     }
 
     /// Its bytes, as a client would send it.

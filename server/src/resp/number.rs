@@ -31,13 +31,13 @@ pub fn parse(text: &[u8]) -> Option<i64> {
 /// The digits of a number, in room of their own.
 #[derive(Clone, Copy, Debug)]
 pub struct Digits {
-    line: Line,
+    line: NumberLine,
 }
 
 impl Digits {
     /// Those of this number, as `parse` reads them.
     pub fn new(number: i64) -> Digits {
-        let line = Line::new(b' ', number);
+        let line = NumberLine::new(b' ', number);
         Digits { line }
     }
 
@@ -52,15 +52,15 @@ const LINE: usize = 1 + MAX_DIGITS + 2;
 
 /// A number as a line of an answer, in room of its own.
 #[derive(Clone, Copy, Debug)]
-pub struct Line {
+pub struct NumberLine {
     bytes: [u8; LINE],
     start: usize,
 }
 
-impl Line {
+impl NumberLine {
     /// The line of this kind and number.
     #[inline]
-    pub fn new(kind: u8, number: i64) -> Line {
+    pub fn new(kind: u8, number: i64) -> NumberLine {
         let (mut bytes, mut start) = ([0; LINE], LINE - 2);
         bytes[LINE - 2] = b'\r';
         bytes[LINE - 1] = b'\n';
@@ -79,7 +79,7 @@ impl Line {
         }
         start -= 1;
         bytes[start] = kind;
-        Line { bytes, start }
+        NumberLine { bytes, start }
     }
 
     /// The bytes.

@@ -1,4 +1,4 @@
-use super::number::Line;
+use super::number::NumberLine;
 use crate::memory::{self, NoRoom};
 use crate::stats::ErrorCounts;
 use std::fmt::Display;
@@ -170,6 +170,11 @@ impl Replies {
         self.bytes.len()
     }
 
+    /// What was written since the mark.
+    pub fn since(&self, mark: usize) -> &[u8] {
+        &self.bytes[mark..]
+    }
+
     /// Whether the reply that began at the mark has more bytes than a reply may have.
     pub fn is_too_large(&self, mark: usize) -> bool {
         self.bytes.len() - mark > MAX_REPLY
@@ -254,7 +259,7 @@ impl Replies {
     /// A number.
     pub fn number(&mut self, number: i64) {
         self.bytes
-            .extend_from_slice(Line::new(b':', number).as_bytes());
+            .extend_from_slice(NumberLine::new(b':', number).as_bytes());
     }
 
     /// A number of things.
@@ -270,7 +275,7 @@ impl Replies {
     /// Text of this kind, by its length.
     fn text_of(&mut self, kind: u8, front: &[u8], bytes: &[u8]) {
         let length = front.len() + bytes.len();
-        let line = Line::new(kind, length as i64);
+        let line = NumberLine::new(kind, length as i64);
         if self.reserve(line.as_bytes().len() + length + 2).is_err() {
             self.is_cut = true;
             return;
@@ -311,7 +316,7 @@ impl Replies {
 
     fn length(&mut self, kind: u8, length: usize) {
         let length = i64::try_from(length).unwrap_or(i64::MAX);
-        self.put(Line::new(kind, length).as_bytes());
+        self.put(NumberLine::new(kind, length).as_bytes());
     }
 }
 

@@ -1,5 +1,5 @@
 use super::join::Join;
-use crate::io::{Caller, ReplyTo};
+use crate::io::{Caller, ReplyAddress};
 use crate::resp::{Protocol, Replies};
 use std::sync::{Arc, Mutex, PoisonError};
 
@@ -12,19 +12,19 @@ pub(super) struct Answers {
     commands: u64,
     join: Join,
     caller: Caller,
-    state: Mutex<State>,
+    state: Mutex<AnswersState>,
 }
 
-struct State {
+struct AnswersState {
     parts: Vec<Option<Replies>>,
     left: usize,
     /// How many bytes were brought.
     size: usize,
     /// Where the answer goes: until it is sent.
-    reply_to: Option<ReplyTo>,
+    reply_to: Option<ReplyAddress>,
 }
 
-impl State {
+impl AnswersState {
     /// Takes the part at this place. Where there are more bytes than this, it keeps what is refused alone.
     fn take(&mut self, place: usize, part: Replies, most: usize) {
         self.left -= 1;
@@ -45,10 +45,10 @@ impl Answers {
         commands: u64,
         protocol: Protocol,
         join: Join,
-        reply_to: ReplyTo,
+        reply_to: ReplyAddress,
     ) -> Arc<Answers> {
         let caller = reply_to.caller();
-        let state = State {
+        let state = AnswersState {
             parts: (0..parts).map(|_| None).collect(),
             left: parts,
             size: 0,
@@ -108,19 +108,19 @@ impl Answers {
 mod tests {
     use super::*;
     use crate::body::MAX_TEXT;
-    use crate::command::by_key::ByKey;
+    use crate::command::spec::Effect;
+    use crate::command::split::Combine;
     use crate::resp::MAX_REPLY;
     use std::sync::mpsc::channel;
 
     /// What is answered where texts of these lengths are brought, the last one first, and the most bytes that are held.
     fn told(join: Join, lengths: &[usize]) -> (Vec<u8>, usize) {
         let (tell, told) = channel();
-        let reply_to = ReplyTo::process(move |bytes| tell.send(bytes).unwrap());
+        let reply_to = ReplyAddress::process(move |bytes| tell.send(bytes).unwrap());
         let (count, mut most) = (lengths.len(), 0);
         let answers = Answers::new(count, 1, Protocol::Two, join, reply_to);
         for (place, length) in lengths.iter().enumerate().rev() {
             let mut part = answers.part();
-            part.array(1);
             part.bulk(&vec![b'x'; *length]);
             answers.bring(place, part);
             let state = answers.state.lock().unwrap();
@@ -137,7 +137,7 @@ mod tests {
 
     #[test]
     fn parts_of_one_reply_have_its_bound() {
-        let join = Join::Each(ByKey::MGet);
+        let join = Join::Each(Combine::Values, Effect::Reads);
         // Each text has 10 bytes more as a part of the reply.
         let mut lengths = vec![MAX_TEXT; 128];
         lengths[127] = MAX_REPLY - b"*128\r\n".len() - 127 * (MAX_TEXT + 10) - 10;
@@ -152,10 +152,10 @@ mod tests {
     }
 
     /// What a command with a key for each of these parts is answered, but for where its advice begins.
-    fn told_of(word: ByKey, parts: &[&str]) -> String {
+    fn told_of((joined, effect): (Combine, Effect), parts: &[&str]) -> String {
         let (tell, told) = channel();
-        let reply_to = ReplyTo::process(move |bytes| tell.send(bytes).unwrap());
-        let join = Join::Each(word);
+        let reply_to = ReplyAddress::process(move |bytes| tell.send(bytes).unwrap());
+        let join = Join::Each(joined, effect);
         let answers = Answers::new(parts.len(), 1, Protocol::Two, join, reply_to);
         for (place, part) in parts.iter().enumerate() {
             answers.bring_bytes(place, format!("{part}\r\n").as_bytes());
@@ -167,18 +167,18 @@ mod tests {
     #[test]
     fn a_refusal_of_one_key_hides_no_write_of_another() {
         let in_part = "-UNKNOWN some of these keys are written, or may be, and others aren't";
+        let mset = (Combine::Ok, Effect::Grows);
+        let del = (Combine::Sum, Effect::Frees);
+        let mget = (Combine::Values, Effect::Reads);
+        let exists = (Combine::Sum, Effect::Reads);
         for (word, parts, answer) in [
-            (ByKey::MSet, &["+OK", "-STOREDOWN a"][..], in_part),
-            (ByKey::MSet, &["-STOREDOWN a", "-UNKNOWN b"], in_part),
-            (ByKey::Del, &[":0", "-PEERDOWN a", ":1"], in_part),
-            (ByKey::Del, &["-UNKNOWN a", "-UNKNOWN b"], in_part),
-            (
-                ByKey::MSet,
-                &["-SHARDPAUSED a", "-STOREDOWN b"],
-                "-SHARDPAUSED a",
-            ),
-            (ByKey::MGet, &["*1\r\n:1", "-STOREDOWN a"], "-STOREDOWN a"),
-            (ByKey::Exists, &[":1", "-SHARDPAUSED a"], "-SHARDPAUSED a"),
+            (mset, &["+OK", "-STOREDOWN a"][..], in_part),
+            (mset, &["-STOREDOWN a", "-UNKNOWN b"], in_part),
+            (del, &[":0", "-PEERDOWN a", ":1"], in_part),
+            (del, &["-UNKNOWN a", "-UNKNOWN b"], in_part),
+            (mset, &["-SHARDPAUSED a", "-STOREDOWN b"], "-SHARDPAUSED a"),
+            (mget, &["$1\r\n1", "-STOREDOWN a"], "-STOREDOWN a"),
+            (exists, &[":1", "-SHARDPAUSED a"], "-SHARDPAUSED a"),
         ] {
             assert_eq!(told_of(word, parts), answer, "{parts:?}");
         }
@@ -187,6 +187,6 @@ mod tests {
     #[test]
     fn answers_to_several_commands_are_all_told() {
         let (answer, _) = told(Join::InOrder, &[MAX_TEXT; 200]);
-        assert_eq!(answer.len(), 200 * (MAX_TEXT + 14));
+        assert_eq!(answer.len(), 200 * (MAX_TEXT + 10));
     }
 }

@@ -1,9 +1,8 @@
-use crate::command::by_key::ByKey;
+use crate::command::spec::Effect;
+use crate::command::split::{count_of, Combine};
 use crate::command::Fault;
-use crate::resp::{Replies, MAX_ARGUMENTS, MAX_REPLY};
+use crate::resp::{Replies, MAX_REPLY};
 
-/// What a part begins with whose command asks for the value of one key.
-const ARRAY_OF_ONE: &[u8] = b"*1\r\n";
 /// How a part begins of which nobody knows whether it is made.
 const UNKNOWN: &[u8] = b"-UNKNOWN ";
 
@@ -12,8 +11,8 @@ const UNKNOWN: &[u8] = b"-UNKNOWN ";
 pub(super) enum Join {
     /// One after another: each answers a command, or all.
     InOrder,
-    /// To one command with several keys, of which each part answers that for one.
-    Each(ByKey),
+    /// To one command with several keys, which has this effect: each part answers for one of them.
+    Each(Combine, Effect),
 }
 
 impl Join {
@@ -21,7 +20,7 @@ impl Join {
     pub(super) fn most(self) -> usize {
         match self {
             Join::InOrder => usize::MAX,
-            Join::Each(_) => MAX_REPLY + MAX_ARGUMENTS * ARRAY_OF_ONE.len(),
+            Join::Each(..) => MAX_REPLY,
         }
     }
 
@@ -29,7 +28,7 @@ impl Join {
     pub(super) fn answer(self, parts: Vec<Option<Replies>>, empty: Replies) -> Replies {
         match self {
             Join::InOrder => in_order(parts, empty),
-            Join::Each(word) => of_each(word, parts, empty),
+            Join::Each(joined, effect) => of_each((joined, effect), parts, empty),
         }
     }
 }
@@ -51,28 +50,28 @@ fn in_order(parts: Vec<Option<Replies>>, empty: Replies) -> Replies {
 
 /// The answer to the command of which these are for each of its keys: a refusal of one is that of all, unless the
 /// others may have been written.
-fn of_each(word: ByKey, parts: Vec<Option<Replies>>, mut answer: Replies) -> Replies {
+fn of_each(
+    (joined, effect): (Combine, Effect),
+    parts: Vec<Option<Replies>>,
+    mut answer: Replies,
+) -> Replies {
     let count = parts.len();
     let mut parts: Vec<Replies> = parts.into_iter().flatten().collect();
     if let Some(place) = parts.iter().position(|it| it.error_count() > 0) {
-        if word.writes() && count > 1 && parts.iter().any(may_be_made) {
+        if effect.writes() && count > 1 && parts.iter().any(may_be_made) {
             answer.error(Fault::InPart);
             return answer;
         }
         return parts.swap_remove(place);
     }
     let (is_whole, mark) = (parts.len() == count, answer.mark());
-    match word {
-        ByKey::MSet => answer.ok(),
-        ByKey::MGet => {
+    match joined {
+        Combine::Ok => answer.ok(),
+        Combine::Values => {
             answer.array(count);
-            for part in parts {
-                answer.append(&part.unsent()[ARRAY_OF_ONE.len()..]);
-            }
+            parts.iter().for_each(|it| answer.append(it.unsent()));
         }
-        ByKey::Del | ByKey::Exists => {
-            answer.count(parts.iter().map(|it| count_of(it.unsent())).sum())
-        }
+        Combine::Sum => answer.count(parts.iter().map(|it| count_of(it.unsent())).sum()),
     }
     let fault = match answer.are_whole() {
         Err(refused) => Some(refused.into()),
@@ -88,11 +87,4 @@ fn of_each(word: ByKey, parts: Vec<Option<Replies>>, mut answer: Replies) -> Rep
 /// Whether what this is the answer to is made, or isn't known not to be.
 fn may_be_made(part: &Replies) -> bool {
     part.error_count() == 0 || part.unsent().starts_with(UNKNOWN)
-}
-
-/// The number that is answered.
-fn count_of(answer: &[u8]) -> usize {
-    let digits = answer.strip_prefix(b":").unwrap_or_default();
-    let digits = digits.iter().take_while(|it| it.is_ascii_digit());
-    digits.fold(0, |sum, it| 10 * sum + usize::from(it - b'0'))
 }

@@ -1,21 +1,23 @@
 //! Commands over data that outlives the process: what each asks of its shard, and how its answer is made of what the
 //! shard's proved servers reply.
 mod answers;
-mod asked;
-mod begin;
-mod found;
-mod gather;
+mod blind_body;
+mod findings;
+mod flush;
 mod join;
-mod keyed;
-mod listing;
+mod key_scan;
+mod keyed_work;
+mod keys_walk;
+mod next_request;
 mod overlay;
 mod query;
-mod ranging;
-mod scanning;
-mod spelling;
-mod together;
-mod walk;
+mod range_scan;
+mod shard_request;
+mod shard_visit;
+mod shard_walk;
+mod spelled_request;
+mod stored_exec;
 
-pub use asked::Asked;
-pub(super) use gather::gather;
-pub use spelling::{check_memory_of, is_numbered, step_of_spelled, table_of_spelled};
+pub(super) use next_request::next_request;
+pub use shard_request::ShardRequest;
+pub use spelled_request::{check_memory_of, is_numbered, step_of_spelled, table_of_spelled};

@@ -1,20 +1,20 @@
 //! What keys held when they were read, in a proved map of the library, on which a command is done as on a shard's; and
 //! what is then to be written.
-use crate::body::{ProvedBody, Reply as Replied, Request as Asked, ShardBody, Value};
+use crate::body::{BodyReply, BodyRequest, ProvedBody, ShardBody, ValueRef};
 use crate::command::Fault;
 use crate::resp::number;
-use durkenzo_driver::{Key, Reply, Request};
+use durkenzo_driver::{Key, MapReply, MapRequest};
 
 /// A map with what these keys held.
-pub(super) fn loaded(keys: &[Key], held: &[Reply]) -> Result<ProvedBody, Fault> {
+pub(super) fn loaded(keys: &[Key], held: &[MapReply]) -> Result<ProvedBody, Fault> {
     let mut body = ProvedBody::new().map_err(|_| Fault::NoMemory)?;
     for (key, held) in keys.iter().zip(held) {
         let value = match held {
-            Reply::Text(text) => Value::Text(text),
-            Reply::Count(count) => Value::Count(*count),
+            MapReply::Text(text) => ValueRef::Text(text),
+            MapReply::Count(count) => ValueRef::Count(*count),
             _ => continue,
         };
-        if let Replied::Refused(refusal) = body.apply(Asked::Put(key, value)) {
+        if let BodyReply::Refused(refusal) = body.apply(BodyRequest::Put(key, value)) {
             return Err(refusal.into());
         }
     }
@@ -22,52 +22,48 @@ pub(super) fn loaded(keys: &[Key], held: &[Reply]) -> Result<ProvedBody, Fault> 
 }
 
 /// The requests by which each of the keys, which differ, comes to hold what it holds in the map.
-pub(super) fn changes(body: &mut ProvedBody, keys: &[Key], held: &[Reply]) -> Vec<Request> {
+pub(super) fn changes(body: &mut ProvedBody, keys: &[Key], held: &[MapReply]) -> Vec<MapRequest> {
     let each = keys.iter().zip(held);
-    each.flat_map(|(key, before)| match body.apply(Asked::Get(key)) {
-        Replied::Value(Value::Text(text)) => match number::parse(text) {
+    each.flat_map(|(key, before)| match body.apply(BodyRequest::Get(key)) {
+        BodyReply::Value(ValueRef::Text(text)) => match number::parse(text) {
             Some(count) => to_count(key, before, count),
             None => to_text(key, before, text),
         },
-        Replied::Value(Value::Count(count)) => to_count(key, before, count),
-        _ if *before == Reply::Nothing => Vec::new(),
-        _ => vec![Request::Delete(key.clone())],
+        BodyReply::Value(ValueRef::Count(count)) => to_count(key, before, count),
+        BodyReply::Nothing if *before == MapReply::Nothing => Vec::new(),
+        BodyReply::Nothing => vec![MapRequest::Delete(key.clone())],
+        // A read is answered by what the key holds, or by nothing: of anything else nothing is written.
+        BodyReply::Done
+        | BodyReply::Length(_)
+        | BodyReply::Count(_)
+        | BodyReply::Pairs(_)
+        | BodyReply::Refused(_) => Vec::new(),
     })
     .collect()
 }
 
-fn to_text(key: &Key, before: &Reply, text: &[u8]) -> Vec<Request> {
-    let put = || Request::Put(key.clone(), text.to_vec());
+fn to_text(key: &Key, before: &MapReply, text: &[u8]) -> Vec<MapRequest> {
+    let put = || MapRequest::Put(key.clone(), text.to_vec());
     match before {
-        Reply::Text(before) if before == text => Vec::new(),
-        Reply::Text(before) => match text.strip_prefix(before.as_slice()) {
-            Some(more) => vec![Request::Append(key.clone(), more.to_vec())],
+        MapReply::Text(before) if before == text => Vec::new(),
+        MapReply::Text(before) => match text.strip_prefix(before.as_slice()) {
+            Some(more) => vec![MapRequest::Append(key.clone(), more.to_vec())],
             None => vec![put()],
         },
-        Reply::Count(_) => vec![Request::Delete(key.clone()), put()],
+        MapReply::Count(_) => vec![MapRequest::Delete(key.clone()), put()],
         _ => vec![put()],
     }
 }
 
-fn to_count(key: &Key, before: &Reply, count: i64) -> Vec<Request> {
-    let add = |amount| Request::Add(key.clone(), amount);
+fn to_count(key: &Key, before: &MapReply, count: i64) -> Vec<MapRequest> {
+    let add = |amount| MapRequest::Add(key.clone(), amount);
     match before {
-        Reply::Count(before) if *before == count => Vec::new(),
-        Reply::Count(before) => match count.checked_sub(*before) {
+        MapReply::Count(before) if *before == count => Vec::new(),
+        MapReply::Count(before) => match count.checked_sub(*before) {
             Some(amount) => vec![add(amount)],
-            None => vec![Request::Delete(key.clone()), add(count)],
+            None => vec![MapRequest::Delete(key.clone()), add(count)],
         },
-        Reply::Text(_) => vec![Request::Delete(key.clone()), add(count)],
+        MapReply::Text(_) => vec![MapRequest::Delete(key.clone()), add(count)],
         _ => vec![add(count)],
     }
-}
-
-/// The requests by which the key comes to hold the text, whatever it held.
-pub(super) fn set(key: &[u8], text: &[u8]) -> [Request; 2] {
-    let key: Key = key.into();
-    let put = match number::parse(text) {
-        Some(count) => Request::Add(key.clone(), count),
-        None => Request::Put(key.clone(), text.to_vec()),
-    };
-    [Request::Delete(key), put]
 }

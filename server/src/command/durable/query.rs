@@ -1,4 +1,5 @@
 use crate::body::MAX_KEY;
+use crate::command::latest::Position;
 use durkenzo_driver::{Begin, Range};
 
 /// Kinds of queries, as they are spelled.
@@ -18,6 +19,18 @@ pub(super) enum Query {
 }
 
 impl Query {
+    /// Returns that of so many keys behind the position.
+    pub(super) fn keys_behind(position: &Position, most: usize) -> Query {
+        // The least key above another one is that with a byte of 0 behind it.
+        let after = position.after.as_deref();
+        let low = after.map_or_else(Vec::new, |it| [it, &[0]].concat());
+        Query::Keys(Range {
+            low: low.into(),
+            high: None,
+            most,
+        })
+    }
+
     /// How it begins.
     pub(super) fn begin(&self) -> Begin {
         match self {

@@ -1,0 +1,115 @@
+use super::findings::{Findings, VisitResult};
+use super::query::Query;
+use super::shard_walk::Visit;
+use super::spelled_request::{spell_keyed, spell_query};
+use crate::command::Fault;
+use crate::io::{Caller, ReplyAddress};
+use crate::resp::{OwnedCommand, Protocol, Replies};
+use durkenzo_driver::{Key, MapReply, MapRequest, Work, WorkOutcome, WorkStep};
+
+/// Who is told of what a shard has. It must not wait.
+pub(super) type Then = Box<dyn FnOnce(VisitResult) + Send>;
+
+/// What is asked of one shard's keys.
+pub(super) struct ShardVisit {
+    visit: Visit,
+    shard: u16,
+    protocol: Protocol,
+    caller: Caller,
+    then: Then,
+}
+
+impl ShardVisit {
+    /// The step of this visit, which this client waits for, who is answered in this version.
+    pub(super) fn step(
+        visit: Visit,
+        shard: u16,
+        (caller, protocol): (Caller, Protocol),
+        then: Then,
+    ) -> WorkStep {
+        let begin = visit.begin();
+        let work = ShardVisit {
+            visit,
+            shard,
+            protocol,
+            caller,
+            then,
+        };
+        WorkStep {
+            begin,
+            work: Box::new(work),
+        }
+    }
+
+    /// The step of a query that another process asks, which is told there what this one has.
+    pub(super) fn told_to(
+        query: Query,
+        shard: u16,
+        protocol: Protocol,
+        reply_to: ReplyAddress,
+    ) -> WorkStep {
+        let caller = reply_to.caller();
+        let then = move |told: VisitResult| match told {
+            Ok(found) => reply_to.send(found.spell()),
+            Err(refused) => reply_to.send(refused.unsent().to_vec()),
+        };
+        ShardVisit::step(
+            Visit::Query(query),
+            shard,
+            (caller, protocol),
+            Box::new(then),
+        )
+    }
+}
+
+impl Work for ShardVisit {
+    fn decide(&mut self, _held: Vec<MapReply>) -> Vec<MapRequest> {
+        Vec::new()
+    }
+
+    fn is_wanted(&self) -> bool {
+        self.caller.is_there()
+    }
+
+    fn spell(&self) -> Vec<u8> {
+        match &self.visit {
+            Visit::Query(query) => spell_query(self.protocol, query),
+            Visit::Delete(keys) => spell_keyed(self.protocol, None, &deletion(keys)),
+        }
+    }
+
+    fn answered(self: Box<Self>, answer: &[u8]) {
+        let found = match &self.visit {
+            Visit::Query(_) => Findings::spelled(answer),
+            // The number of keys that were deleted.
+            Visit::Delete(_) => answer.starts_with(b":").then(Findings::default),
+        };
+        let told = found.ok_or_else(|| {
+            let mut refused = Replies::new(self.protocol);
+            refused.append_told(answer);
+            refused
+        });
+        (self.then)(told);
+    }
+
+    fn end(self: Box<Self>, outcome: WorkOutcome) {
+        let told = match outcome {
+            Ok(replies) => Ok(Findings::of(replies)),
+            Err(why) => {
+                let mut refused = Replies::new(self.protocol);
+                refused.error(Fault::NotDone(self.shard, why));
+                Err(refused)
+            }
+        };
+        (self.then)(told);
+    }
+}
+
+/// The command that deletes these keys, which each version of the table has.
+fn deletion(keys: &[Key]) -> OwnedCommand {
+    let words: Vec<&[u8]> = [&b"DEL"[..]]
+        .into_iter()
+        .chain(keys.iter().map(|it| &**it))
+        .collect();
+    OwnedCommand::of(&words)
+}

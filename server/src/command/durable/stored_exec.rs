@@ -1,0 +1,100 @@
+use super::answers::Answers;
+use super::overlay::{changes, loaded};
+use super::spelled_request::spell_exec;
+use crate::cluster::Cluster;
+use crate::command::session::Session;
+use crate::command::transaction::MultiTransaction;
+use crate::command::Fault;
+use crate::resp::Replies;
+use durkenzo_driver::{Begin, Key, MapReply, MapRequest, NotDone, Work, WorkOutcome, WorkStep};
+use std::sync::Arc;
+
+/// How many requests a transaction's writes may be: of a key one or two.
+const MOST_WRITES: usize = 2_048;
+
+/// The commands of EXEC, whose keys are all of one shard: they are done on what these held, and written at once.
+pub(super) struct StoredExec {
+    transaction: Box<MultiTransaction>,
+    cluster: Arc<Cluster>,
+    shard: u16,
+    keys: Vec<Key>,
+    answer: Option<Replies>,
+    answers: Arc<Answers>,
+}
+
+impl StoredExec {
+    /// The step of this transaction, which is the whole answer.
+    pub(super) fn step(
+        transaction: Box<MultiTransaction>,
+        cluster: Arc<Cluster>,
+        shard: u16,
+        keys: Vec<Key>,
+        answers: Arc<Answers>,
+    ) -> WorkStep {
+        let begin = Begin::Change(keys.clone());
+        let work = StoredExec {
+            transaction,
+            cluster,
+            shard,
+            keys,
+            answer: None,
+            answers,
+        };
+        WorkStep {
+            begin,
+            work: Box::new(work),
+        }
+    }
+
+    fn requests(&self, held: &[MapReply], answer: &mut Replies) -> Result<Vec<MapRequest>, Fault> {
+        let mut body = loaded(&self.keys, held)?;
+        let mark = answer.mark();
+        // What it changes is always told.
+        answer.keep_room(self.transaction.len() as usize)?;
+        // What is queued over a store needs nothing of its connection.
+        let mut session = Session::new(0, true);
+        let (transaction, cluster) = (&self.transaction, &self.cluster);
+        transaction.execute(Some(&mut body), &mut session, cluster, answer);
+        let requests = changes(&mut body, &self.keys, held);
+        if requests.len() > MOST_WRITES {
+            answer.take_back(mark);
+            return Err(Fault::QueueOfWrites(MOST_WRITES));
+        }
+        Ok(requests)
+    }
+}
+
+impl Work for StoredExec {
+    fn decide(&mut self, held: Vec<MapReply>) -> Vec<MapRequest> {
+        let mut answer = self.answers.part();
+        let requests = self.requests(&held, &mut answer).unwrap_or_else(|fault| {
+            answer.error(fault);
+            Vec::new()
+        });
+        self.answer = Some(answer);
+        requests
+    }
+
+    fn is_wanted(&self) -> bool {
+        self.answers.caller().is_there()
+    }
+
+    fn spell(&self) -> Vec<u8> {
+        spell_exec(self.answers.part().protocol, &self.transaction)
+    }
+
+    fn answered(self: Box<Self>, answer: &[u8]) {
+        self.answers.bring_bytes(0, answer);
+    }
+
+    fn end(mut self: Box<Self>, outcome: WorkOutcome) {
+        let answer = self.answer.take().filter(|_| outcome.is_ok());
+        let answer = answer.unwrap_or_else(|| {
+            let mut refused = self.answers.part();
+            let why = outcome.err().unwrap_or(NotDone::Busy);
+            refused.error(Fault::NotDone(self.shard, why));
+            refused
+        });
+        self.answers.bring(0, answer);
+    }
+}

@@ -1,0 +1,46 @@
+//! The controls in the other processes of the cluster.
+use super::{Again, Asked, Words};
+use crate::io::ReplyAddress;
+use crate::works::Peers;
+use durkenzo_control::control::OtherControls;
+use durkenzo_driver::Member;
+
+/// How answers begin by which nobody has decided on a command, or may not have.
+const UNDECIDED: [&[u8]; 4] = [
+    b"-UNKNOWN",
+    b"-PEERDOWN",
+    b"-REFUSED NotLeader",
+    b"-REFUSED St",
+];
+
+impl OtherControls for Peers {
+    fn member(&self) -> &Member {
+        Peers::member(self)
+    }
+
+    fn leader(&self) -> Option<u16> {
+        Peers::leader(self)
+    }
+
+    fn ask(&self, server: u16, asked: Asked, again: Option<Again>) {
+        self.ask_control(server, asked, again);
+    }
+
+    fn ask_to_be_back(&self, leader: u16, tell: Box<dyn FnOnce(bool) + Send>) {
+        let reply_to = ReplyAddress::process(move |told| {
+            tell(!UNDECIDED.iter().any(|it| told.starts_with(it)));
+            // Whoever leads may have it up before it asks.
+            if told.starts_with(b"-REFUSED AlreadyUp") {
+                return tracing::info!("this server is up");
+            }
+            let told = String::from_utf8_lossy(&told);
+            tracing::info!(told = told.trim_end(), "asked for this server to be up");
+        });
+        let server = Peers::member(self).server().to_string();
+        let asked = Asked {
+            words: Words::of(["SM", "BACK", &server]),
+            reply_to: Box::new(reply_to),
+        };
+        self.ask_control(leader, asked, None);
+    }
+}

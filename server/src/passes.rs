@@ -1,0 +1,251 @@
+//! The passes by which a thread comes to the shards of the board in memory.
+use crate::body::BoxedBody;
+use crate::cluster::Cluster;
+use crate::stats::Stats;
+use crate::storage::InMemory;
+use crate::wait::{NotAdmitted, Wait};
+use durkenzo::{AdmitFault, Mode, Pass, PassFault, Permit, Record, MOST_HOPS};
+use std::fmt;
+use std::sync::Arc;
+
+/// How often a thread looks for a shard's server beside its spins.
+const MOST_TURNS: u32 = 8;
+
+/// The server that a request is for, and how it came there.
+#[derive(Clone, Copy, Debug)]
+pub(crate) struct RequestTarget {
+    server: u16,
+    mode: Mode,
+    hops: u8,
+    /// Whether the request is for this server alone and whom it forwards to.
+    is_fixed: bool,
+}
+
+impl RequestTarget {
+    /// One for a request that comes from a client.
+    pub(crate) fn direct(server: u16, is_fixed: bool) -> RequestTarget {
+        let (mode, hops) = (Mode::Direct, 0);
+        RequestTarget {
+            server,
+            mode,
+            hops,
+            is_fixed,
+        }
+    }
+}
+
+/// A thread's passes, one of each server that is reached, and where it sends requests.
+pub(crate) struct Passes {
+    cluster: Arc<Cluster>,
+    memory: Arc<InMemory>,
+    stats: Arc<Stats>,
+    /// From server 1.
+    passes: Vec<Option<Pass<BoxedBody>>>,
+    /// The server that executed each shard last, as far as this thread knows: an old one is refused, with the record.
+    routes: Box<[u16]>,
+    version: u64,
+    /// How often it looks for a shard's server.
+    turns: u32,
+    /// The place of the server as which the thread was admitted last.
+    executed_by: usize,
+}
+
+impl Passes {
+    /// Those of a thread with these counts, of the board there.
+    ///
+    /// # Errors
+    ///
+    /// `NoMemory`.
+    pub(crate) fn new(
+        cluster: Arc<Cluster>,
+        memory: Arc<InMemory>,
+        stats: Arc<Stats>,
+    ) -> Result<Passes, PassFault> {
+        let mut passes = Passes {
+            passes: (0..cluster.presence.servers()).map(|_| None).collect(),
+            routes: vec![1; cluster.shards().into()].into(),
+            version: 0,
+            turns: cluster.configuration.spins.saturating_add(MOST_TURNS),
+            executed_by: 0,
+            stats,
+            memory,
+            cluster,
+        };
+        passes.renew()?;
+        Ok(passes)
+    }
+
+    /// Gives back the passes of servers that aren't reached any more, and takes those of servers that are back. Returns
+    /// the version of their presence since which that is so.
+    pub(crate) fn refresh(&mut self) -> Result<u64, PassFault> {
+        if self.version != self.cluster.presence.version() {
+            self.renew()?;
+        }
+        Ok(self.version)
+    }
+
+    fn renew(&mut self) -> Result<(), PassFault> {
+        let version = self.cluster.presence.version();
+        let board = self.memory.board();
+        for (server, pass) in (1..).zip(&mut self.passes) {
+            let is_reached = self.cluster.presence.is_reached(server);
+            match pass {
+                Some(_) if !is_reached => *pass = None,
+                None if is_reached => *pass = Some(board.pass(server)?),
+                _ => {}
+            }
+        }
+        self.version = version;
+        Ok(())
+    }
+
+    /// Counts commands that were done under the last permit, so many of which were answered by an error.
+    pub(crate) fn note_done(&self, commands: u64, errors: u64) {
+        let server = &self.stats.servers[self.executed_by];
+        let mut done = commands;
+        if errors > 0 {
+            server.errors.add(errors);
+            done -= errors.min(done);
+        }
+        server.done.add(done);
+    }
+
+    /// Returns where a request to the shard is sent first: to the server that executed it last.
+    #[inline]
+    pub(crate) fn target(&self, shard: u16) -> RequestTarget {
+        RequestTarget::direct(self.routes[usize::from(shard)], false)
+    }
+
+    /// Has the closure work under a permit of the shard, for a request with this target.
+    // Where it is inlined, what the work needs stays in registers.
+    #[inline(always)]
+    pub(crate) fn admit<R>(
+        &mut self,
+        mut target: RequestTarget,
+        shard: u16,
+        work: impl FnOnce(&mut Permit<'_, BoxedBody>) -> R,
+    ) -> Result<R, NotAdmitted> {
+        for _ in 0..self.turns {
+            let index = usize::from(target.server) - 1;
+            let Some(pass) = self.passes[index].as_mut() else {
+                self.around(shard, &mut target)?;
+                continue;
+            };
+            let fault = match pass.admit(shard, target.mode) {
+                Ok(mut permit) => {
+                    let done = work(&mut permit);
+                    self.memory.note_keys(shard, permit.keys());
+                    drop(permit);
+                    self.stats.servers[index].admissions.add(1);
+                    self.executed_by = index;
+                    if target.hops > 0 {
+                        self.stats.forwarded.add(u64::from(target.hops));
+                    }
+                    return Ok(done);
+                }
+                Err(fault) => fault,
+            };
+            self.after(shard, &mut target, fault)?;
+        }
+        self.stats.raced.add(1);
+        Err(NotAdmitted::Wait(Wait::Busy(shard)))
+    }
+
+    /// Goes where to try again after a refusal.
+    // Outside of `admit`, so that who is admitted at once keeps nothing for it.
+    #[cold]
+    #[inline(never)]
+    fn after(
+        &mut self,
+        shard: u16,
+        target: &mut RequestTarget,
+        fault: AdmitFault,
+    ) -> Result<(), NotAdmitted> {
+        match fault {
+            AdmitFault::Admitted(_) | AdmitFault::Raced(_) => {
+                std::hint::spin_loop();
+                Ok(())
+            }
+            AdmitFault::NotExecutor(read) | AdmitFault::NotYet(read) => {
+                self.along(shard, target, read, fault)
+            }
+            AdmitFault::Paused(read) => Err(self.paused(shard, target, read)),
+            AdmitFault::Vacant(_) => Err(NotAdmitted::Wait(Wait::Vacant(shard))),
+            other => Err(NotAdmitted::Refused(other)),
+        }
+    }
+
+    /// Goes where another server executes the shard: the one that this one forwards to, or the owner.
+    fn along(
+        &mut self,
+        shard: u16,
+        target: &mut RequestTarget,
+        read: Record,
+        fault: AdmitFault,
+    ) -> Result<(), NotAdmitted> {
+        if let Some(server) = read
+            .forward(target.server)
+            .filter(|_| target.hops < MOST_HOPS)
+        {
+            let (mode, hops) = (Mode::Forwarded(target.server), target.hops + 1);
+            *target = RequestTarget {
+                server,
+                mode,
+                hops,
+                ..*target
+            };
+            return Ok(());
+        }
+        match read.owner() {
+            _ if target.is_fixed => Err(NotAdmitted::Refused(fault)),
+            Some(owner) => {
+                self.routes[usize::from(shard)] = owner;
+                *target = RequestTarget::direct(owner, false);
+                Ok(())
+            }
+            None => Err(NotAdmitted::Wait(Wait::Vacant(shard))),
+        }
+    }
+
+    /// What a request waits for where nobody executes: whoever asks for the shard is told of an owner that is away.
+    fn paused(&self, shard: u16, target: &RequestTarget, read: Record) -> NotAdmitted {
+        let owner = read.owner().filter(|_| !target.is_fixed);
+        let away = owner.filter(|it| !self.cluster.presence.is_reached(*it));
+        NotAdmitted::Wait(match away {
+            Some(owner) => Wait::Unreachable(shard, owner),
+            None => Wait::Paused(shard),
+        })
+    }
+
+    /// Goes elsewhere than to a server that isn't reached: to the owner, if that is another one. The owner can only
+    /// forward to the one that executes.
+    #[cold]
+    #[inline(never)]
+    fn around(&mut self, shard: u16, target: &mut RequestTarget) -> Result<(), NotAdmitted> {
+        let away = NotAdmitted::Wait(Wait::Unreachable(shard, target.server));
+        if target.hops > 0 {
+            return Err(away);
+        }
+        let pass = self.passes.iter_mut().flatten().next().ok_or(away)?;
+        let record = pass
+            .look(shard)
+            .map_err(|_| NotAdmitted::Refused(AdmitFault::UnknownShard))?;
+        match record.owner() {
+            Some(owner) if owner != target.server && !target.is_fixed => {
+                self.routes[usize::from(shard)] = owner;
+                *target = RequestTarget::direct(owner, false);
+                Ok(())
+            }
+            None if !target.is_fixed => Err(NotAdmitted::Wait(Wait::Vacant(shard))),
+            _ => Err(away),
+        }
+    }
+}
+
+impl fmt::Debug for Passes {
+    fn fmt(&self, f: &mut fmt::Formatter<'_>) -> fmt::Result {
+        f.debug_struct("Passes")
+            .field("routes", &self.routes)
+            .finish_non_exhaustive()
+    }
+}
