@@ -23,7 +23,7 @@ sys.dont_write_bytecode = True
 import durable
 import scans
 import served
-from served import Refused, eventually, main
+from served import Refused, eventually, free_ports, main
 
 # Has a program see its machine as one that was suspended.
 SUSPENDED = pathlib.Path(__file__).resolve().parents[2] / "tools/suspended.c"
@@ -38,14 +38,6 @@ PATIENCE = 20
 # How soon it is told that a process isn't reached: connecting in vain takes longer.
 SOON = 1.8
 WAIT = 10_000
-
-
-def free_ports(count):
-    sockets = [socket.create_server(("127.0.0.1", 0)) for _ in range(count)]
-    ports = [it.getsockname()[1] for it in sockets]
-    for it in sockets:
-        it.close()
-    return ports
 
 
 class Etcd:
@@ -236,6 +228,31 @@ def any_process_scans_all_keys(program):
             # What a shard that nobody executes has isn't left out: it is waited for.
             assert stays <= scans.scanned(client, 1000)
             assert client.ask("DBSIZE") >= scans.COUNT
+
+
+def any_process_lists_and_flushes_all_keys(program):
+    """By requests that older processes know, too."""
+    with cluster(program) as several:
+        scans.keys_are_listed_and_flushed(several.processes[2], most=None)
+        clients = [scans.of(it) for it in several.processes.values()]
+        scans.written(clients[0])
+        with Load(several, 4):
+            for client in clients:
+                assert set(scans.KEYS) <= set(client.keys())
+            assert clients[1].flushdb()
+            assert not any(set(scans.KEYS) & set(it.keys()) for it in clients)
+
+
+def a_pipeline_at_another_process_keeps_its_order(program):
+    """Also if only some of its commands are known to older processes."""
+    with cluster(program) as several, Load(several, 12), contextlib.ExitStack() as stack:
+        clients = [stack.enter_context(several.client(it)) for it in several.processes]
+        for place in range(150):
+            key = f"in order {place % 16}"
+            asked = [["INCR", key], ["GETRANGE", key, 0, -1], ["SETRANGE", key, 0, ""], ["GET", key]]
+            count, part, length, whole = clients[place % SERVERS].piped(asked)
+            wanted = b"%d" % count
+            assert (part, length, whole) == (wanted, len(wanted), wanted), (count, part, length, whole)
 
 
 def what_many_write_at_once_fits_etcd(program):
@@ -809,6 +826,9 @@ def restarts_are_told_when_a_process_may_end(program):
 def restarts_wait_for_no_process_that_has_failed(program):
     with cluster(program) as several:
         killed, server = (it for it in several.processes if it != several.leader())
+        with several.client(server) as client:
+            told = str(served_answer(client, ("SM", "FAIL", killed)))
+            assert told.startswith("REFUSED StillThere: ") and rows(client)[killed - 1][1] == "up", told
         several.processes[killed].kill()
         del several.processes[killed]
         with several.client(server) as client:
@@ -828,6 +848,8 @@ def restarts_wait_for_no_process_that_has_failed(program):
 TESTS = [
     any_process_answers_any_key,
     any_process_scans_all_keys,
+    any_process_lists_and_flushes_all_keys,
+    a_pipeline_at_another_process_keeps_its_order,
     what_many_write_at_once_fits_etcd,
     reads_by_lease_make_no_transaction,
     a_process_past_its_lease_tells_what_others_wrote,

@@ -3,6 +3,7 @@
 import contextlib
 import itertools
 import pathlib
+import random
 import re
 import socket
 import subprocess
@@ -11,7 +12,7 @@ import time
 
 import redis
 import scans
-from served import SECONDS, Client, Refused, main, served
+from served import SECONDS, Client, Refused, free_port, main, served
 
 SM = pathlib.Path(__file__).resolve().parents[2] / "sm"
 
@@ -98,6 +99,64 @@ MSETNX {a}1 x {a}2
 MSETNX
 DEL {a}1 {a}2 {a}3
 TIME x
+SETRANGE ranged 6 there
+GET ranged
+SETRANGE ranged 0 hello
+GET ranged
+SETRANGE ranged 5 , you and all
+GETRANGE ranged 0 -1
+SETRANGE ranged 3 
+SETRANGE nothing 3 
+SETRANGE nothing 70000 
+SETRANGE ranged -1 x
+SETRANGE ranged -1 
+SETRANGE ranged x x
+SETRANGE ranged 1.5 x
+SETRANGE ranged 9223372036854775808 x
+SETRANGE ranged 0
+SETRANGE ranged 0 x x
+SET ranged 12
+SETRANGE ranged 1 3
+INCR ranged
+SETRANGE ranged 2 .5
+INCRBYFLOAT ranged 0.1
+INCRBYFLOAT ranged -14.6
+INCR ranged
+INCRBYFLOAT ranged 5.0e3
+INCRBYFLOAT ranged 1e-17
+INCRBYFLOAT ranged 1e-18
+INCRBYFLOAT ranged 0x1.8p1
+INCRBYFLOAT ranged inf
+INCRBYFLOAT ranged -INFINITY
+INCRBYFLOAT ranged nan
+INCRBYFLOAT ranged x
+INCRBYFLOAT ranged 1e5000
+INCRBYFLOAT ranged 1x
+INCRBYFLOAT ranged
+INCRBYFLOAT ranged 1 2
+INCRBYFLOAT newer 3.0
+INCRBYFLOAT another -0
+INCRBYFLOAT another 0.1
+INCRBYFLOAT another 0.2
+INCRBYFLOAT another 18446744073709551616
+INCRBYFLOAT another 1e4931
+STRLEN another
+APPEND another x
+INCRBYFLOAT another 1
+KEYS ranged*
+KEYS nosuch*
+KEYS
+KEYS a b
+FLUSHDB NOW
+FLUSHDB SYNC ASYNC
+MULTI
+SETRANGE {m}r 2 x
+INCRBYFLOAT {m}f 1.5
+INCRBYFLOAT {m}r 1
+SETRANGE {m}f 0 2
+DEL {m}r {m}f
+EXEC
+DEL ranged newer another
 MULTI
 MSETNX {m}n 1 {m}o 2
 MSETNX {m}n 1 {m}p 2
@@ -254,10 +313,8 @@ OWN = [
 @contextlib.contextmanager
 def redis_served():
     """A redis-server that keeps nothing; its port."""
-    with socket.socket() as free, tempfile.TemporaryDirectory() as room:
-        free.bind(("127.0.0.1", 0))
-        port = free.getsockname()[1]
-        free.close()
+    port = free_port()
+    with tempfile.TemporaryDirectory() as room:
         command = ["redis-server", "--port", str(port), "--save", "", "--appendonly", "no", "--dir", room]
         with subprocess.Popen(command, stdout=subprocess.DEVNULL) as process:
             try:
@@ -295,10 +352,76 @@ def answers_are_those_of_redis(program):
                     if wanted != found:
                         differences.append(f"{words} in version {version}: Redis {wanted!r}, and we {found!r}")
                     count += 1
-                for key in ("a", "fresh", "{m}a", "{m}b", "none"):
-                    ours.raw("DEL", key)
+                assert [it.raw("FLUSHDB", "ASYNC") for it in (theirs, ours)] == [b"+OK\r\n"] * 2
     assert not differences, "\n".join(differences)
     return f"{count} answers"
+
+
+# What arguments may be, that are numbers or aren't.
+ODD = ["0", "1", "-1", "-0", "", "x", "007", "+1", " 1", "1 ", "0.1", ".5", "5.", "-1.5e3", "1e400", "1e-30", "0x1p3"]
+ODD += ["inf", "-Infinity", "nan", "1e5000", "3", "100", "9223372036854775807", "-9223372036854775808", "two words"]
+ODD += [b"\0\xff", "1e", "99999999999999999999", "3.14159265358979323846"]
+OFFSETS = ["0", "1", "5", "300", "-1", "x", "", "1.0", " 1", "-9223372036854775808", "99999999999999999999"]
+
+
+def random_call(chance):
+    """A command on few keys, whose arguments may be none and may be too many."""
+    key, other, text, more = (chance.choice(it) for it in (["{t}1", "{t}2", "b"], ["{t}1", "{t}3"], ODD, ODD))
+    offset = chance.choice(OFFSETS)
+    calls = [("GET",), ("STRLEN",), ("TYPE",), ("INCR",), ("DECR",), ("GETDEL",), ("EXISTS", key), ("TOUCH", key)]
+    calls += [("SET", text), ("SETNX", text), ("GETSET", text), ("APPEND", text), ("INCRBY", text), ("DECRBY", text)]
+    calls += [("INCRBYFLOAT", text)] * 6 + [("SETRANGE", offset, text)] * 6 + [("GETRANGE", text, more)]
+    calls += [("SUBSTR", text, more), ("SET", text, "XX"), ("SET", text, "NX", "GET"), ("MGET", other), ("DEL",)]
+    calls += [("MSET", text, other, more), ("UNLINK", other)]
+    name, *rest = chance.choice(calls)
+    words = [name, key, *rest]
+    # What takes any number of keys would take a text for one.
+    if name not in ("DEL", "EXISTS", "MGET", "MSET", "TOUCH", "UNLINK") and chance.random() < 0.03:
+        words = words[:-1] if chance.random() < 0.5 else [*words, text]
+    return ["MSETNX", "{t}1", text, "{t}4", more] if chance.random() < 0.02 else words
+
+
+def random_calls_are_answered_as_by_redis(program):
+    """In memory and over a store, one by one and in transactions."""
+    with tempfile.TemporaryDirectory() as room, redis_served() as other, contextlib.ExitStack() as stack:
+        servers = [stack.enter_context(served(program, *it)) for it in ([], ["--data", f"{room}/data"])]
+        theirs, *ours = [stack.enter_context(Client(it)) for it in (other, *(it.port for it in servers))]
+        chance, count = random.Random(41), 0
+        while count < 3_000:
+            calls = [random_call(chance) for _ in range(20)]
+            if chance.random() < 0.2:
+                calls = [["MULTI"], *(it for it in calls if "b" not in it), ["EXEC"], ["DISCARD"]]
+            for words in calls:
+                wanted = theirs.raw(*words)
+                told = [it.raw(*words) for it in ours]
+                assert told == [wanted] * 2, (words, wanted, told)
+            count += len(calls)
+    return f"{count} calls"
+
+
+def a_reply_of_exec_has_a_bound(program):
+    """Whatever fills it; and each change is told."""
+    grown, last = ("SETRANGE", "{t}a", 59_999, "x"), ("SETRANGE", "{t}e", 2, "x")
+    for words, is_full in [
+        (("GETRANGE", "{t}a", 0, -1), True), (("GETSET", "{t}a", "y"), True), (("GETDEL", "{t}a"), True),
+        (("STRLEN", "{t}a"), False), (("INCRBYFLOAT", "{t}c", "1e4929"), False),
+    ]:  # fmt: skip
+        with served(program) as server, server.client() as client:
+            answers = client.piped([("MULTI",), *[grown, words] * 300, last, ("EXEC",)])[-1]
+            size = sum(len(it) for it in answers if isinstance(it, bytes))
+            assert size <= 8 << 20 and answers[-1] == 3 and answers[:-1:2] == [60_000] * 300, (words, size)
+            refused = [it for it in answers if isinstance(it, Refused)]
+            assert bool(refused) == is_full and all(str(it).startswith("TOOLARGE") for it in refused), words
+            # What isn't answered isn't done.
+            assert client.ask("STRLEN", "{t}a") == 60_000, words
+
+
+def keys_are_listed_and_flushed(program):
+    for options in scans.OPTIONS:
+        with served(program, *options) as server:
+            scans.keys_are_listed_and_flushed(server)
+    with served(program, "--shards", 8, "--wait", 100) as server:
+        scans.a_flush_that_stops_is_told(server, 8)
 
 
 def texts_for_people_are_told_as_by_redis(program):
@@ -444,7 +567,7 @@ def words_of_sm_say_how_they_are_written(program):
             (("SM", "KEY", ""), "BADKEY"),
             (("SM", "ROUTES"), "REFUSED NotThere: SM ROUTES is there with --etcd alone;"),
             (("SM", "CALL", 1, 1, "DEL", "a"), "REFUSED NotThere: SM CALL is there with --data or --etcd alone;"),
-            (("SM", "SPREAD"), "REFUSED NotThere: SM SPREAD is there with --data or --etcd alone;"),
+            (("SM", "COMPACT"), "REFUSED NotThere: SM COMPACT is there with --data or --etcd alone;"),
             (("SM", "HELP", "nothing"), "REFUSED UnknownWord: SM has no such word, nor a name of its own that is so;"),
         ]:
             client.send(*words)
@@ -493,6 +616,9 @@ def the_shell_speaks_with_it(program):
 
 TESTS = [
     answers_are_those_of_redis,
+    random_calls_are_answered_as_by_redis,
+    a_reply_of_exec_has_a_bound,
+    keys_are_listed_and_flushed,
     texts_for_people_are_told_as_by_redis,
     who_quits_is_answered_and_cut_off,
     other_answers_are_named,

@@ -98,7 +98,10 @@ def commands_answer_as_in_memory(program):
             for words in SCANS:
                 told, wanted = (answer_of(it, words) for it in (one, other))
                 assert str(told) == str(wanted), (words, told, wanted)
-            for words in (("SM", "AT", 1, "GET", "a"), ("SM", "PLAN"), ("SM", "DUMP", "x"), ("SM", "LOAD", "x")):
+            for server in ((), (1,), (0,), (9,)):
+                told, wanted = (str(answer_of(it, ("SM", "PLAN", *server))) for it in (one, other))
+                assert told == wanted, (server, told, wanted)
+            for words in (("SM", "AT", 1, "GET", "a"), ("SM", "DUMP", "x"), ("SM", "LOAD", "x")):
                 assert "NOTDURABLE" in str(answer_of(one, words)).upper(), words
 
 
@@ -244,6 +247,43 @@ def scans_wait_for_a_paused_shard(program):
                 client.ask("SM", "PAUSE", 7)
 
 
+def keys_are_listed_and_flushed(program):
+    with folder() as data, over(program, data, "--sync", "no", "--wait", 300) as server:
+        scans.keys_are_listed_and_flushed(server)
+        scans.a_flush_that_stops_is_told(server, SHARDS)
+    with folder() as data:
+        with over(program, data) as server, server.client() as client:
+            client.piped([("SET", it, 1) for it in range(300)])
+            assert client.ask("FLUSHDB") == "OK" and client.ask("SET", "new", 1) == "OK"
+        with over(program, data) as server, server.client() as client:
+            assert told_at_last(client, [("KEYS", "*")]) == [[b"new"]]
+
+
+def what_reads_first_has_no_number(program):
+    """SM CALL says so of each such command."""
+    with folder() as data, over(program, data) as server, server.client() as client:
+        for number, words in enumerate(
+            [
+                ("GET", "a"), ("GETDEL", "a"), ("GETSET", "a", 1), ("APPEND", "a", 1), ("SETRANGE", "a", 0, 1),
+                ("INCRBYFLOAT", "a", 1), ("SETNX", "a", 1), ("SET", "a", 1, "NX"), ("MSETNX", "a", 1),
+                ("GETRANGE", "a", 0, 1),
+            ], 1
+        ):  # fmt: skip
+            told = str(answer_of(client, ("SM", "CALL", 1, number, *words)))
+            wanted = f"NOTNUMBERED {words[0].lower()} with these arguments doesn't write without reading first, so SM CALL"
+            assert told.startswith(wanted) and client.ask("GET", "a") is None, told
+        for words, wanted in (
+            (("INCRBY", "a", "x"), "ERR value is not an integer"), (("SET", "a", 1, "XY"), "ERR syntax error"),
+            (("SET", "a", "v" * 65_536), "TOOLONG"),
+        ):  # fmt: skip
+            told = str(answer_of(client, ("SM", "CALL", 1, 98, *words)))
+            assert told.startswith(wanted) and client.ask("GET", "a") is None, told
+        for words in (("KEYS", "*"), ("FLUSHDB",), ("PING",), ("MSET", *"a1b2c3d4e5f6g7h8i9")):
+            told = str(answer_of(client, ("SM", "CALL", 1, 99, *words)))
+            assert told.startswith(("NOTNUMBERED", "CROSSSHARD")) and client.ask("DBSIZE") == 0, told
+        assert client.ask("SM", "CALL", 1, 100, "INCR", "a") == 1
+
+
 def random_lines(chance, count):
     """Commands on few keys, some of them in transactions of one shard."""
     keys = ["a", "b", "c", "{t}1", "{t}2"]
@@ -258,7 +298,8 @@ def random_lines(chance, count):
             ("SET", key, text, "XX", "GET"), ("SET", key, text, "EX", 3), ("DEL", key), ("DEL", key, "{t}1", "{t}2"),
             ("GETSET", key, text), ("GETDEL", key), ("SETNX", key, text), ("SUBSTR", key, 1, -2),
             ("GETRANGE", key, chance.randint(-4, 4), text), ("TOUCH", key, other), ("UNLINK", key, other, "{t}1"),
-            ("MSETNX", "{t}1", text, "{t}2", "new"), ("MSETNX", "{t}2", text),
+            ("MSETNX", "{t}1", text, "{t}2", "new"), ("MSETNX", "{t}2", text), ("INCRBYFLOAT", key, text),
+            ("SETRANGE", key, chance.randint(-1, 9), text), ("INCRBYFLOAT", key, "0.5"),
         ]
         found.append(chance.choice(simple))
         if chance.random() < 0.1:
@@ -779,7 +820,7 @@ def migrations_keep_no_client_that_has_left(program):
         for it in range(50):
             with server.client() as leaves:
                 leaves.send("SM", "MIGRATE", it % SHARDS, owner(client, it % SHARDS) % 4 + 1)
-        began = time.monotonic()
+                began = time.monotonic()
         assert server.settle(before) <= before, f"{before} descriptors before, and {server.descriptors()} after"
         took = time.monotonic() - began
         # A migration takes three of these paces.
@@ -823,6 +864,8 @@ TESTS = [
     cursors_stay_known_where_others_scan,
     scans_give_what_stays_while_shards_move,
     scans_wait_for_a_paused_shard,
+    keys_are_listed_and_flushed,
+    what_reads_first_has_no_number,
     wrong_folders_are_refused_by_name,
     damaged_logs_are_refused_by_name,
     changed_bits_are_refused_by_name,

@@ -374,6 +374,20 @@ def beyond_its_memory(program, *options):
             assert client.ask("MGET", "a", keys[-1]) == [b"1", b"v" * 50_000]
 
 
+def few_bytes_make_no_more_than_allowed(program):
+    """A command that makes a long value of few bytes is refused above --max-memory, too."""
+    most = 64 * MEBIBYTE
+    with served(program, "--max-memory", "64mb") as server, server.client() as client:
+        for batch in range(100):
+            told = client.piped([("SETRANGE", f"k{batch}.{it}", 65_534, "x") for it in range(100)])[-1]
+            if isinstance(told, Refused):
+                break
+        assert str(told) == OVER, told
+        info = dict(it.split(":") for it in client.ask("INFO", "memory").decode().split("\r\n") if ":" in it)
+        assert int(info["used_memory"]) < most + 8 * MEBIBYTE, info
+        return f"{int(info['used_memory']) >> 20} MiB of {most >> 20}"
+
+
 def more_memory_than_allowed_is_refused(program):
     beyond_its_memory(program)
     with tempfile.TemporaryDirectory() as folder:
@@ -476,6 +490,7 @@ TESTS = [
     more_clients_than_allowed_are_told,
     few_open_files_are_shared_out,
     more_memory_than_allowed_is_refused,
+    few_bytes_make_no_more_than_allowed,
     refused_memory_is_an_answer,
     what_clients_took_is_given_back,
     quick_ends_leave_nothing,

@@ -8,7 +8,7 @@ import subprocess
 import threading
 import time
 
-from served import Client, Refused, main, served
+from served import Client, Refused, eventually, main, served
 
 SERVERS, SHARDS, CLIENTS = 4, 64, 6
 KEYS = [f"count:{it}" for it in range(200)]
@@ -158,6 +158,66 @@ def a_restart_that_nobody_lets_go_is_refused(program):
         control.send("SM", "RESTART", 2)
         assert str(found := control.read()).startswith("REFUSED GlobalCap"), found
         assert servers_of(control)[1][1] == "up"
+
+
+def domains_hold_back_restarts(program):
+    """One server of each domain may be away at once, without settings too."""
+    options = ["--servers", 4, "--domains", 2, "--restarts", 2]
+    with served(program, *options) as server, server.client() as control:
+        for number in (1, 2, 3):
+            assert control.ask("SM", "ASK", number) == "OK"
+        assert control.ask("SM", "APPROVE", 1) == "OK"
+        control.send("SM", "APPROVE", 3)
+        assert str(found := control.read()).startswith("REFUSED DomainCap"), found
+        assert control.ask("SM", "APPROVE", 2) == "OK"
+
+
+def shards_spread(program):
+    """Until no server has two shards more than another one."""
+    with served(program, "--servers", 4, "--shards", 16) as server, server.client() as control:
+        assert len(control.ask("SM", "DRAIN", 3)) == 4
+        assert len(control.ask("SM", "SPREAD")) == 4 and control.ask("SM", "SPREAD") == []
+        assert [it[3] for it in servers_of(control)] == ["4"] * 4
+
+
+def a_migration_that_somebody_gives_up_is_told(program):
+    with served(program, "--servers", 3, "--shards", 3, "--pace", 300) as server, server.client() as control:
+        with server.client() as client:
+            client.send("SM", "MIGRATE", 0, 3)
+            while not control.ask("SM", "LOOK", 0).startswith("Prepared"):
+                pass
+            assert control.ask("SM", "CANCEL", 0) == "OK"
+            assert str(found := client.read()).startswith("REFUSED NotMoved"), found
+        assert control.ask("SM", "LOOK", 0).startswith("Serving 1 0")
+
+
+def a_shard_whose_new_owner_fails_is_served_again(program):
+    """By another server, or by that one if it is back before; what somebody paused by hand stays so."""
+    options = ["--servers", 3, "--shards", 3, "--pace", 150]
+    with served(program, *options) as server, server.client() as control, server.client() as client:
+        assert control.ask("SM", "PAUSE", 1) == "OK"
+        for is_back in (False, True):
+            client.send("SM", "MIGRATE", 0, 2)
+            eventually(lambda: control.ask("SM", "LOOK", 0).startswith("Taken 2"))
+            assert control.ask("SM", "FAIL", 2) == "OK"
+            eventually(lambda: control.ask("SM", "LOOK", 0).startswith("Paused 2"))
+            if is_back:
+                assert control.ask("SM", "BACK", 2) == "OK" and client.read() == "OK"
+                assert control.ask("SM", "LOOK", 0).startswith("Serving 2")
+            else:
+                assert str(client.read()).startswith("REFUSED NotMoved")
+                assert control.ask("SM", "LOOK", 0).startswith("Serving 1")
+                assert control.ask("SM", "BACK", 2) == "OK"
+        assert control.ask("SM", "LOOK", 1).startswith("Paused 2")
+
+
+def restarts_wait_for_no_migration_that_nobody_ends(program):
+    with served(program, "--servers", 3, "--shards", 3) as server, server.client() as control:
+        assert control.ask("SM", "PREPARE_ADD", 0, 2) == "OK"
+        control.send("SM", "RESTART", 1)
+        assert str(found := control.read()).startswith("REFUSED StillServing"), found
+        assert servers_of(control)[0][1] == "up"
+        assert control.ask("SM", "CANCEL", 0) == "OK" and "its 1 shards" in str(control.ask("SM", "RESTART", 1))
 
 
 def plans_move_nothing(program):
@@ -310,6 +370,11 @@ TESTS = [
     restarts_at_once_are_not_noticed,
     others_are_answered_while_a_server_restarts,
     a_restart_that_nobody_lets_go_is_refused,
+    domains_hold_back_restarts,
+    shards_spread,
+    a_migration_that_somebody_gives_up_is_told,
+    a_shard_whose_new_owner_fails_is_served_again,
+    restarts_wait_for_no_migration_that_nobody_ends,
     plans_move_nothing,
     paused_shards_hold_back_who_asks_for_them,
     failed_servers_are_told,

@@ -68,6 +68,59 @@ def cursors_stay_known(server):
         assert client.ask("SCAN", cursor, "COUNT", 1) and refused(server, "SCAN", cursor) == "ERR"
 
 
+def keys_are_listed_and_flushed(server, most=10_000):
+    """KEYS gives what SCAN gives, or says to use that, of more than this; FLUSHDB leaves nothing, and both are refused
+    by MULTI."""
+    client = of(server)
+    assert client.flushdb() and client.dbsize() == 0 and client.keys() == []
+    written(client)
+    for pattern in ("*", "k1*", "k?", "k[2-4]9", "nosuch*", ""):
+        wanted = sorted(client.scan_iter(pattern)) if pattern else []
+        assert sorted(client.keys(pattern)) == wanted, pattern
+    with server.client() as one:
+        for words in (("FLUSHDB", "NOW"), ("FLUSHDB", "SYNC", "SYNC"), ("KEYS", "x" * 1_025), ("KEYS",)):
+            assert refused(server, *words) in ("ERR", "TOOLONG"), words
+        for words in (("KEYS", "*"), ("FLUSHDB",)):
+            told = one.piped([("MULTI",), words, ("EXEC",)])
+            assert "not allowed inside a transaction" in str(told[1]) and "EXECABORT" in str(told[2]), told
+        assert one.ask("DBSIZE") == COUNT
+        if most:
+            too_many_keys_are_refused(one, most)
+        for how in ("ASYNC", "sync"):
+            assert one.ask("SET", "k", 1) == "OK" and one.ask("FLUSHDB", how) == "OK"
+            assert one.ask("DBSIZE") == 0 and one.ask("KEYS", "*") == [] and one.ask("GET", "k") is None
+        assert one.ask("INCR", "k") == 1 and one.ask("KEYS", "*") == [b"k"]
+
+
+def too_many_keys_are_refused(client, most):
+    for first in range(0, most + 1, 100):
+        pairs = ((f"many:{it}", it) for it in range(first, min(first + 100, most + 1)))
+        assert client.ask("MSET", *itertools.chain(*pairs)) == "OK"
+    for pattern in ("many:*", "*"):
+        client.send("KEYS", pattern)
+        told = str(client.read())
+        assert told.startswith("TOOLARGE KEYS gives") and told.endswith("use SCAN"), told
+    assert len(client.ask("KEYS", "many:*[0-8]")) == sum(it % 10 != 9 for it in range(most + 1))
+
+
+def a_flush_that_stops_is_told(server, shards):
+    """Where a shard is paused it waits; and it says whether others are empty."""
+    keys = [f"k{it}" for it in range(200)]
+    with server.client() as client, server.client() as waiting:
+        client.piped([("SET", it, 1) for it in keys])
+        client.ask("SM", "PAUSE", shards - 1)
+        assert refused(server, "FLUSHDB") == "UNKNOWN"
+        left = [it for it in keys if client.ask("SM", "KEY", it) == shards - 1]
+        client.ask("SM", "RESUME", shards - 1)
+        assert sorted(it.decode() for it in client.ask("KEYS", "*")) == sorted(left) and left
+        client.piped([("SET", it, 1) for it in keys])
+        client.ask("SM", "PAUSE", 0)
+        assert refused(server, "FLUSHDB") == "SHARDPAUSED" and refused(server, "KEYS", "*") == "SHARDPAUSED"
+        waiting.send("FLUSHDB")
+        client.ask("SM", "RESUME", 0)
+        assert waiting.read() == "OK" and client.ask("DBSIZE") == 0
+
+
 def refused(server, *words):
     """The name by which the command is refused."""
     with served.Client(server.port) as client:

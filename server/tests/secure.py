@@ -182,9 +182,7 @@ def the_page_is_on_this_machine_where_clients_need_a_password(program):
 
 
 def the_page_speaks_tls_too(program):
-    with socket.socket() as one:
-        one.bind((HOST, 0))
-        port = one.getsockname()[1]
+    port = free_port()
     address = f"https://localhost:{port}/metrics"
     with served(program, *with_tls("--tls-ca", file("ca.pem"), "--http-port", port)):
         for _ in range(100):

@@ -4,6 +4,7 @@ import contextlib
 import json
 import os
 import pathlib
+import random
 import socket
 import subprocess
 import sys
@@ -11,6 +12,8 @@ import threading
 import time
 
 SECONDS = 20
+# Between these the system gives no port to a connection of its own.
+PORTS = (12_000, 32_000)
 # How many lines of its log are kept.
 LAST_LINES = 100
 # How long the slowest of a hundred answers may take beside those who mean no good, for how long it is looked at, how
@@ -229,11 +232,19 @@ def served(program, *options, before=(), **how):
             raise AssertionError(f"{when}the server ended with {process.returncode}: {''.join(said)[-2000:]}")
 
 
+def free_ports(count):
+    """As many ports at which nobody listens, of those that the system gives to no connection of its own."""
+    found = set()
+    while len(found) < count:
+        port = random.SystemRandom().randrange(*PORTS)
+        with contextlib.suppress(OSError), socket.create_server(("127.0.0.1", port)):
+            found.add(port)
+    return list(found)
+
+
 def free_port():
     """A port at which nobody listens."""
-    with socket.socket() as one:
-        one.bind(("127.0.0.1", 0))
-        return one.getsockname()[1]
+    return free_ports(1)[0]
 
 
 def read_all(process, said):

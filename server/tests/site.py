@@ -64,6 +64,30 @@ def metrics_are_in_the_format_of_prometheus(program):
         assert "# TYPE durkenzo_commands_total counter" in lines and "# TYPE durkenzo_keys gauge" in lines
 
 
+def numbers_of(port):
+    """The samples of /metrics, and the names of its counters."""
+    lines = got(port, "/metrics").splitlines()
+    counters = {it.split()[2] for it in lines if it.startswith("# TYPE ") and it.endswith(" counter")}
+    return dict(it.rsplit(" ", 1) for it in lines if not it.startswith("#")), counters
+
+
+def metrics_and_info_tell_the_same_by_one_name(program):
+    """What quiet threads counted is the same number in both, and a counter never falls."""
+    port = free_port()
+    with served(program, "--http-port", port, "--threads", 2) as server, server.client() as client:
+        before, counters = numbers_of(port)
+        client.piped([("SET", it, 1) for it in range(50)])
+        info = dict(it.split(":", 1) for it in client.ask("INFO").decode().split("\r\n") if ":" in it)
+        after, again = numbers_of(port)
+        assert counters == again and {"durkenzo_commands_total", "durkenzo_raced_tries_total"} <= counters, counters
+        fallen = [it for it, value in before.items() if it.split("{")[0] in counters and int(after[it]) < int(value)]
+        assert not fallen, fallen
+        for name in ("forwarded_requests", "raced_tries", "waited_requests", "refused_requests", "log_lines_dropped"):
+            told = [int(value) for it, value in after.items() if it.split("{")[0] == f"durkenzo_{name}_total"]
+            assert sum(told) == int(info[name]), (name, told, info[name])
+        assert info["connected_clients"] == "1" and int(info["used_memory"]) > 0 == int(info["maxmemory"]), info
+
+
 def slow_clients_keep_nobody_out(program):
     """Many connections that send nothing, or a part of a request."""
     port = free_port()
@@ -135,6 +159,21 @@ def settings_of_scripts_are_taken(program):
         assert client.ask("SM", "APPROVE", 1) == "OK"
         assert refused(client, "SM", "APPROVE", 2) == "DomainCap"
         assert client.ask("SM", "APPROVE", 3) == "OK"
+
+
+def domains_of_options_bind(program):
+    """Of each domain one server may be away, in memory and in a folder, though more restarts are let at once."""
+    with tempfile.TemporaryDirectory() as folder:
+        for data in ([], ["--data", f"{folder}/data"]):
+            options = ["--servers", 4, "--domains", 2, "--restarts", 5_000, "--shards", 4, *data]
+            with served(program, *options) as server, server.client() as client:
+                assert b"restarts at once 5000" in client.ask("SM", "SETTINGS")
+                for server_number in (1, 2, 3, 4):
+                    assert client.ask("SM", "ASK", server_number) == "OK"
+                assert client.ask("SM", "APPROVE", 1) == "OK"
+                assert refused(client, "SM", "APPROVE", 3) == "DomainCap"
+                assert client.ask("SM", "APPROVE", 2) == "OK"
+                assert client.ask("SM", "BACK", 1) == client.ask("SM", "APPROVE", 3) == "OK"
 
 
 def limits_of_settings_bind(program):
@@ -299,9 +338,11 @@ def what_is_not_accepted_is_told(program):
 TESTS = [
     the_page_shows_how_all_stands,
     metrics_are_in_the_format_of_prometheus,
+    metrics_and_info_tell_the_same_by_one_name,
     slow_clients_keep_nobody_out,
     what_is_not_counted_is_not_told,
     settings_of_scripts_are_taken,
+    domains_of_options_bind,
     limits_of_settings_bind,
     loads_stay_within_settings,
     the_page_has_no_dates_before_1970,

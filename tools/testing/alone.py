@@ -3,28 +3,26 @@ checker of what clients were answered."""
 import shutil
 
 import other_crates
-import sources
-from testing.part import verdict
+from testing import workspace
 
-FOLDERS = [sources.TOP / it for it in ("store", "trial")]
-CHECKS = (("tests", "test"), ("clippy", "clippy", "--all-targets", "--", "-D", "warnings"))
+MEMBERS = ("durkenzo-store", "durkenzo-trial")
 
 
 def skipped(say):
     """Says what isn't tried, for want of what."""
     if not shutil.which("cargo"):
-        say("cargo isn't installed: the stores and the trial's checker aren't tried")
-    elif not all(map(other_crates.has_crates, FOLDERS)):
-        say("cargo finds no crates: the stores and the trial's checker aren't tried; tools/setup installs them")
+        say("cargo isn't installed: the stores, the trial's checker and the library's crate aren't tried")
+    elif not other_crates.has_crates():
+        tried = "the stores, the trial's checker and the library's crate"
+        say(f"cargo finds no crates: {tried} aren't tried; tools/setup installs them")
     elif not shutil.which("etcd"):
         say("etcd isn't installed: the stores are tried without it; tools/setup installs it")
 
 
 def passed(_room):
-    """All of it; nothing of a folder whose crates cargo doesn't find."""
-    for folder in FOLDERS if shutil.which("cargo") else []:
-        checks = CHECKS if shutil.which("cargo-clippy") else CHECKS[:1]
-        for name, *words in checks if other_crates.has_crates(folder) else []:
-            ran = other_crates.cargo(folder, *words)
-            said = f"{ran.stdout[-2000:]}{ran.stderr[-2000:]}"
-            yield verdict(f"{name} of {folder.name}", ran.returncode == 0, said)
+    """All of it; nothing if cargo finds no crates."""
+    if not shutil.which("cargo") or not other_crates.has_crates():
+        return
+    yield workspace.ran("tests of the stores and the trial", "test", *workspace.of(MEMBERS))
+    if shutil.which("cargo-clippy"):
+        yield workspace.ran("clippy of the stores and the trial", *workspace.clippy(*workspace.of(MEMBERS)))

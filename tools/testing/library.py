@@ -12,13 +12,14 @@ import zipfile
 
 import exported
 import limited
+import other_crates
 import runs
 import sources
 from packing import made
+from testing import workspace
 from testing.part import Verdict, verdict
 
 FOLDER = sources.TOP / "library"
-CRATE = FOLDER / "rust/durkenzo"
 PROVED = [sources.CRATES / it / "out" / exported.library_of(it) for it in exported.CRATES]
 NAMED = "DURKENZO_LIB"
 PROGRAM = sources.CRATES / "sm_cli/out/sm_cli"
@@ -65,17 +66,17 @@ def fenced(room, program, name, **env):
 
 
 def in_rust(room):
-    env = {"CARGO_TARGET_DIR": room / "target"}
-    run = ["cargo", "run", "--quiet", "--offline", "--example"]
-    yield ran("the crate's tests", ["cargo", "test", "--offline"], CRATE, **env)
-    yield ran("the crate's example", [*run, "counters"], CRATE, COUNTED, **env)
-    yield ran("its example that holds two shards", [*run, "transfer"], CRATE, **env)
-    yield ran("the example of fences compiles", ["cargo", "build", "--offline", "--example", "fenced"], CRATE, **env)
-    yield from fenced(room, [room / "target/debug/examples/fenced"], "Rust")
-    yield ran("the driver of scripts compiles", ["cargo", "build", "--offline", "--example", "script"], CRATE, **env)
+    of, examples = ["-p", "durkenzo"], other_crates.target() / "debug/examples"
+    run = ["run", "--quiet", *of, "--example"]
+    yield workspace.ran("the crate's tests", "test", *of)
+    yield workspace.ran("the crate's example", *run, "counters", wanted=COUNTED)
+    yield workspace.ran("its example that holds two shards", *run, "transfer")
+    yield workspace.ran("the example of fences compiles", "build", *of, "--example", "fenced")
+    yield from fenced(room, [examples / "fenced"], "Rust")
+    yield workspace.ran("the driver of scripts compiles", "build", *of, "--example", "script")
     if not PROGRAM.is_file():
         return
-    driver = room / "target/debug/examples/script"
+    driver = examples / "script"
     compared = [sources.TOP / "tools/library-scripts", "--scripts", 8, driver, PROGRAM]
     yield ran("scripts by the library", compared, sources.TOP)
 
@@ -189,7 +190,7 @@ def passed(room):
     room = pathlib.Path(room)
     if not is_there():
         return
-    if shutil.which("cargo"):
+    if shutil.which("cargo") and other_crates.has_crates():
         yield from in_rust(room)
     if shutil.which("gcc") and shutil.which("make"):
         yield from in_c(room)

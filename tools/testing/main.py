@@ -110,6 +110,9 @@ def tell(runner, proofs, began):
 def main():
     os.chdir(sources.TOP)
     given, began = arguments(), time.time()
+    if not given.quick:
+        # What would let cargo build sooner a second time takes 2 GB of a disk that proofs need.
+        os.environ.setdefault("CARGO_INCREMENTAL", "0")
     proofs = proofs_of(given)
     with tempfile.TemporaryDirectory(prefix="sm-test-") as room:
         runner = Runner(stages_of(given, proofs, room), proofs, given.fail_fast)

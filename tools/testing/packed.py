@@ -8,6 +8,7 @@ import sys
 import tarfile
 import zipfile
 
+import other_crates
 import runs
 import sources
 from packing import made
@@ -24,7 +25,7 @@ USED = ("dpkg-deb", "lintian", "man", "bash", "zsh", "fish", "systemd-analyze", 
 
 def skipped(say):
     """Says what isn't tried, for want of what."""
-    if not shutil.which("cargo") or not runs.loaded("serve").has_crates():
+    if not shutil.which("cargo") or not other_crates.has_crates():
         say("no cargo, or no crates: nothing is packed; tools/setup installs them")
         return
     if lacking := [it for it in USED if not shutil.which(it)]:
@@ -216,7 +217,7 @@ def passed(wanted):
     def work(room):
         how = "proved" if wanted == "proved" and are_proved() else "unproved"
         room = pathlib.Path(room) / f"packed-{how}"
-        if not shutil.which("cargo") or not runs.loaded("serve").has_crates():
+        if not shutil.which("cargo") or not other_crates.has_crates():
             return
         try:
             for name in ("one", "two"):

@@ -10,6 +10,8 @@ import sources
 from testing.part import Verdict, passed, verdict
 
 EXAMPLES = sources.TOP / "examples"
+# The most bytes that a line of settings may have.
+MAX_SETTINGS = 1_048_576
 # The most that a run of the program may take, and a tool, which may prove a crate of tests.
 SECONDS, TOOL_SECONDS = 120, 3600
 
@@ -97,8 +99,10 @@ class Program:
             (ran.returncode, ran.stderr) == (1, b"fault Write\n"),
             ran.stderr.decode(errors="replace"),
         )
+        script = pathlib.Path(room) / "settings"
         for servers, workers in ((65, 1), (9, 8)):
-            yield from self.workers(pathlib.Path(room) / "settings", servers, workers)
+            yield from self.workers(script, servers, workers)
+        yield from self.long_settings(script)
 
     def workers(self, script, servers, workers):
         """More than 64 workers are refused under threads, and the model, which has none, accepts them."""
@@ -107,6 +111,13 @@ class Program:
         named, refused = f"{servers} servers of {workers} workers", b"settings TooManyWorkers\n"
         yield Verdict(f"{named} on threads", fault_of([self.path, "threads"], 1, refused, "", script))
         yield Verdict(f"{named} on the model", fault_of([self.path, "model"], 0, b"", "", script))
+
+    def long_settings(self, script):
+        """A first line of more bytes than settings may have is refused on both engines."""
+        script.write_bytes(b" " * (MAX_SETTINGS + 1) + b"\n")
+        for engine in ("model", "threads"):
+            refused = fault_of([self.path, engine], 1, b"settings TooLong\n", "", script)
+            yield Verdict(f"settings of {MAX_SETTINGS + 1} bytes on {engine}", refused)
 
     def explained(self, engine, script):
         """What the program says of a script's refused lines and settings, and on threads its table of counts."""

@@ -8,7 +8,7 @@ import sys
 import other_crates
 import runs
 import sources
-from testing import library
+from testing import library, workspace
 from testing.part import Verdict, verdict
 from testing.program import tool
 
@@ -16,9 +16,7 @@ FOLDER = sources.TOP / "server"
 SCRIPTS = ("commands", "moves", "durable", "dumps", "upgrade", "hostile", "secure", "scripts", "site")
 REDIS = ("redis-server", "redis-cli", "redis-benchmark")
 CLUSTER = "cluster"
-# What stands on the library by cargo.
-OVER_LIBRARY = ("driver", "fuzzing", "server")
-CLIPPY = ("clippy", "--all-targets", "--", "-D", "warnings")
+PACKAGE = "durkenzo-server"
 HEADINGS = (
     "Network:",
     "Safety:",
@@ -49,7 +47,7 @@ def skipped(say):
     """Says what isn't tried, for want of what."""
     if not shutil.which("cargo"):
         say("cargo isn't installed: the server for Redis clients isn't tried")
-    elif not runs.loaded("serve").has_crates():
+    elif not other_crates.has_crates():
         say("cargo finds no crates: the server for Redis clients isn't tried; tools/setup installs them")
     elif absent := lacking():
         say(f"no {', '.join(absent)}: of the server for Redis clients unit tests run alone; tools/setup installs them")
@@ -57,12 +55,6 @@ def skipped(say):
         say("openssl isn't installed: the server's TLS isn't tried")
     elif not shutil.which("etcd"):
         say("etcd isn't installed: several processes of the server aren't tried; tools/setup installs it")
-
-
-def by_cargo(serve, name, *words):
-    """A run of cargo in the server's folder that has to end with 0."""
-    ran = serve.cargo(*words)
-    return verdict(name, ran.returncode == 0, f"{ran.stdout[-2000:]}{ran.stderr[-2000:]}")
 
 
 def verdicts_of(lines):
@@ -100,33 +92,23 @@ def installed(room):
         yield verdict("the unit names the installed server", names)
 
 
-def driver():
-    """What drives proved servers of a store, over stores that don't tell all."""
-    folder = sources.TOP / "driver"
-    for words in [("test",), *([CLIPPY] if shutil.which("cargo-clippy") else [])]:
-        ran = other_crates.cargo(folder, *words)
-        yield verdict(f"cargo {words[0]} of the driver", not ran.returncode, f"{ran.stdout[-2000:]}{ran.stderr[-2000:]}")
-
-
 def compiled(_room):
-    """That what stands on the library compiles, its tests too, over the libraries that are there or are built without
-    proof; nothing where cargo or other people's crates aren't there."""
-    if not shutil.which("cargo"):
+    """That all of the workspace compiles, its tests too, over the libraries that are there or are built without proof;
+    nothing if cargo or other people's crates aren't there."""
+    if not shutil.which("cargo") or not other_crates.has_crates():
         return
     if not library.is_there():
         yield from library.without_proof()
-    words = CLIPPY if shutil.which("cargo-clippy") else ("check", "--all-targets")
-    for folder in (sources.TOP / it for it in OVER_LIBRARY):
-        if library.is_there() and other_crates.has_crates(folder):
-            ran = other_crates.cargo(folder, *words)
-            said = f"{ran.stdout[-2000:]}{ran.stderr[-2000:]}"
-            yield verdict(f"cargo {words[0]} of {folder.name}", not ran.returncode, said)
+    if library.is_there():
+        is_there = shutil.which("cargo-clippy")
+        words = workspace.clippy("--workspace") if is_there else ("check", "--workspace", "--all-targets")
+        yield workspace.ran(f"cargo {words[0]} of the workspace", *words)
 
 
 def passed(room):
     """All of it; nothing where the library wasn't built, or cargo or other people's crates aren't there."""
     serve = runs.loaded("serve")
-    if not library.is_there() or not shutil.which("cargo") or not serve.has_crates():
+    if not library.is_there() or not shutil.which("cargo") or not other_crates.has_crates():
         return
     # They are of the sources that were just proved, so as new as these: so ./sm serve sees that they are proved.
     for it in filter(pathlib.Path.is_file, library.PROVED):
@@ -136,17 +118,16 @@ def passed(room):
     except serve.Missing as missing:
         yield Verdict("the server is built", str(missing))
         return
-    yield by_cargo(serve, "the server's unit tests", "test", "--release")
-    yield from driver()
+    yield workspace.ran("the server's unit tests", "test", "--release", *workspace.of([PACKAGE]))
+    # What drives proved servers of a store, over stores that don't tell all, and what leads them.
+    yield workspace.ran("tests below the server", "test", *workspace.of(["durkenzo-driver", "durkenzo-control"]))
     if shutil.which("cargo-clippy"):
-        yield by_cargo(serve, "clippy of the server", "clippy", "--release", "--all-targets", "--", "-D", "warnings")
+        yield workspace.ran("clippy of the workspace", *workspace.clippy("--workspace"))
     told = subprocess.run([sources.TOP / "sm", "serve", "--help"], capture_output=True, text=True).stdout
     yield verdict("./sm serve --help", all(it in told for it in HEADINGS), told)
-    if other_crates.has_crates(sources.TOP / "trial"):
-        yield tool("trial", "--seconds", 5, program)
-        yield tool("trial", "--seconds", 5, "--data", program)
-    if other_crates.has_crates(sources.TOP / "fuzzing"):
-        yield tool("fuzz-parsers", "--seconds", 2)
+    yield tool("trial", "--seconds", 5, program)
+    yield tool("trial", "--seconds", 5, "--data", program)
+    yield tool("fuzz-parsers", "--seconds", 2)
     if shutil.which("make"):
         yield from installed(room)
     if not lacking():
