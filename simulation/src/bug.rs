@@ -1,44 +1,47 @@
-//! Bugs that can be planted in the driver, a control or a client.
+//! Bugs that can be planted, each as what it would make of what the driver sends, reads or is told.
 
 #[derive(Clone, Copy, Debug, PartialEq, Eq)]
 pub enum Bug {
-    /// A batch doesn't compare the shard's record.
+    /// A batch doesn't compare the shard's record: the compare is dropped.
     NoRecordCompare,
-    /// A batch doesn't compare the head of the shard's log.
+    /// A batch doesn't compare the head of the shard's log: the compare is dropped.
     NoHeadCompare,
-    /// A control's command doesn't compare who leads.
+    /// A control's command doesn't compare who leads: the compare is dropped.
     NoLeaderCompare,
-    /// A control's command doesn't compare the key of all commands.
+    /// A control's command doesn't compare the key of all commands: the compare is dropped.
     NoCommandsCompare,
-    /// A control takes for granted that all servers have read what it has.
+    /// A server is failed without a look at its key: the compare is dropped.
+    NoServerCompare,
+    /// A control takes for granted that all servers have read what it has: it reads so of each.
     EarlyDrop,
-    /// A control takes records of one moment with the key of all commands of another.
+    /// A control takes records of one moment with the key of all commands of another: it reads both so.
     TornRecords,
-    /// A server tells replies before its transaction is made.
+    /// A server tells replies before its transaction is made: the server is told so early that it is.
     EarlyReply,
     /// A client asks again under a new number.
     NewNumber,
-    /// A server takes an unknown outcome as not made, and says so.
+    /// A server takes an unknown outcome as not made, and says so: it is told that.
     UnknownAsLost,
-    /// A server takes an unknown outcome as made.
+    /// A server takes an unknown outcome as made: it is told that.
     UnknownAsMade,
-    /// A server takes compares that didn't hold as made.
+    /// A server takes compares that didn't hold as made: it is told that.
     LostAsMade,
-    /// A server answers reads with no transaction.
+    /// A server answers reads with no transaction: what compares and writes nothing is told as made, unsent.
     UnsentRead,
-    /// A server goes on from a head of one moment with the batches of another.
+    /// A server goes on from a head of one moment with the batches of another: it reads a head with a batch less.
     TornReading,
-    /// A server deletes what a base stands for before the head names it.
+    /// A server deletes what a base stands for before the head names it: that goes with each part.
     EarlyDeletion,
-    /// A base is named for one batch more than it holds.
+    /// A base is named for one batch more than it holds: the keys of its parts and the head that names it say so.
     ShortBase,
 }
 
-pub const BUGS: [Bug; 15] = [
+pub const BUGS: [Bug; 16] = [
     Bug::NoRecordCompare,
     Bug::NoHeadCompare,
     Bug::NoLeaderCompare,
     Bug::NoCommandsCompare,
+    Bug::NoServerCompare,
     Bug::EarlyDrop,
     Bug::TornRecords,
     Bug::EarlyReply,

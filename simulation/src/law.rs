@@ -1,9 +1,12 @@
 //! The law, checked of what a store made and what was told: by the documents alone, with nothing of the proved library.
-use crate::claim::{Claim, Said};
-use crate::reading::{self, Item, Made, Map, Record, Replied};
-use crate::store::{Key, Txn};
+use crate::claim::{Claim, Listed, Said};
+use crate::key::{DecodedKey, Written};
+use crate::reading::{self, DecodedRecord, Item, Made, MapModel, Replied};
+use durkenzo_store::Transaction;
 use std::collections::{HashMap, HashSet};
 
+/// The number of a server's state where it has failed.
+const FAILED: u64 = 4;
 /// How often a request is forwarded at most.
 const MOST_HOPS: u64 = 4;
 
@@ -18,13 +21,39 @@ fn broken<T>(law: &'static str, by: String) -> Result<T, Broken> {
     Err(Broken { law, by })
 }
 
-fn found<T>(read: Option<T>, by: &Txn) -> Result<T, Broken> {
+fn found<T>(read: Option<T>, by: &Written) -> Result<T, Broken> {
     read.map_or_else(|| broken("bytes can be read", format!("{by:?}")), Ok)
 }
 
+/// A request that was made.
+struct One {
+    client: u64,
+    number: u64,
+    body: Vec<u8>,
+    reply: Replied,
+    /// The revision of its batch.
+    since: u64,
+    /// The map before it.
+    before: MapModel,
+}
+
+impl One {
+    /// Whether keys held this before it.
+    fn is_after(&self, held: &Listed) -> bool {
+        let mut held = held.iter();
+        held.all(|(key, told)| *told == Some(self.before.get(key)))
+    }
+}
+
+/// Whether these are the replies to what was made, of so many requests.
+fn is_told(made: &[One], replies: &[(u8, u64)], count: usize) -> bool {
+    let replied = made.iter().map(|it| (it.reply.0, it.reply.1));
+    replied.eq(replies.iter().copied()) && made.len() == count
+}
+
 #[derive(Default)]
-struct Shard {
-    record: Record,
+struct ShardModel {
+    record: DecodedRecord,
     /// The revision at which that was written.
     stood: u64,
     batches: u64,
@@ -39,96 +68,99 @@ struct Shard {
     lasts: HashMap<u64, u64>,
     /// The number below which clients are forgotten, since each revision that changed it.
     floors: Vec<(u64, u64)>,
-    /// The reply to each request, and the revision at which it was made.
-    made: HashMap<(u64, u64), (Replied, u64)>,
+    /// All requests, in the order in which they were made.
+    made: Vec<One>,
+    /// The places of those that are like no other by their bytes, and of all by their clients and numbers.
+    places: HashMap<Vec<u8>, usize>,
+    numbered: HashMap<(u64, u64), usize>,
     /// The map since each revision that changed it.
-    past: Vec<(u64, Map)>,
+    past: Vec<(u64, MapModel)>,
 }
 
-impl Shard {
+impl ShardModel {
     fn floor_at(&self, revision: u64) -> u64 {
         let until = self.floors.iter().filter(|it| it.0 <= revision);
         until.map(|it| it.1).max().unwrap_or(0)
     }
 
-    fn map_at(&self, revision: u64) -> Map {
+    fn map_at(&self, revision: u64) -> MapModel {
         let found = self.past.iter().rev().find(|it| it.0 <= revision);
-        found.map_or_else(Map::default, |it| it.1.clone())
+        found.map_or_else(MapModel::default, |it| it.1.clone())
     }
 }
 
 #[derive(Default)]
-struct World {
+struct WorldModel {
     leader: u64,
     /// How far the restarts of servers have come, by their numbers.
     states: HashMap<u64, u64>,
+    /// The servers whose keys are there.
+    there: HashSet<u64>,
     /// Up to which revisions servers say that they have read, whose keys are there.
     followed: HashMap<u16, u64>,
-    shards: HashMap<u16, Shard>,
+    shards: HashMap<u16, ShardModel>,
     /// The bodies of all requests that carry a text of their own.
     bodies: HashSet<Vec<u8>>,
 }
 
 /// Checks all that was made, in order, and all that was told.
-pub fn check(made: &[(u64, Txn)], claims: &[Claim]) -> Result<(), Broken> {
-    let mut world = World::default();
-    for (revision, txn) in made {
-        world.make(*revision, txn)?;
+pub fn check(made: &[(u64, Transaction)], claims: &[Claim]) -> Result<(), Broken> {
+    let mut world = WorldModel::default();
+    for (revision, transaction) in made {
+        let Some(written) = Written::of(transaction) else {
+            return broken("keys can be read", format!("{transaction:?}"));
+        };
+        world.make(*revision, &written)?;
     }
     claims.iter().try_for_each(|it| world.judge(it))
 }
 
-impl World {
-    fn make(&mut self, revision: u64, txn: &Txn) -> Result<(), Broken> {
-        let heads = txn
-            .puts
-            .iter()
-            .filter(|it| matches!(it.0, Key::Head(_)))
-            .count();
-        let batches = txn
-            .puts
-            .iter()
-            .filter(|it| matches!(it.0, Key::Batch(..)))
-            .count();
+impl WorldModel {
+    fn make(&mut self, revision: u64, txn: &Written) -> Result<(), Broken> {
+        let count =
+            |is_such: fn(&DecodedKey) -> bool| txn.puts.iter().filter(|it| is_such(&it.0)).count();
+        let heads = count(|it| matches!(it, DecodedKey::Head(_)));
+        let batches = count(|it| matches!(it, DecodedKey::Batch(..)));
         if heads < batches {
             return broken("a batch is written with its head", format!("{txn:?}"));
         }
         for (key, bytes) in &txn.puts {
             match *key {
-                Key::Leader | Key::Commands => {}
-                Key::Server(server) => self.follow(server, bytes),
-                Key::State(server) => self.restart(u64::from(server), bytes, txn)?,
-                Key::Record(shard) => self.change(shard, bytes, revision, txn)?,
-                Key::Head(shard) if batches > 0 => self.head(shard, bytes, txn)?,
-                Key::Head(shard) => self.name(shard, bytes, txn)?,
-                Key::Batch(shard, number) => self.batch(shard, number, bytes, revision, txn)?,
-                Key::Part(shard, number, 0) => self.part(shard, number, bytes, txn)?,
-                Key::Part(..) => return broken("a base has one part here", format!("{txn:?}")),
+                DecodedKey::Process | DecodedKey::Commands | DecodedKey::Lowest(_) => {}
+                DecodedKey::Leader => self.leader = found(reading::process(bytes), txn)?,
+                DecodedKey::Server(server) => self.follow(server, bytes),
+                DecodedKey::State(server) => self.restart(u64::from(server), bytes, txn)?,
+                DecodedKey::Record(shard) => self.change(shard, bytes, revision, txn)?,
+                DecodedKey::Head(shard) if batches > 0 => self.head(shard, bytes, txn)?,
+                DecodedKey::Head(shard) => self.name(shard, bytes, txn)?,
+                DecodedKey::Batch(shard, number) => {
+                    self.batch(shard, number, bytes, revision, txn)?
+                }
+                DecodedKey::Part(shard, number, 0) => self.part(shard, number, bytes, txn)?,
+                DecodedKey::Part(..) => {
+                    return broken("a base has one part here", format!("{txn:?}"))
+                }
             }
         }
-        for key in &txn.deletes {
-            self.delete(*key)?;
-        }
-        if txn.puts.iter().any(|it| it.0 == Key::Leader) {
-            self.leader = txn.process;
-        }
-        Ok(())
+        txn.deletes.iter().try_for_each(|it| self.delete(*it))
     }
 
+    /// Notes up to which revision a server has read. One that has read nothing goes by nothing.
     fn follow(&mut self, server: u16, bytes: &[u8]) {
-        match bytes.is_empty() {
-            true => self.followed.remove(&server),
-            false => self.followed.insert(server, reading::number(bytes)),
+        self.there.insert(u64::from(server));
+        match reading::followed(bytes) {
+            None | Some(0) => self.followed.remove(&server),
+            Some(followed) => self.followed.insert(server, followed),
         };
     }
 
     /// A command is by who leads, as it says itself, and is written to the key of commands.
-    fn command(&self, process: u64, txn: &Txn) -> Result<(), Broken> {
+    fn command(&self, process: u64, txn: &Written) -> Result<(), Broken> {
         let is_noted = txn
             .puts
             .iter()
-            .any(|it| it.0 == Key::Commands && reading::process(&it.1) == Some(process));
-        if txn.process != self.leader || process != self.leader || !is_noted {
+            .any(|it| it.0 == DecodedKey::Commands && reading::process(&it.1) == Some(process));
+        if process != self.leader || !is_noted {
             return broken(
                 "who leads changes records and states",
                 format!("{} led, {txn:?}", self.leader),
@@ -141,10 +173,16 @@ impl World {
         self.states.get(&server).is_some_and(|&it| it > 1)
     }
 
-    fn change(&mut self, shard: u16, bytes: &[u8], revision: u64, txn: &Txn) -> Result<(), Broken> {
-        let next = found(Record::of(bytes), txn)?;
+    fn change(
+        &mut self,
+        shard: u16,
+        bytes: &[u8],
+        revision: u64,
+        txn: &Written,
+    ) -> Result<(), Broken> {
+        let next = found(DecodedRecord::of(bytes), txn)?;
         self.command(next.process, txn)?;
-        let Shard { record, stood, .. } = *self.shards.entry(shard).or_default();
+        let ShardModel { record, stood, .. } = *self.shards.entry(shard).or_default();
         if !record.may_become(&next) {
             return broken("a change is legal", format!("{record:?} to {next:?}"));
         }
@@ -171,14 +209,20 @@ impl World {
     }
 
     /// A step of a server's restart, of which one at a time may be approved.
-    fn restart(&mut self, server: u64, bytes: &[u8], txn: &Txn) -> Result<(), Broken> {
+    fn restart(&mut self, server: u64, bytes: &[u8], txn: &Written) -> Result<(), Broken> {
         let (state, process) = found(reading::state(bytes), txn)?;
         self.command(process, txn)?;
+        if state == FAILED && self.there.contains(&server) {
+            return broken(
+                "a server is failed while its key isn't there",
+                format!("{server} by {txn:?}"),
+            );
+        }
         let before = self.states.insert(server, state).unwrap_or(0);
         let is_step = match (before, state) {
             (0, 1) | (1, 2) | (2, 3) => true,
             (from, 0) => from != 0,
-            (from, 4) => from != 4,
+            (from, FAILED) => from != FAILED,
             _ => false,
         };
         let is_alone = self.states.values().filter(|&&it| it > 1).count() <= 1;
@@ -194,7 +238,7 @@ impl World {
         Ok(())
     }
 
-    fn head(&mut self, shard: u16, bytes: &[u8], txn: &Txn) -> Result<(), Broken> {
+    fn head(&mut self, shard: u16, bytes: &[u8], txn: &Written) -> Result<(), Broken> {
         let [batches, base, parts] = found(reading::head(bytes), txn)?;
         let shard = self.shards.entry(shard).or_default();
         let before = shard.batches;
@@ -208,7 +252,7 @@ impl World {
     }
 
     /// A head comes to name a base.
-    fn name(&mut self, shard: u16, bytes: &[u8], txn: &Txn) -> Result<(), Broken> {
+    fn name(&mut self, shard: u16, bytes: &[u8], txn: &Written) -> Result<(), Broken> {
         let [batches, base, parts] = found(reading::head(bytes), txn)?;
         let shard = self.shards.entry(shard).or_default();
         let is_newer = shard.base < base && base <= batches;
@@ -219,7 +263,7 @@ impl World {
         Ok(())
     }
 
-    fn part(&mut self, shard: u16, number: u64, bytes: &[u8], txn: &Txn) -> Result<(), Broken> {
+    fn part(&mut self, shard: u16, number: u64, bytes: &[u8], txn: &Written) -> Result<(), Broken> {
         let holds = found(reading::base(bytes), txn)?;
         let shard = self.shards.entry(shard).or_default();
         let made = number
@@ -235,13 +279,25 @@ impl World {
         Ok(())
     }
 
-    fn delete(&mut self, key: Key) -> Result<(), Broken> {
+    fn delete(&mut self, key: DecodedKey) -> Result<(), Broken> {
         let is_behind = match key {
-            Key::Batch(shard, number) => number <= self.shards.entry(shard).or_default().base,
-            Key::Part(shard, number, _) => {
+            DecodedKey::Batch(shard, number) => {
+                number <= self.shards.entry(shard).or_default().base
+            }
+            DecodedKey::Part(shard, number, _) => {
                 let shard = self.shards.entry(shard).or_default();
                 shard.bases.remove(&number);
                 number < shard.base
+            }
+            // They lay under a lease that ended.
+            DecodedKey::Leader => {
+                self.leader = 0;
+                true
+            }
+            DecodedKey::Server(server) => {
+                self.there.remove(&u64::from(server));
+                self.followed.remove(&server);
+                true
             }
             _ => false,
         };
@@ -257,7 +313,7 @@ impl World {
         number: u64,
         bytes: &[u8],
         revision: u64,
-        txn: &Txn,
+        txn: &Written,
     ) -> Result<(), Broken> {
         let (server, items) = found(reading::batch(bytes), txn)?;
         for item in &items {
@@ -278,8 +334,8 @@ impl World {
 
     fn item(&mut self, shard: u16, server: u64, item: &Item, revision: u64) -> Result<(), Broken> {
         let body = &item.request;
-        // A text of four bytes or more is of one request alone.
-        if matches!(body.first(), Some(2 | 3)) && !self.bodies.insert(body.clone()) {
+        // A text of four bytes or more is of one request alone, and so is what is added.
+        if matches!(body.first(), Some(2..=4)) && !self.bodies.insert(body.clone()) {
             return broken("a client's request is made once", format!("{item:?}"));
         }
         let shard = self.shards.entry(shard).or_default();
@@ -303,64 +359,114 @@ impl World {
         if item.number <= last {
             return broken("a client's numbers rise", format!("{last}, then {item:?}"));
         }
-        let reply = shard.now.map.answer(body);
-        let lasts = &mut shard.now.lasts;
-        lasts.insert(item.client, (item.number, reply.0, reply.1));
-        lasts.retain(|&client, _| client >= item.forgets);
-        shard.now.floor = shard.now.floor.max(item.forgets);
-        shard
-            .made
-            .insert((item.client, item.number), (reply, revision));
+        shard.apply(item, revision);
         Ok(())
     }
 
     fn judge(&mut self, claim: &Claim) -> Result<(), Broken> {
         let shard = self.shards.entry(claim.shard).or_default();
         let (promise, is_kept) = shard.keeps(claim);
-        if is_kept {
-            return Ok(());
+        match is_kept {
+            true => Ok(()),
+            false => broken(promise, format!("{claim:?}")),
         }
-        let made = shard.made.get(&(claim.client, claim.number));
-        broken(promise, format!("{claim:?}, {made:?}"))
     }
 }
 
-impl Shard {
+impl ShardModel {
+    /// Carries out a request, and notes it.
+    fn apply(&mut self, item: &Item, since: u64) {
+        let Item {
+            client,
+            number,
+            forgets,
+            request: body,
+            ..
+        } = item.clone();
+        let before = self.now.map.clone();
+        let reply = self.now.map.answer(&body);
+        let lasts = &mut self.now.lasts;
+        lasts.insert(client, (number, reply.0, reply.1));
+        lasts.retain(|&client, _| client >= forgets);
+        self.now.floor = self.now.floor.max(forgets);
+        let place = self.made.len();
+        self.places.insert(body.clone(), place);
+        self.numbered.insert((client, number), place);
+        self.made.push(One {
+            client,
+            number,
+            body,
+            reply,
+            since,
+            before,
+        });
+    }
+
+    /// The requests that are made of those with these bytes, which were asked together: the first is like no other.
+    fn made_of(&self, claim: &Claim, bodies: &[Vec<u8>]) -> &[One] {
+        let place = match claim.numbered {
+            Some((client, number)) => self.numbered.get(&(first_of(client), number)),
+            None => bodies.first().and_then(|it| self.places.get(it)),
+        };
+        let made = place.map_or(&[][..], |it| &self.made[*it..]);
+        let is_one = |it: &(&One, &Vec<u8>)| it.0.body == *it.1 && it.0.since == made[0].since;
+        let count = made.iter().zip(bodies).take_while(is_one).count();
+        &made[..count]
+    }
+
     /// What is promised of such a claim, and whether it holds of this one.
     fn keeps(&self, claim: &Claim) -> (&'static str, bool) {
-        let made = self.made.get(&(claim.client, claim.number));
-        let is_made_later = made.is_some_and(|it| it.1 > claim.at);
         match &claim.said {
-            Said::Replied { kind, value } => (
-                "a reply that was told is that of one thread",
-                made.is_some_and(|(reply, since)| {
-                    *since <= claim.at && (reply.0, reply.1) == (*kind, *value)
-                }),
-            ),
-            Said::Passed => {
-                let later = self.made.iter().any(|(request, (_, since))| {
-                    request.0 == claim.client && request.1 > claim.number && *since <= claim.at
-                });
-                ("what is passed isn't made", later && !is_made_later)
-            }
-            Said::Forgotten => {
-                let is_below = self.floor_at(claim.at) > claim.client;
-                let is_kept = is_below && !is_made_later;
-                ("who is forgotten was to be", is_kept)
-            }
-            Said::NotMade => ("what wasn't made isn't made", made.is_none()),
-            Said::Read {
-                key,
-                kind,
-                value,
-                text,
-                asked,
+            Said::Made {
+                bodies,
+                replies,
+                held,
             } => {
-                let told = (*kind, *value, text.clone());
-                let mut moments = *asked..=claim.at;
-                let is_of_one = moments.any(|revision| self.map_at(revision).get(key) == told);
+                let made = self.made_of(claim, bodies);
+                let is_in_time = made.iter().all(|it| it.since <= claim.at);
+                let is_kept = is_in_time && is_told(made, replies, bodies.len());
+                let is_decided = made.iter().take(1).all(|it| it.is_after(held));
+                let law = "a reply that was told is that of one thread";
+                (law, is_kept && is_decided)
+            }
+            Said::Passed => ("what is passed isn't made", self.is_passed(claim)),
+            Said::NotMade { bodies } => {
+                let is_made = |it: &Vec<u8>| it[0] != 5 && self.places.contains_key(it);
+                let is_made = bodies.iter().any(is_made);
+                ("what wasn't made isn't made", !is_made)
+            }
+            Said::Unknown { bodies } => {
+                let count = self.made_of(claim, bodies).len();
+                let is_whole = count == 0 || count == bodies.len();
+                ("what is asked together is made together", is_whole)
+            }
+            Said::Read {
+                asked,
+                listed,
+                since,
+            } => {
+                let mut moments = *since..=claim.at;
+                let is_of_one = moments.any(|it| self.map_at(it).listed(asked) == *listed);
                 ("a read is of a moment after it was asked", is_of_one)
             }
+            Said::Damaged(_) => ("what lies there can be read", false),
         }
     }
+
+    /// Whether a later number of the client was made, and this one isn't made after that.
+    fn is_passed(&self, claim: &Claim) -> bool {
+        let Some((client, number)) = claim.numbered else {
+            return false;
+        };
+        let of_client = |it: &&One| it.client == first_of(client);
+        let mut made = self.made.iter().filter(of_client);
+        let is_passed = |it: &One| it.number > number && it.since <= claim.at;
+        let is_late = |it: &One| it.number == number && it.since > claim.at;
+        made.clone().any(is_passed) && !made.any(is_late)
+    }
+}
+
+/// The client by whose number a shard keeps the first request of one that numbers them.
+fn first_of(client: u64) -> u64 {
+    1 << 63 | client << 8
 }

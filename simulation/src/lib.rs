@@ -1,12 +1,24 @@
-//! Servers, controls and clients over a store in memory, under schedules of chance: processes crash and forget, read
-//! what is old, and go on although another leads; transactions and requests come late, twice or never. Servers and
-//! controls decide by the proved libraries; what they made and told is checked by a reading of its own.
+//! Processes, clients and a store under schedules of chance, on one thread and by a clock that only the schedule moves.
+//! The processes are those that ship: the shards, the member and the control of `durkenzo_driver`, with the proved
+//! servers in them. They crash and forget, learn late of records, lose their leases and go on. Transactions come late,
+//! twice or never, and nobody may learn what became of them. What lies in the store and what clients were told is
+//! checked by a reading of its own. One seed is one run.
+#![forbid(unsafe_code)]
+
 pub mod bug;
 pub mod chance;
 pub mod claim;
-mod control;
+mod client;
+mod command;
+mod flight;
+mod key;
 pub mod law;
+mod line;
+mod mail;
+mod process;
 pub mod reading;
-mod server;
-pub mod store;
+mod simulated_store;
+mod spoilt;
+pub mod tally;
+mod time;
 pub mod world;

@@ -2,19 +2,20 @@
 //!
 //!     simulation [--schedules N] [--seed S] [--bug NAME] [--seconds T]
 use simulation::bug::{Bug, BUGS};
-use simulation::world::{run, Tally};
+use simulation::tally::Tally;
+use simulation::world::run;
 use std::process::ExitCode;
 use std::time::{Duration, Instant};
 
-struct Wanted {
+struct Options {
     schedules: u64,
     seed: u64,
     seconds: u64,
     bug: Option<Bug>,
 }
 
-fn wanted() -> Option<Wanted> {
-    let mut wanted = Wanted {
+fn wanted() -> Option<Options> {
+    let mut wanted = Options {
         schedules: 10_000,
         seed: 1,
         seconds: u64::MAX,

@@ -1,9 +1,10 @@
 //! What lies in the store and what requests mean, read here anew: nothing of the proved library is used.
-use std::collections::{BTreeMap, HashMap};
+use crate::claim::{Listed, MapQuery};
+use std::collections::BTreeMap;
 
 /// A shard's record. The phase is 0 vacant, 1 serving, 2 prepared, 3 forwarding, 4 taken, 5 paused.
 #[derive(Clone, Copy, Debug, Default, PartialEq, Eq)]
-pub struct Record {
+pub struct DecodedRecord {
     pub phase: u64,
     pub owner: u64,
     pub other: u64,
@@ -26,11 +27,11 @@ fn fields(bytes: &[u8], count: usize) -> Option<Vec<u64>> {
     Some(bytes[1..].chunks(8).map(number).collect())
 }
 
-impl Record {
-    pub fn of(bytes: &[u8]) -> Option<Record> {
+impl DecodedRecord {
+    pub fn of(bytes: &[u8]) -> Option<DecodedRecord> {
         let fields = fields(bytes, 2)?;
         let word = fields[0];
-        Some(Record {
+        Some(DecodedRecord {
             phase: word >> 61,
             owner: (word >> 48) & 0xfff,
             other: (word >> 36) & 0xfff,
@@ -49,7 +50,7 @@ impl Record {
     }
 
     /// The records to which one change leads from here, but for the server that it names.
-    pub fn may_become(&self, next: &Record) -> bool {
+    pub fn may_become(&self, next: &DecodedRecord) -> bool {
         let (from, to) = (self, next);
         let stays = from.owner == to.owner;
         let is_new = to.owner != 0 && to.owner != from.owner;
@@ -86,6 +87,12 @@ pub fn process(bytes: &[u8]) -> Option<u64> {
 pub fn state(bytes: &[u8]) -> Option<(u64, u64)> {
     let fields = fields(bytes, 2)?;
     (fields[0] <= 4).then_some((fields[0], fields[1]))
+}
+
+/// Up to which revision a server follows records, as its key tells.
+pub fn followed(bytes: &[u8]) -> Option<u64> {
+    let rest = bytes.strip_prefix(&[1])?;
+    Some(number(rest.get(8..16)?))
 }
 
 /// How many batches a log has, how many its base stands for, and in how many parts that lies.
@@ -158,7 +165,7 @@ pub fn batch(bytes: &[u8]) -> Option<(u64, Vec<Item>)> {
 /// clients are forgotten.
 #[derive(Clone, Debug, Default, PartialEq, Eq)]
 pub struct Made {
-    pub map: Map,
+    pub map: MapModel,
     pub lasts: BTreeMap<u64, (u64, u8, u64)>,
     pub floor: u64,
 }
@@ -168,7 +175,7 @@ pub fn base(bytes: &[u8]) -> Option<Made> {
     let mut rest = Rest::of(bytes)?;
     let floor = rest.number(8)?;
     let length = rest.number(4)?;
-    let map = Map::of(rest.bytes(length)?)?;
+    let map = MapModel::of(rest.bytes(length)?)?;
     let items = rest.items()?;
     let lasts = items.iter().map(|it| {
         let is_bare = (it.from, it.hops, it.forgets, it.request.len()) == (0, 0, 0, 9);
@@ -181,7 +188,7 @@ pub fn base(bytes: &[u8]) -> Option<Made> {
 }
 
 #[derive(Clone, Debug, PartialEq, Eq)]
-pub enum Value {
+pub enum DecodedValue {
     Text(Vec<u8>),
     Count(i64),
 }
@@ -191,24 +198,24 @@ pub type Replied = (u8, u64, Vec<u8>);
 
 /// Texts and counts by key.
 #[derive(Clone, Debug, Default, PartialEq, Eq)]
-pub struct Map {
-    held: HashMap<Vec<u8>, Value>,
+pub struct MapModel {
+    held: BTreeMap<Vec<u8>, DecodedValue>,
 }
 
 fn bare(kind: u8) -> Replied {
     (kind, 0, Vec::new())
 }
 
-impl Map {
+impl MapModel {
     /// The map that a base has as these bytes.
-    fn of(bytes: &[u8]) -> Option<Map> {
-        let (mut rest, mut map) = (Rest { bytes }, Map::default());
+    fn of(bytes: &[u8]) -> Option<MapModel> {
+        let (mut rest, mut map) = (Rest { bytes }, MapModel::default());
         while !rest.bytes.is_empty() {
             let (kind, keys, number) = (rest.number(1)?, rest.number(8)?, rest.number(8)?);
             let key = rest.bytes(keys)?.to_vec();
             let value = match kind {
-                0 => Value::Text(rest.bytes(number)?.to_vec()),
-                _ => Value::Count(number as i64),
+                0 => DecodedValue::Text(rest.bytes(number)?.to_vec()),
+                _ => DecodedValue::Count(number as i64),
             };
             map.held.insert(key, value);
         }
@@ -231,38 +238,60 @@ impl Map {
         }
     }
 
+    /// What was asked of it, as it is now.
+    pub fn listed(&self, asked: &MapQuery) -> Listed {
+        match asked {
+            MapQuery::Keys(keys) => {
+                let held = keys.iter().map(|it| (it.clone(), Some(self.get(it))));
+                held.collect()
+            }
+            MapQuery::Count => vec![(Vec::new(), Some((3, self.held.len() as u64, Vec::new())))],
+            MapQuery::Range {
+                low,
+                high,
+                most,
+                is_of_pairs,
+            } => {
+                let keys = self.held.keys().filter(|it| *it >= low);
+                let keys = keys.filter(|it| high.as_ref().is_none_or(|high| *it < high));
+                let told = |it: &Vec<u8>| is_of_pairs.then(|| self.get(it));
+                keys.take(*most).map(|it| (it.clone(), told(it))).collect()
+            }
+        }
+    }
+
     pub fn get(&self, key: &[u8]) -> Replied {
         match self.held.get(key) {
             None => bare(0),
-            Some(Value::Text(text)) => (2, text.len() as u64, text.clone()),
-            Some(Value::Count(count)) => (3, *count as u64, Vec::new()),
+            Some(DecodedValue::Text(text)) => (2, text.len() as u64, text.clone()),
+            Some(DecodedValue::Count(count)) => (3, *count as u64, Vec::new()),
         }
     }
 
     fn put(&mut self, key: &[u8], text: &[u8], adds: bool) -> Replied {
         let mut whole = match self.held.get(key) {
-            Some(Value::Count(_)) => return bare(5),
-            Some(Value::Text(before)) if adds => before.clone(),
+            Some(DecodedValue::Count(_)) => return bare(5),
+            Some(DecodedValue::Text(before)) if adds => before.clone(),
             _ => Vec::new(),
         };
         whole.extend(text);
         if whole.len() > 65_535 {
             return bare(7);
         }
-        self.held.insert(key.to_vec(), Value::Text(whole));
+        self.held.insert(key.to_vec(), DecodedValue::Text(whole));
         bare(1)
     }
 
     fn add(&mut self, key: &[u8], amount: i64) -> Replied {
         let before = match self.held.get(key) {
-            Some(Value::Text(_)) => return bare(5),
-            Some(Value::Count(count)) => *count,
+            Some(DecodedValue::Text(_)) => return bare(5),
+            Some(DecodedValue::Count(count)) => *count,
             None => 0,
         };
         let Some(sum) = before.checked_add(amount) else {
             return bare(6);
         };
-        self.held.insert(key.to_vec(), Value::Count(sum));
+        self.held.insert(key.to_vec(), DecodedValue::Count(sum));
         (3, sum as u64, Vec::new())
     }
 }

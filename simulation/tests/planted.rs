@@ -21,6 +21,12 @@ fn planted_bugs_are_found() {
 }
 
 #[test]
+fn one_seed_is_one_run() {
+    let tallies = |()| (0..50).map(|seed| run(seed, None).0);
+    assert!(tallies(()).eq(tallies(())));
+}
+
+#[test]
 fn nothing_is_found_where_nothing_is_planted() {
     assert_eq!(found(None, 2_000), None);
 }

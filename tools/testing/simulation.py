@@ -1,22 +1,18 @@
-"""What schedules of chance over the proved servers and controls of a shared store find: nothing, and each bug that is planted."""
-import pathlib
+"""What schedules of chance over the driver of a shared store find, as it ships: nothing, and each planted bug."""
 import shutil
 
-import sources
-from testing.library import is_there, ran
+import other_crates
+from testing import workspace
+from testing.library import is_there
 
-FOLDER = sources.TOP / "simulation"
-BINDINGS = sources.TOP / "library/rust/durkenzo-store-sys"
-SECONDS = 20
+BINDINGS, SIMULATION = ("-p", "durkenzo-store-sys"), ("-p", "simulation", "--release")
+LIMITS = ("--schedules", str(10**9), "--seconds", "20")
 
 
-def passed(room):
-    """All of it; nothing where there is no library."""
-    if not is_there() or not shutil.which("cargo"):
+def passed(_room):
+    """All of it; nothing if there is no library, or cargo finds no crates."""
+    if not is_there() or not shutil.which("cargo") or not other_crates.has_crates():
         return
-    env = {"CARGO_TARGET_DIR": pathlib.Path(room) / "target"}
-    limits = ["--schedules", 10**9, "--seconds", SECONDS]
-    schedules = ["cargo", "run", "--quiet", "--release", "--offline", "--", *limits]
-    yield ran("the bindings of a store's calls", ["cargo", "test", "--offline"], BINDINGS, **env)
-    yield ran("planted bugs are found", ["cargo", "test", "--release", "--offline"], FOLDER, **env)
-    yield ran("schedules over a store keep the law", schedules, FOLDER, **env)
+    yield workspace.ran("the bindings of a store's calls", "test", *BINDINGS)
+    yield workspace.ran("planted bugs are found", "test", *SIMULATION)
+    yield workspace.ran("schedules over a store keep the law", "run", "--quiet", *SIMULATION, "--", *LIMITS)

@@ -1,0 +1,13 @@
+use durkenzo_store::{Done, Outcome, Transaction, WriteError};
+
+/// What became of a transaction.
+pub type Became = Result<Outcome, WriteError>;
+
+/// A transaction on its way, or what became of it on its way back.
+pub struct Flight {
+    pub transaction: Transaction,
+    /// Who is told; nobody of a copy, and nobody who was told that it isn't known what became of it.
+    pub done: Option<Done>,
+    /// What became of it, once the store has made it.
+    pub became: Option<Became>,
+}

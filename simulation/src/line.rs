@@ -1,0 +1,137 @@
+use crate::bug::Bug;
+use crate::flight::Flight;
+use crate::simulated_store::{locked, SharedStore, SimulatedStore};
+use durkenzo_store::Outcome;
+use durkenzo_store::{
+    CompactError, Done, LeaseError, LeaseId, ReadError, Reading, Store, Transaction, Watch,
+    Watcher, WriteError,
+};
+use std::sync::MutexGuard;
+use std::time::Duration;
+
+/// How much room there is mostly.
+const ROOM: u64 = 1 << 30;
+
+/// A process's way to the store. Whoever sends a transaction by [`Store::make`] has its answer at once, and some of
+/// what others have sent is made before that. What is sent by [`Store::submit`] is made when the schedule says so.
+pub struct Line {
+    shared: SharedStore,
+    /// Whether transactions are answered at once, as of a sender that waits for each.
+    is_waiting: bool,
+}
+
+impl Line {
+    /// Returns the way of a process's shards.
+    pub fn of_shards(shared: &SharedStore) -> Line {
+        Line {
+            shared: shared.clone(),
+            is_waiting: false,
+        }
+    }
+
+    /// Returns the way of a process's member, which waits for each of its transactions.
+    pub fn of_member(shared: &SharedStore) -> Line {
+        Line {
+            shared: shared.clone(),
+            is_waiting: true,
+        }
+    }
+
+    fn store(&self) -> MutexGuard<'_, SimulatedStore> {
+        locked(&self.shared)
+    }
+
+    /// The store, once it was reached to read it, and others have gone on.
+    fn reached(&self) -> Result<MutexGuard<'_, SimulatedStore>, ReadError> {
+        let mut store = self.store();
+        store.let_others_write();
+        match store.fails(60) {
+            true => Err(ReadError::Unavailable("by chance".to_owned())),
+            false => Ok(store),
+        }
+    }
+
+    fn leases(&self) -> Result<MutexGuard<'_, SimulatedStore>, LeaseError> {
+        let mut store = self.store();
+        match store.fails(20) {
+            true => Err(LeaseError::Unavailable("by chance".to_owned())),
+            false => Ok(store),
+        }
+    }
+}
+
+impl Store for Line {
+    fn submit(&self, transaction: Transaction, done: Done) {
+        if self.is_waiting {
+            return done(self.make(transaction));
+        }
+        let mut store = self.store();
+        let transaction = store.spoilt(transaction);
+        store.flights.push(Flight {
+            transaction,
+            done: Some(done),
+            became: None,
+        });
+    }
+
+    fn make(&self, transaction: Transaction) -> Result<Outcome, WriteError> {
+        let mut store = self.store();
+        let transaction = store.spoilt(transaction);
+        store.called(transaction)
+    }
+
+    fn read(&self, keys: &[&[u8]]) -> Result<Reading, ReadError> {
+        let mut store = self.reached()?;
+        let reading = store.reading(keys.iter().copied());
+        Ok(store.misread(keys, reading))
+    }
+
+    fn read_all(&self, prefix: &[u8]) -> Result<Reading, ReadError> {
+        let store = self.reached()?;
+        let mut reading = store.range(prefix, |it| it.starts_with(prefix), usize::MAX);
+        if store.bug == Some(Bug::EarlyDrop) && prefix == b"server/" {
+            let read = store.revision.to_be_bytes();
+            let told = reading
+                .pairs
+                .iter_mut()
+                .filter_map(|it| it.value.get_mut(9..17));
+            told.for_each(|it| it.copy_from_slice(&read));
+        }
+        Ok(reading)
+    }
+
+    fn read_range(&self, from: &[u8], end: &[u8], most: usize) -> Result<Reading, ReadError> {
+        let store = self.reached()?;
+        Ok(store.range(from, |it| it < end, most))
+    }
+
+    fn watch(&self, prefix: &[u8], watcher: Watcher) -> Result<Watch, ReadError> {
+        let number = self.store().watch(prefix, watcher);
+        let shared = self.shared.clone();
+        Ok(Watch::ended_by(move || locked(&shared).unwatch(number)))
+    }
+
+    fn grant(&self, length: Duration) -> Result<LeaseId, LeaseError> {
+        Ok(self.leases()?.grant(length))
+    }
+
+    fn keep(&self, lease: LeaseId) -> Result<(), LeaseError> {
+        let is_kept = self.leases()?.keep(lease);
+        is_kept.then_some(()).ok_or(LeaseError::Ended(lease))
+    }
+
+    fn revoke(&self, lease: LeaseId) -> Result<(), LeaseError> {
+        let went_on = self.leases()?.revoke(lease);
+        went_on.then_some(()).ok_or(LeaseError::Ended(lease))
+    }
+
+    fn left(&self) -> Option<u64> {
+        let mut store = self.store();
+        let is_scarce = store.fails(10);
+        Some(if is_scarce { 0 } else { ROOM })
+    }
+
+    fn compact(&self) -> Result<(), CompactError> {
+        Ok(())
+    }
+}

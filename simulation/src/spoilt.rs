@@ -1,0 +1,137 @@
+//! What planted bugs make of a process's transactions and readings: as they would be if the driver had the bug.
+use crate::bug::Bug;
+use crate::flight::{Became, Flight};
+use crate::key::DecodedKey;
+use crate::reading;
+use crate::simulated_store::SimulatedStore;
+use durkenzo_store::{Outcome, Reading, Revision, Transaction, WriteError};
+
+/// Whether it is of a shard's server: it compares the head of a log.
+fn is_of_server(transaction: &Transaction) -> bool {
+    let mut compares = transaction.compares.iter();
+    compares.any(|it| it.key.starts_with(b"head/"))
+}
+
+/// Whether it is a control's command.
+fn is_command(transaction: &Transaction) -> bool {
+    transaction.puts.iter().any(|it| it.key == b"commands")
+}
+
+/// Has it no longer compare the keys that begin so.
+fn uncompared(mut transaction: Transaction, prefix: &[u8]) -> Transaction {
+    transaction
+        .compares
+        .retain(|it| !it.key.starts_with(prefix));
+    transaction
+}
+
+impl SimulatedStore {
+    /// Returns what is sent in place of this transaction.
+    pub fn spoilt(&mut self, transaction: Transaction) -> Transaction {
+        let Some(bug) = self.bug else {
+            return transaction;
+        };
+        match bug {
+            Bug::NoRecordCompare => uncompared(transaction, b"record/"),
+            Bug::NoHeadCompare => uncompared(transaction, b"head/"),
+            Bug::NoLeaderCompare if is_command(&transaction) => uncompared(transaction, b"leader"),
+            Bug::NoCommandsCompare => uncompared(transaction, b"commands"),
+            Bug::NoServerCompare if is_command(&transaction) => uncompared(transaction, b"server/"),
+            Bug::EarlyDeletion => {
+                self.delete_early(&transaction);
+                transaction
+            }
+            Bug::ShortBase => short(transaction),
+            _ => transaction,
+        }
+    }
+
+    /// Deletes the batches that this part of a base is to stand for.
+    fn delete_early(&mut self, part: &Transaction) {
+        let Some(DecodedKey::Part(shard, number, _)) =
+            part.puts.first().and_then(|it| DecodedKey::of(&it.key))
+        else {
+            return;
+        };
+        let batches = (1..=number).map(|it| format!("batch/{shard:05}/{it:020}").into_bytes());
+        self.flights.push(Flight {
+            transaction: batches.fold(Transaction::new(), Transaction::delete),
+            done: None,
+            became: None,
+        });
+    }
+
+    /// Returns what is told of a transaction before it is made, if that is done.
+    pub fn untrue(&self, transaction: &Transaction) -> Option<Became> {
+        let is_told = match self.bug? {
+            Bug::EarlyReply => is_of_server(transaction) && transaction.writes(),
+            Bug::UnsentRead => is_of_server(transaction) && !transaction.writes(),
+            _ => false,
+        };
+        let writes = u64::from(transaction.writes());
+        is_told.then_some(Ok(Outcome::Made(Revision(self.revision + writes))))
+    }
+
+    /// Returns what is told in place of what became of a transaction.
+    pub fn told(&self, transaction: &Transaction, became: Became) -> Became {
+        let made = Ok(Outcome::Made(Revision(self.revision + 1)));
+        match (self.bug, &became) {
+            _ if !is_of_server(transaction) => became,
+            (Some(Bug::UnknownAsLost), Err(WriteError::Unknown(why))) => {
+                Err(WriteError::Unavailable(why.clone()))
+            }
+            (Some(Bug::UnknownAsMade), Err(WriteError::Unknown(_))) => made,
+            (Some(Bug::LostAsMade), Ok(Outcome::Lost(_))) => made,
+            _ => became,
+        }
+    }
+
+    /// Returns what is read in place of this.
+    pub fn misread(&mut self, keys: &[&[u8]], mut reading: Reading) -> Reading {
+        match self.bug {
+            Some(Bug::TornReading) => {
+                let heads = reading.pairs.iter_mut();
+                let heads = heads.filter(|it| it.key.starts_with(b"head/"));
+                heads.for_each(|it| one_batch_less(&mut it.value));
+            }
+            Some(Bug::TornRecords) if keys.contains(&&b"commands"[..]) => {
+                let moment = self.revision.saturating_sub(self.chance.below(6));
+                let is_commands = |it: &&&[u8]| **it == b"commands";
+                let others = keys.iter().filter(|it| !is_commands(it));
+                let others = others.filter_map(|it| self.pair_at(it, moment));
+                reading.pairs.retain(|it| it.key == b"commands");
+                reading.pairs.extend(others);
+            }
+            _ => {}
+        }
+        reading
+    }
+}
+
+/// Has a head have a batch less behind its base.
+fn one_batch_less(head: &mut [u8]) {
+    if let Some([batches, base, _]) = reading::head(head) {
+        if batches > base {
+            head[1..9].copy_from_slice(&(batches - 1).to_be_bytes());
+        }
+    }
+}
+
+/// Has a base be one of a batch more, where its part is written and where it is named.
+fn short(mut transaction: Transaction) -> Transaction {
+    let names_base = transaction.puts.len() == 1;
+    for put in &mut transaction.puts {
+        match DecodedKey::of(&put.key) {
+            Some(DecodedKey::Part(shard, number, place)) => {
+                put.key = format!("base/{shard:05}/{:020}/{place:05}", number + 1).into_bytes();
+            }
+            Some(DecodedKey::Head(_)) if names_base => {
+                if let Some([_, base, _]) = reading::head(&put.value) {
+                    put.value[9..17].copy_from_slice(&(base + 1).to_be_bytes());
+                }
+            }
+            _ => {}
+        }
+    }
+    transaction
+}

@@ -1,0 +1,71 @@
+use crate::claim::{Claim, Said};
+use crate::key::{DecodedKey, Written};
+
+/// How often what happened, so that runs in which nothing does are seen.
+#[derive(Clone, Copy, Default, Debug, PartialEq, Eq)]
+pub struct Tally {
+    pub events: u64,
+    pub made: u64,
+    pub lost: u64,
+    pub replied: u64,
+    pub read: u64,
+    pub passed: u64,
+    pub refused: u64,
+    pub unknown: u64,
+    pub forwarded: u64,
+    pub starts: u64,
+    pub renewed: u64,
+    pub elections: u64,
+    pub changes: u64,
+    pub bases: u64,
+    pub deleted: u64,
+    pub by_lease: u64,
+}
+
+impl Tally {
+    /// Adds the counts of another schedule.
+    pub fn add(&mut self, more: &Tally) {
+        self.events += more.events;
+        self.made += more.made;
+        self.lost += more.lost;
+        self.replied += more.replied;
+        self.read += more.read;
+        self.passed += more.passed;
+        self.refused += more.refused;
+        self.unknown += more.unknown;
+        self.forwarded += more.forwarded;
+        self.starts += more.starts;
+        self.renewed += more.renewed;
+        self.elections += more.elections;
+        self.changes += more.changes;
+        self.bases += more.bases;
+        self.deleted += more.deleted;
+        self.by_lease += more.by_lease;
+    }
+
+    /// Counts what a transaction wrote.
+    pub fn note_made(&mut self, written: &Written) {
+        let puts = |is_such: fn(&DecodedKey) -> bool| written.puts.iter().any(|it| is_such(&it.0));
+        let is_behind =
+            |it: &&DecodedKey| matches!(it, DecodedKey::Batch(..) | DecodedKey::Part(..));
+        self.made += 1;
+        self.changes += u64::from(puts(|it| {
+            matches!(it, DecodedKey::Record(_) | DecodedKey::State(_))
+        }));
+        self.renewed += u64::from(puts(|it| matches!(it, DecodedKey::Lowest(_))));
+        self.elections += u64::from(puts(|it| *it == DecodedKey::Leader));
+        self.deleted += written.deletes.iter().filter(is_behind).count() as u64;
+        self.bases += u64::from(written.names_base());
+    }
+
+    /// Counts what was told.
+    pub fn note_told(&mut self, claim: &Claim) {
+        *match claim.said {
+            Said::Made { .. } => &mut self.replied,
+            Said::Read { .. } => &mut self.read,
+            Said::Passed => &mut self.passed,
+            Said::NotMade { .. } | Said::Damaged(_) => &mut self.refused,
+            Said::Unknown { .. } => &mut self.unknown,
+        } += 1;
+    }
+}

@@ -1,0 +1,35 @@
+use std::sync::atomic::{AtomicU64, Ordering};
+use std::sync::Arc;
+use std::time::{Duration, Instant};
+
+/// The clock of a schedule, which all its processes and its store go by.
+#[derive(Clone)]
+pub struct Time {
+    beginning: Instant,
+    milliseconds: Arc<AtomicU64>,
+}
+
+impl Time {
+    /// Returns a clock at its beginning.
+    pub fn new() -> Time {
+        Time {
+            beginning: Instant::now(),
+            milliseconds: Arc::default(),
+        }
+    }
+
+    /// Returns the time since the beginning.
+    pub fn passed(&self) -> Duration {
+        Duration::from_millis(self.milliseconds.load(Ordering::Relaxed))
+    }
+
+    /// Returns this moment. Only the time between two of them is of the schedule.
+    pub fn now(&self) -> Instant {
+        self.beginning + self.passed()
+    }
+
+    /// Moves the clock forward.
+    pub fn pass(&self, milliseconds: u64) {
+        self.milliseconds.fetch_add(milliseconds, Ordering::Relaxed);
+    }
+}
