@@ -9,6 +9,7 @@ import threading
 import time
 
 import fleet
+import other_crates
 import runs
 
 # All records, then all servers that are there: no other keys lie between.
@@ -166,12 +167,8 @@ def is_behind(server, revision):
 
 def program():
     """The example of the library that replays changes, built over whatever library there is."""
-    serve = runs.loaded("serve")
-    crate, target = runs.TOP / "library/rust/durkenzo", runs.TOP / "out/replay"
-    library = serve.any_library()
-    env = {"CARGO_TARGET_DIR": str(target)} | ({"DURKENZO_LIB": str(library)} if library else {})
-    words = ["cargo", "build", "--offline", "--release", "--example", "replay"]
-    ran = subprocess.run(words, cwd=crate, env={**runs.os.environ, **env}, capture_output=True, text=True)
+    words = ["build", "--release", "-p", "durkenzo", "--example", "replay"]
+    ran = other_crates.cargo(*words, library=runs.loaded("serve").any_library())
     if ran.returncode:
         raise fleet.NotBegun(f"cargo build of the replay ended with {ran.returncode}\n{ran.stderr[-2000:]}")
-    return target / "release/examples/replay"
+    return other_crates.target() / "release/examples/replay"

@@ -6,7 +6,7 @@ use std::time::Duration;
 const MOST: usize = 64 << 20;
 
 /// A connection that speaks the Redis protocol.
-pub struct Client {
+pub struct RespClient {
     stream: BufReader<TcpStream>,
     /// How many bytes the reply that is being read may have yet.
     left: usize,
@@ -14,7 +14,7 @@ pub struct Client {
 
 /// What a server answers.
 #[derive(Clone, Debug, PartialEq, Eq)]
-pub enum Reply {
+pub enum RespReply {
     /// A line, as `OK`.
     Line(String),
     /// A number.
@@ -22,7 +22,7 @@ pub enum Reply {
     /// A text, or none.
     Text(Option<String>),
     /// Several replies.
-    List(Vec<Reply>),
+    List(Vec<RespReply>),
     /// A refusal.
     Error(String),
 }
@@ -44,13 +44,13 @@ impl From<io::Error> for Failure {
     }
 }
 
-impl Client {
+impl RespClient {
     /// Connects, and waits for that and for replies no longer than this.
     ///
     /// # Errors
     ///
     /// Where nobody listens there, or takes the connection in time.
-    pub fn connect(address: impl ToSocketAddrs, patience: Duration) -> io::Result<Client> {
+    pub fn connect(address: impl ToSocketAddrs, patience: Duration) -> io::Result<RespClient> {
         let address = address.to_socket_addrs()?.next();
         let address = address.ok_or_else(|| io::Error::from(io::ErrorKind::NotFound))?;
         // A process that is stopped takes no connection, and closes none.
@@ -58,7 +58,7 @@ impl Client {
         stream.set_nodelay(true)?;
         stream.set_read_timeout(Some(patience))?;
         stream.set_write_timeout(Some(patience))?;
-        Ok(Client {
+        Ok(RespClient {
             stream: BufReader::new(stream),
             left: 0,
         })
@@ -69,7 +69,7 @@ impl Client {
     /// # Errors
     ///
     /// Where none comes, or one of more than 64 MiB; the connection is then of no use.
-    pub fn call(&mut self, words: &[&str]) -> Result<Reply, Failure> {
+    pub fn call(&mut self, words: &[&str]) -> Result<RespReply, Failure> {
         let mut sent = format!("*{}\r\n", words.len());
         for word in words {
             sent += &format!("${}\r\n{word}\r\n", word.len());
@@ -79,22 +79,22 @@ impl Client {
         self.reply()
     }
 
-    fn reply(&mut self) -> Result<Reply, Failure> {
+    fn reply(&mut self) -> Result<RespReply, Failure> {
         let line = self.line()?;
         let wrong = || garbled(&line);
         let (kind, rest) = line.split_at_checked(1).ok_or_else(wrong)?;
         match kind {
-            "+" => Ok(Reply::Line(rest.to_owned())),
-            "-" => Ok(Reply::Error(rest.to_owned())),
-            ":" => rest.parse().map(Reply::Number).map_err(|_| wrong()),
-            "$" if rest == "-1" => Ok(Reply::Text(None)),
-            "$" => self.text(rest).map(|it| Reply::Text(Some(it))),
+            "+" => Ok(RespReply::Line(rest.to_owned())),
+            "-" => Ok(RespReply::Error(rest.to_owned())),
+            ":" => rest.parse().map(RespReply::Number).map_err(|_| wrong()),
+            "$" if rest == "-1" => Ok(RespReply::Text(None)),
+            "$" => self.text(rest).map(|it| RespReply::Text(Some(it))),
             "*" => {
                 let count: usize = rest.parse().map_err(|_| wrong())?;
                 (0..count)
                     .map(|_| self.reply())
                     .collect::<Result<_, _>>()
-                    .map(Reply::List)
+                    .map(RespReply::List)
             }
             _ => Err(wrong()),
         }

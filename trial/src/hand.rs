@@ -1,5 +1,5 @@
 use crate::chance::Chance;
-use crate::{Call, Client, Command, History, Plan, Routes, Told};
+use crate::{Call, CommandOutcome, History, KeyCommand, KeyRoutes, RespClient, TrialPlan};
 use std::thread::sleep;
 use std::time::{Duration, Instant};
 
@@ -27,12 +27,12 @@ const GRACE: Duration = Duration::from_secs(10);
 
 /// A client that calls by chance, and records what it asked and what it was answered.
 pub struct Hand<'a> {
-    plan: &'a Plan,
+    plan: &'a TrialPlan,
     name: u64,
     way: Way,
     chance: Chance,
-    client: Option<(String, Client)>,
-    routes: Routes,
+    client: Option<(String, RespClient)>,
+    routes: KeyRoutes,
     /// Which server it calls.
     turn: u64,
     /// How many numbered requests it made.
@@ -42,14 +42,14 @@ pub struct Hand<'a> {
 
 impl<'a> Hand<'a> {
     /// One with a name of its own, which calls the server of this turn.
-    pub fn new(plan: &'a Plan, name: u64, way: Way, turn: u64) -> Hand<'a> {
+    pub fn new(plan: &'a TrialPlan, name: u64, way: Way, turn: u64) -> Hand<'a> {
         Hand {
             plan,
             name,
             way,
             chance: Chance::new(plan.seed, name),
             client: None,
-            routes: Routes::default(),
+            routes: KeyRoutes::default(),
             turn,
             numbered: 0,
             history: History::default(),
@@ -75,29 +75,29 @@ impl<'a> Hand<'a> {
     }
 
     /// A key and a command by chance; what it writes no other call writes.
-    fn next(&mut self, number: u64) -> (String, Command) {
+    fn next(&mut self, number: u64) -> (String, KeyCommand) {
         if self.way == Way::Numbers && self.chance.below(4) == 0 {
-            return (self.plan.count(self.name), Command::Incr);
+            return (self.plan.count(self.name), KeyCommand::Incr);
         }
         let key = self.plan.key(self.chance.below(self.plan.keys));
         if self.way == Way::Reads {
-            return (key, Command::Get);
+            return (key, KeyCommand::Get);
         }
         let input = match self.chance.below(8) {
-            0 => Command::Set(format!("{}.{number}.", self.name)),
+            0 => KeyCommand::Set(format!("{}.{number}.", self.name)),
             1 if self.plan.epoch.is_none() || self.chance.below(4) == 0 => {
-                Command::Append(format!("+{}.{number}", self.name))
+                KeyCommand::Append(format!("+{}.{number}", self.name))
             }
-            2 => Command::Set(number.to_string()),
-            3 | 4 => Command::Incr,
-            5 if self.chance.below(4) == 0 => Command::Del,
-            _ => Command::Get,
+            2 => KeyCommand::Set(number.to_string()),
+            3 | 4 => KeyCommand::Incr,
+            5 if self.chance.below(4) == 0 => KeyCommand::Del,
+            _ => KeyCommand::Get,
         };
         (key, input)
     }
 
     /// Sends a request under a number, until it is answered or it is too late.
-    fn numbered(&mut self, key: &str, input: &Command) -> Told {
+    fn numbered(&mut self, key: &str, input: &KeyCommand) -> CommandOutcome {
         self.numbered += 1;
         let (client, number) = (self.client_number(), self.numbered.to_string());
         let words: Vec<_> = ["SM", "CALL", &client, &number]
@@ -107,13 +107,15 @@ impl<'a> Hand<'a> {
         loop {
             let told = self.call(key, input, &words);
             let why: &str = match &told {
-                Told::Refused(it) if !is_final(it) => it,
-                Told::NotSent => "nobody is there",
-                Told::Unknown => "no answer",
-                Told::Answer(_) | Told::Refused(_) | Told::Garbled(_) => return told,
+                CommandOutcome::Refused(it) if !is_final(it) => it,
+                CommandOutcome::NotSent => "nobody is there",
+                CommandOutcome::Unknown => "no answer",
+                CommandOutcome::Answer(_)
+                | CommandOutcome::Refused(_)
+                | CommandOutcome::Garbled(_) => return told,
             };
             if Instant::now() > self.plan.end + GRACE {
-                return Told::Unknown;
+                return CommandOutcome::Unknown;
             }
             self.history.send_again(why);
             self.turn += 1;
@@ -127,22 +129,22 @@ impl<'a> Hand<'a> {
     }
 
     /// Sends a command where its key is to be sent.
-    fn call(&mut self, key: &str, input: &Command, words: &[&str]) -> Told {
+    fn call(&mut self, key: &str, input: &KeyCommand, words: &[&str]) -> CommandOutcome {
         let address = match self.way {
             Way::Routes => self.routes.address(self.plan, key, self.turn),
             _ => self.plan.address(self.turn).to_owned(),
         };
         let kept = self.client.take().filter(|(at, _)| *at == address);
-        let connect = || Client::connect(address.as_str(), self.plan.patience).ok();
+        let connect = || RespClient::connect(address.as_str(), self.plan.patience).ok();
         let Some(mut client) = kept.map(|(_, it)| it).or_else(connect) else {
             self.pass_over();
-            return Told::NotSent;
+            return CommandOutcome::NotSent;
         };
         let reply = client.call(words);
         let is_reply = reply.is_ok();
-        let told = Told::of(input, reply);
+        let told = CommandOutcome::of(input, reply);
         // Of what comes after a garbled reply nobody knows what it answers.
-        match is_reply && !matches!(told, Told::Garbled(_)) {
+        match is_reply && !matches!(told, CommandOutcome::Garbled(_)) {
             true => self.client = Some((address, client)),
             false => self.pass_over(),
         }
@@ -156,17 +158,26 @@ impl<'a> Hand<'a> {
         self.routes.forget();
     }
 
-    fn record(&mut self, key: String, input: Command, began: u64, ended: u64, told: Told) {
-        if let Told::Garbled(came) = &told {
+    fn record(
+        &mut self,
+        key: String,
+        input: KeyCommand,
+        began: u64,
+        ended: u64,
+        told: CommandOutcome,
+    ) {
+        if let CommandOutcome::Garbled(came) = &told {
             let asked = input.words(&key).join(" ");
             self.history.garbled.note(&asked, came);
         }
         let output = match told {
-            Told::NotSent => return,
-            Told::Refused(why) => return self.history.refuse(&why),
-            Told::Answer(answer) => Some(answer),
-            Told::Garbled(_) | Told::Unknown if input == Command::Get => return,
-            Told::Garbled(_) | Told::Unknown => {
+            CommandOutcome::NotSent => return,
+            CommandOutcome::Refused(why) => return self.history.refuse(&why),
+            CommandOutcome::Answer(answer) => Some(answer),
+            CommandOutcome::Garbled(_) | CommandOutcome::Unknown if input == KeyCommand::Get => {
+                return
+            }
+            CommandOutcome::Garbled(_) | CommandOutcome::Unknown => {
                 self.plan.note_open(&key);
                 None
             }

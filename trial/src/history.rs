@@ -1,4 +1,4 @@
-use crate::{Answer, Call, Command, Garbled};
+use crate::{Call, Garbled, KeyAnswer, KeyCommand};
 use std::collections::BTreeMap;
 use std::thread;
 
@@ -6,7 +6,7 @@ use std::thread;
 #[derive(Debug, Default)]
 pub struct History {
     /// The calls of each key.
-    pub calls: BTreeMap<String, Vec<Call<Command, Answer>>>,
+    pub calls: BTreeMap<String, Vec<Call<KeyCommand, KeyAnswer>>>,
     /// How often each name came that says that nothing was done.
     pub refusals: BTreeMap<String, u64>,
     /// The refusal that came last.
@@ -43,7 +43,7 @@ impl History {
     }
 
     /// Records a call.
-    pub(crate) fn record(&mut self, key: String, call: Call<Command, Answer>) {
+    pub(crate) fn record(&mut self, key: String, call: Call<KeyCommand, KeyAnswer>) {
         self.calls.entry(key).or_default().push(call);
     }
 

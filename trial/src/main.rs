@@ -1,7 +1,8 @@
 //! Calls servers for a while beside moving shards and faults, and says whether their answers are those of one thread.
 use clap::Parser;
 use durkenzo_trial::{
-    Answer, Call, Client, Command, Hand, History, Mover, Plan, Report, Told, Way,
+    Call, CommandOutcome, Hand, History, KeyAnswer, KeyCommand, Mover, Report, RespClient,
+    TrialPlan, Way,
 };
 use std::collections::VecDeque;
 use std::path::{Path, PathBuf};
@@ -70,9 +71,9 @@ struct Options {
 }
 
 impl Options {
-    fn plan(&self) -> Plan {
+    fn plan(&self) -> TrialPlan {
         let start = Instant::now();
-        Plan {
+        TrialPlan {
             addresses: self.address.clone(),
             keys: self.keys,
             epoch: Some(Duration::from_secs(self.epoch)).filter(|it| !it.is_zero()),
@@ -153,7 +154,7 @@ fn write_unexplained(history: &History, report: &Report, folder: &Path) -> std::
 }
 
 /// Has clients call until the end, and shards move meanwhile; what they recorded.
-fn recorded(options: &Options, plan: &Plan) -> (History, Option<Mover>) {
+fn recorded(options: &Options, plan: &TrialPlan) -> (History, Option<Mover>) {
     let mut history = History::default();
     let mover = thread::scope(|threads| {
         let work = |name| Hand::new(plan, name, options.way(name), options.turn(name)).work();
@@ -171,8 +172,8 @@ fn recorded(options: &Options, plan: &Plan) -> (History, Option<Mover>) {
 }
 
 /// Has no key be there when the clients begin.
-fn clear(plan: &Plan) -> std::io::Result<()> {
-    let mut client = Client::connect(plan.address(0), plan.patience)?;
+fn clear(plan: &TrialPlan) -> std::io::Result<()> {
+    let mut client = RespClient::connect(plan.address(0), plan.patience)?;
     for key in 0..plan.keys {
         client.call(&["DEL", &plan.key(key)]).map_err(|it| it.0)?;
     }
@@ -181,7 +182,7 @@ fn clear(plan: &Plan) -> std::io::Result<()> {
 
 /// Reads each key a last time, at any server, and returns those that weren't read. Those that aren't answered come
 /// again after the others.
-fn read_all(plan: &Plan, history: &mut History) -> Vec<String> {
+fn read_all(plan: &TrialPlan, history: &mut History) -> Vec<String> {
     let (end, mut client) = (Instant::now() + LAST, None);
     let mut left: VecDeque<String> = history.calls.keys().cloned().collect();
     let mut turn = 0;
@@ -203,26 +204,28 @@ fn read_all(plan: &Plan, history: &mut History) -> Vec<String> {
 
 /// Reads the key at the server to which there is a connection, or at that of this turn.
 fn read(
-    plan: &Plan,
-    client: &mut Option<Client>,
+    plan: &TrialPlan,
+    client: &mut Option<RespClient>,
     turn: u64,
     key: &str,
     history: &mut History,
-) -> Option<Call<Command, Answer>> {
+) -> Option<Call<KeyCommand, KeyAnswer>> {
     let began = plan.moment();
-    let connect = || Client::connect(plan.address(turn), plan.patience).ok();
+    let connect = || RespClient::connect(plan.address(turn), plan.patience).ok();
     let mut connected = client.take().or_else(connect)?;
-    let answer = match Told::of(&Command::Get, connected.call(&["GET", key])) {
-        Told::Answer(it) => it,
-        Told::Garbled(came) => {
+    let answer = match CommandOutcome::of(&KeyCommand::Get, connected.call(&["GET", key])) {
+        CommandOutcome::Answer(it) => it,
+        CommandOutcome::Garbled(came) => {
             history.garbled.note(&format!("GET {key}"), &came);
             return None;
         }
-        Told::NotSent | Told::Refused(_) | Told::Unknown => return None,
+        CommandOutcome::NotSent | CommandOutcome::Refused(_) | CommandOutcome::Unknown => {
+            return None
+        }
     };
     *client = Some(connected);
     Some(Call {
-        input: Command::Get,
+        input: KeyCommand::Get,
         output: Some(answer),
         began,
         ended: plan.moment(),

@@ -1,10 +1,10 @@
-use crate::{Client, Reply};
+use crate::{RespClient, RespReply};
 use std::io;
 use std::time::{Duration, Instant};
 
 /// Who moves shards and restarts servers meanwhile.
 pub struct Mover {
-    client: Client,
+    client: RespClient,
     servers: u64,
     shards: u64,
     /// How many shards it moved.
@@ -20,7 +20,7 @@ impl Mover {
     ///
     /// Where nobody listens there.
     pub fn connect(address: &str, servers: u64, shards: u64) -> io::Result<Mover> {
-        let client = Client::connect(address, Duration::from_secs(120))?;
+        let client = RespClient::connect(address, Duration::from_secs(120))?;
         Ok(Mover {
             client,
             servers,
@@ -47,6 +47,6 @@ impl Mover {
     }
 
     fn is_done(&mut self, words: &[&str]) -> bool {
-        matches!(self.client.call(words), Ok(reply) if !matches!(reply, Reply::Error(_)))
+        matches!(self.client.call(words), Ok(reply) if !matches!(reply, RespReply::Error(_)))
     }
 }

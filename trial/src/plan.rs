@@ -9,7 +9,7 @@ const MOST_OPEN: u64 = 4;
 
 /// What all clients of a trial share.
 #[derive(Debug)]
-pub struct Plan {
+pub struct TrialPlan {
     /// Where servers listen.
     pub addresses: Vec<String>,
     /// How many keys are called of at a time.
@@ -28,7 +28,7 @@ pub struct Plan {
     pub open: Box<[AtomicU64]>,
 }
 
-impl Plan {
+impl TrialPlan {
     /// The moment now.
     pub fn moment(&self) -> u64 {
         u64::try_from(self.start.elapsed().as_nanos()).unwrap_or(u64::MAX)

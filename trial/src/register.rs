@@ -1,8 +1,8 @@
-use crate::{Model, Reply};
+use crate::{Model, RespReply};
 
 /// A command of one key.
 #[derive(Clone, Debug, PartialEq, Eq)]
-pub enum Command {
+pub enum KeyCommand {
     /// `GET`.
     Get,
     /// `SET`.
@@ -15,33 +15,36 @@ pub enum Command {
     Del,
 }
 
-impl Command {
+impl KeyCommand {
     /// Its words, with the key.
     pub fn words<'a>(&'a self, key: &'a str) -> Vec<&'a str> {
         match self {
-            Command::Get => vec!["GET", key],
-            Command::Set(text) => vec!["SET", key, text],
-            Command::Append(text) => vec!["APPEND", key, text],
-            Command::Incr => vec!["INCR", key],
-            Command::Del => vec!["DEL", key],
+            KeyCommand::Get => vec!["GET", key],
+            KeyCommand::Set(text) => vec!["SET", key, text],
+            KeyCommand::Append(text) => vec!["APPEND", key, text],
+            KeyCommand::Incr => vec!["INCR", key],
+            KeyCommand::Del => vec!["DEL", key],
         }
     }
 
     /// Whether it may be sent under a number: it writes, and that without reading first.
     pub fn may_be_numbered(&self) -> bool {
-        matches!(self, Command::Set(_) | Command::Incr | Command::Del)
+        matches!(
+            self,
+            KeyCommand::Set(_) | KeyCommand::Incr | KeyCommand::Del
+        )
     }
 
     /// What a reply answers to it; a refusal answers nothing, nor does a reply of another kind.
-    pub fn answer(&self, reply: &Reply) -> Option<Answer> {
+    pub fn answer(&self, reply: &RespReply) -> Option<KeyAnswer> {
         match (self, reply) {
-            (Command::Set(_), Reply::Line(it)) if it == "OK" => Some(Answer::Done),
-            (Command::Get, Reply::Text(text)) => Some(Answer::Text(text.clone())),
-            (Command::Append(_) | Command::Incr | Command::Del, Reply::Number(it)) => {
-                Some(Answer::Number(*it))
+            (KeyCommand::Set(_), RespReply::Line(it)) if it == "OK" => Some(KeyAnswer::Done),
+            (KeyCommand::Get, RespReply::Text(text)) => Some(KeyAnswer::Text(text.clone())),
+            (KeyCommand::Append(_) | KeyCommand::Incr | KeyCommand::Del, RespReply::Number(it)) => {
+                Some(KeyAnswer::Number(*it))
             }
-            (Command::Incr, Reply::Error(it)) if it.contains("not an integer") => {
-                Some(Answer::NoNumber)
+            (KeyCommand::Incr, RespReply::Error(it)) if it.contains("not an integer") => {
+                Some(KeyAnswer::NoNumber)
             }
             _ => None,
         }
@@ -50,7 +53,7 @@ impl Command {
 
 /// What it answers.
 #[derive(Clone, Debug, PartialEq, Eq)]
-pub enum Answer {
+pub enum KeyAnswer {
     /// It is done.
     Done,
     /// The text, where there is one.
@@ -67,23 +70,26 @@ pub struct Register;
 
 impl Model for Register {
     type State = Option<String>;
-    type Input = Command;
-    type Output = Answer;
+    type Input = KeyCommand;
+    type Output = KeyAnswer;
 
-    fn step(text: &Option<String>, command: &Command) -> (Option<String>, Answer) {
+    fn step(text: &Option<String>, command: &KeyCommand) -> (Option<String>, KeyAnswer) {
         match command {
-            Command::Get => (text.clone(), Answer::Text(text.clone())),
-            Command::Set(new) => (Some(new.clone()), Answer::Done),
-            Command::Append(more) => {
+            KeyCommand::Get => (text.clone(), KeyAnswer::Text(text.clone())),
+            KeyCommand::Set(new) => (Some(new.clone()), KeyAnswer::Done),
+            KeyCommand::Append(more) => {
                 let whole = text.clone().unwrap_or_default() + more;
                 let length = i64::try_from(whole.len()).unwrap_or(i64::MAX);
-                (Some(whole), Answer::Number(length))
+                (Some(whole), KeyAnswer::Number(length))
             }
-            Command::Incr => match text.as_deref().unwrap_or("0").parse::<i64>() {
-                Ok(number) => (Some((number + 1).to_string()), Answer::Number(number + 1)),
-                Err(_) => (text.clone(), Answer::NoNumber),
+            KeyCommand::Incr => match text.as_deref().unwrap_or("0").parse::<i64>() {
+                Ok(number) => (
+                    Some((number + 1).to_string()),
+                    KeyAnswer::Number(number + 1),
+                ),
+                Err(_) => (text.clone(), KeyAnswer::NoNumber),
             },
-            Command::Del => (None, Answer::Number(i64::from(text.is_some()))),
+            KeyCommand::Del => (None, KeyAnswer::Number(i64::from(text.is_some()))),
         }
     }
 }

@@ -1,5 +1,5 @@
 use crate::plan::COUNT;
-use crate::{judge_until, Answer, Call, Command, Garbled, History, Register, Verdict};
+use crate::{judge_until, Call, Garbled, History, KeyAnswer, KeyCommand, Register, Verdict};
 use std::collections::BTreeMap;
 use std::fmt;
 use std::sync::atomic::{AtomicUsize, Ordering};
@@ -42,7 +42,7 @@ pub struct Report {
 }
 
 /// A key and its calls.
-type Of<'a> = (&'a String, &'a Vec<Call<Command, Answer>>);
+type Of<'a> = (&'a String, &'a Vec<Call<KeyCommand, KeyAnswer>>);
 
 impl Report {
     /// That of this history: what isn't judged until then stays undecided.
@@ -84,17 +84,17 @@ impl Report {
     }
 
     /// Sees that each numbered increment was made at most once, and once where it was answered.
-    fn count(&mut self, key: &str, calls: &[Call<Command, Answer>]) {
-        let is_increment = |it: &&Call<Command, Answer>| it.input == Command::Incr;
+    fn count(&mut self, key: &str, calls: &[Call<KeyCommand, KeyAnswer>]) {
+        let is_increment = |it: &&Call<KeyCommand, KeyAnswer>| it.input == KeyCommand::Incr;
         let sent = calls.iter().filter(is_increment).count();
         let answered = calls.iter().filter(is_increment);
         let answered = answered.filter(|it| it.output.is_some()).count();
-        let last = calls.iter().filter(|it| it.input == Command::Get);
+        let last = calls.iter().filter(|it| it.input == KeyCommand::Get);
         let Some(last) = last.max_by_key(|it| it.ended) else {
             return;
         };
         let found = match &last.output {
-            Some(Answer::Text(text)) => {
+            Some(KeyAnswer::Text(text)) => {
                 text.as_deref().unwrap_or("0").parse().unwrap_or(usize::MAX)
             }
             _ => return,

@@ -1,6 +1,6 @@
+use crate::call_set::CallSet;
 use crate::events::Events;
 use crate::linearizable::Verdict;
-use crate::taken::Taken;
 use crate::{Call, Model};
 use std::collections::HashMap;
 use std::time::Instant;
@@ -10,7 +10,7 @@ const STEPS: u64 = 1_024;
 
 /// A call that may come next.
 #[derive(Clone, Copy)]
-enum Next {
+enum Candidate {
     /// One with an answer, by its beginning among the events.
     Answered(usize),
     /// One without, by its number.
@@ -34,15 +34,15 @@ pub(crate) struct Search<'a, M: Model> {
     open: Vec<Open<'a, M::Input>>,
     events: Events,
     state: M::State,
-    taken: Taken,
-    open_taken: Taken,
+    taken: CallSet,
+    open_taken: CallSet,
     /// What was met, each with the fewest calls without answer that led there: no such call has to be made, so whatever
     /// follows with more of them follows with fewer.
     seen: HashMap<Met<M::State>, Vec<Box<[u64]>>>,
     /// How often something was met.
     met: usize,
     /// The calls in the order, with the state before each.
-    order: Vec<(Next, M::State)>,
+    order: Vec<(Candidate, M::State)>,
 }
 
 impl<'a, M: Model> Search<'a, M> {
@@ -65,8 +65,8 @@ impl<'a, M: Model> Search<'a, M> {
             .collect();
         Search {
             events: Events::new(answered.iter().copied()),
-            taken: Taken::new(answered.len()),
-            open_taken: Taken::new(open.len()),
+            taken: CallSet::new(answered.len()),
+            open_taken: CallSet::new(open.len()),
             answered,
             open,
             state: M::State::default(),
@@ -97,25 +97,25 @@ impl<'a, M: Model> Search<'a, M> {
         Verdict::Linearizable
     }
 
-    fn first(&self) -> Option<Next> {
-        let answered = self.events.first().map(Next::Answered);
+    fn first(&self) -> Option<Candidate> {
+        let answered = self.events.first().map(Candidate::Answered);
         answered.or_else(|| self.open_from(0))
     }
 
     /// What is tried where this one can't come next.
-    fn after(&self, last: Next) -> Option<Next> {
+    fn after(&self, last: Candidate) -> Option<Candidate> {
         match last {
-            Next::Answered(at) => self
+            Candidate::Answered(at) => self
                 .events
                 .next(at)
-                .map(Next::Answered)
+                .map(Candidate::Answered)
                 .or_else(|| self.open_from(0)),
-            Next::Open(number) => self.open_from(number + 1),
+            Candidate::Open(number) => self.open_from(number + 1),
         }
     }
 
     /// A call without answer from this number on that has begun, and of those that ask the same is the first.
-    fn open_from(&self, number: usize) -> Option<Next> {
+    fn open_from(&self, number: usize) -> Option<Candidate> {
         let end = self.events.first_end();
         (number..self.open.len())
             .take_while(|it| self.open[*it].began <= end)
@@ -123,17 +123,17 @@ impl<'a, M: Model> Search<'a, M> {
                 let is_first = self.open[*it].twin.is_none_or(|it| self.open_taken.has(it));
                 is_first && !self.open_taken.has(*it)
             })
-            .map(Next::Open)
+            .map(Candidate::Open)
     }
 
     /// Has this call come next, where its answer and what was tried allow it.
-    fn take(&mut self, next: Next) -> bool {
+    fn take(&mut self, next: Candidate) -> bool {
         let (input, output) = match next {
-            Next::Answered(at) => {
+            Candidate::Answered(at) => {
                 let call = self.answered[self.events.call(at)];
                 (&call.input, call.output.as_ref())
             }
-            Next::Open(number) => (self.open[number].input, None),
+            Candidate::Open(number) => (self.open[number].input, None),
         };
         let (state, found) = M::step(&self.state, input);
         if output.map_or(state == self.state, |it| *it != found) {
@@ -150,7 +150,7 @@ impl<'a, M: Model> Search<'a, M> {
         }
         self.order
             .push((next, std::mem::replace(&mut self.state, state)));
-        if let Next::Answered(at) = next {
+        if let Candidate::Answered(at) = next {
             self.events.take(at);
         }
         true
@@ -177,11 +177,11 @@ impl<'a, M: Model> Search<'a, M> {
     /// difference to each other the first comes first.
     fn is_tried_otherwise(
         &self,
-        next: Next,
+        next: Candidate,
         (input, output): (&M::Input, Option<&M::Output>),
         state: &M::State,
     ) -> bool {
-        let Some((Next::Open(last), before)) = self.order.last() else {
+        let Some((Candidate::Open(last), before)) = self.order.last() else {
             return false;
         };
         let (without, found) = M::step(before, input);
@@ -189,28 +189,28 @@ impl<'a, M: Model> Search<'a, M> {
             return false;
         }
         let may_come_before = match next {
-            Next::Answered(_) => true,
-            Next::Open(number) => number < *last,
+            Candidate::Answered(_) => true,
+            Candidate::Open(number) => number < *last,
         };
         without == *state
             || may_come_before && M::step(&without, self.open[*last].input).0 == *state
     }
 
     /// Takes the last call of the order back.
-    fn take_back(&mut self) -> Option<Next> {
+    fn take_back(&mut self) -> Option<Candidate> {
         let (last, state) = self.order.pop()?;
         self.state = state;
         self.mark(last, false);
-        if let Next::Answered(at) = last {
+        if let Candidate::Answered(at) = last {
             self.events.put_back(at);
         }
         Some(last)
     }
 
-    fn mark(&mut self, next: Next, is_taken: bool) {
+    fn mark(&mut self, next: Candidate, is_taken: bool) {
         let (set, number) = match next {
-            Next::Answered(at) => (&mut self.taken, self.events.call(at)),
-            Next::Open(number) => (&mut self.open_taken, number),
+            Candidate::Answered(at) => (&mut self.taken, self.events.call(at)),
+            Candidate::Open(number) => (&mut self.open_taken, number),
         };
         match is_taken {
             true => set.add(number),

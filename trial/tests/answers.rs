@@ -1,5 +1,5 @@
 //! The program beside a server of this file, one reply of which is wrong: whatever its kind, it is found.
-use durkenzo_trial::{Answer, Command, Model, Register};
+use durkenzo_trial::{KeyAnswer, KeyCommand, Model, Register};
 use std::collections::HashMap;
 use std::io::{BufRead, BufReader, Write};
 use std::net::{TcpListener, TcpStream};
@@ -81,23 +81,23 @@ impl Server {
             }
         }
         let command = match words {
-            ["GET", _] => Command::Get,
-            ["SET", _, text] => Command::Set((*text).to_owned()),
-            ["APPEND", _, text] => Command::Append((*text).to_owned()),
-            ["INCR", _] => Command::Incr,
-            ["DEL", _] => Command::Del,
+            ["GET", _] => KeyCommand::Get,
+            ["SET", _, text] => KeyCommand::Set((*text).to_owned()),
+            ["APPEND", _, text] => KeyCommand::Append((*text).to_owned()),
+            ["INCR", _] => KeyCommand::Incr,
+            ["DEL", _] => KeyCommand::Del,
             _ => return "-ERR unknown command\r\n".to_owned(),
         };
         match self.done(words[1], &command) {
-            Answer::Done => "+OK\r\n".to_owned(),
-            Answer::Text(None) => "$-1\r\n".to_owned(),
-            Answer::Text(Some(text)) => format!("${}\r\n{text}\r\n", text.len()),
-            Answer::Number(number) => format!(":{number}\r\n"),
-            Answer::NoNumber => "-ERR value is not an integer or out of range\r\n".to_owned(),
+            KeyAnswer::Done => "+OK\r\n".to_owned(),
+            KeyAnswer::Text(None) => "$-1\r\n".to_owned(),
+            KeyAnswer::Text(Some(text)) => format!("${}\r\n{text}\r\n", text.len()),
+            KeyAnswer::Number(number) => format!(":{number}\r\n"),
+            KeyAnswer::NoNumber => "-ERR value is not an integer or out of range\r\n".to_owned(),
         }
     }
 
-    fn done(&self, key: &str, command: &Command) -> Answer {
+    fn done(&self, key: &str, command: &KeyCommand) -> KeyAnswer {
         let mut texts = self.texts.lock().expect("no thread panics");
         let text = texts.entry(key.to_owned()).or_default();
         let (next, answer) = Register::step(text, command);

@@ -1,7 +1,12 @@
 //! The checker takes what one thread could have answered, and finds what it couldn't.
-use durkenzo_trial::{is_linearizable, Answer, Call, Command, Model, Register};
+use durkenzo_trial::{is_linearizable, Call, KeyAnswer, KeyCommand, Model, Register};
 
-fn call(began: u64, ended: u64, input: Command, output: Answer) -> Call<Command, Answer> {
+fn call(
+    began: u64,
+    ended: u64,
+    input: KeyCommand,
+    output: KeyAnswer,
+) -> Call<KeyCommand, KeyAnswer> {
     Call {
         input,
         output: Some(output),
@@ -10,24 +15,29 @@ fn call(began: u64, ended: u64, input: Command, output: Answer) -> Call<Command,
     }
 }
 
-fn set(began: u64, ended: u64, text: &str) -> Call<Command, Answer> {
-    call(began, ended, Command::Set(text.to_owned()), Answer::Done)
-}
-
-fn get(began: u64, ended: u64, text: Option<&str>) -> Call<Command, Answer> {
+fn set(began: u64, ended: u64, text: &str) -> Call<KeyCommand, KeyAnswer> {
     call(
         began,
         ended,
-        Command::Get,
-        Answer::Text(text.map(str::to_owned)),
+        KeyCommand::Set(text.to_owned()),
+        KeyAnswer::Done,
     )
 }
 
-fn incr(began: u64, ended: u64, number: i64) -> Call<Command, Answer> {
-    call(began, ended, Command::Incr, Answer::Number(number))
+fn get(began: u64, ended: u64, text: Option<&str>) -> Call<KeyCommand, KeyAnswer> {
+    call(
+        began,
+        ended,
+        KeyCommand::Get,
+        KeyAnswer::Text(text.map(str::to_owned)),
+    )
 }
 
-fn unknown(began: u64, input: Command) -> Call<Command, Answer> {
+fn incr(began: u64, ended: u64, number: i64) -> Call<KeyCommand, KeyAnswer> {
+    call(began, ended, KeyCommand::Incr, KeyAnswer::Number(number))
+}
+
+fn unknown(began: u64, input: KeyCommand) -> Call<KeyCommand, KeyAnswer> {
     Call {
         input,
         output: None,
@@ -36,7 +46,7 @@ fn unknown(began: u64, input: Command) -> Call<Command, Answer> {
     }
 }
 
-fn holds(calls: &[Call<Command, Answer>]) -> bool {
+fn holds(calls: &[Call<KeyCommand, KeyAnswer>]) -> bool {
     is_linearizable::<Register>(calls)
 }
 
@@ -56,17 +66,22 @@ fn takes_what_one_thread_answers() {
         get(10, 11, Some("a"))
     ]));
     assert!(holds(&[incr(0, 9, 2), incr(1, 8, 1), incr(2, 7, 3)]));
-    let append = call(0, 5, Command::Append("x".to_owned()), Answer::Number(1));
+    let append = call(
+        0,
+        5,
+        KeyCommand::Append("x".to_owned()),
+        KeyAnswer::Number(1),
+    );
     assert!(holds(&[
         append,
         get(6, 7, Some("x")),
-        call(8, 9, Command::Incr, Answer::NoNumber)
+        call(8, 9, KeyCommand::Incr, KeyAnswer::NoNumber)
     ]));
 }
 
 #[test]
 fn takes_calls_without_answer_as_done_or_not() {
-    let lost = unknown(0, Command::Set("a".to_owned()));
+    let lost = unknown(0, KeyCommand::Set("a".to_owned()));
     assert!(holds(&[lost.clone(), get(1, 2, None)]));
     assert!(holds(&[
         lost.clone(),
@@ -84,7 +99,7 @@ fn takes_calls_without_answer_as_done_or_not() {
     ]));
     assert!(!holds(&[
         get(0, 1, Some("a")),
-        unknown(2, Command::Set("a".to_owned()))
+        unknown(2, KeyCommand::Set("a".to_owned()))
     ]));
 }
 
@@ -145,10 +160,10 @@ fn tells_histories_by_chance() {
         let (mut state, mut calls) = (None, Vec::new());
         for at in 0..40u64 {
             let input = match below(4) {
-                0 => Command::Set(format!("{at}x")),
-                1 => Command::Incr,
-                2 => Command::Append("y".to_owned()),
-                _ => Command::Get,
+                0 => KeyCommand::Set(format!("{at}x")),
+                1 => KeyCommand::Incr,
+                2 => KeyCommand::Append("y".to_owned()),
+                _ => KeyCommand::Get,
             };
             let (next, output) = Register::step(&state, &input);
             state = next;
@@ -163,7 +178,7 @@ fn tells_histories_by_chance() {
         assert!(holds(&calls), "seed {seed}");
         // A number that no order gives.
         let at = usize::try_from(below(40)).expect("a small number");
-        calls[at].output = Some(Answer::Number(-7));
+        calls[at].output = Some(KeyAnswer::Number(-7));
         assert!(!holds(&calls), "seed {seed}");
     }
 }

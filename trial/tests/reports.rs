@@ -1,31 +1,31 @@
 //! What a report says of histories: counts of numbered requests, and the longest time without an answer.
-use durkenzo_trial::{Answer, Call, Command, History, Report};
+use durkenzo_trial::{Call, History, KeyAnswer, KeyCommand, Report};
 use std::time::{Duration, Instant};
 
 fn in_time() -> Instant {
     Instant::now() + Duration::from_secs(60)
 }
 
-fn incr(began: u64, answer: Option<i64>) -> Call<Command, Answer> {
-    let output = answer.map(Answer::Number);
+fn incr(began: u64, answer: Option<i64>) -> Call<KeyCommand, KeyAnswer> {
+    let output = answer.map(KeyAnswer::Number);
     Call {
-        input: Command::Incr,
+        input: KeyCommand::Incr,
         output,
         began,
         ended: began + 1,
     }
 }
 
-fn get(began: u64, text: &str) -> Call<Command, Answer> {
+fn get(began: u64, text: &str) -> Call<KeyCommand, KeyAnswer> {
     Call {
-        input: Command::Get,
-        output: Some(Answer::Text(Some(text.to_owned()))),
+        input: KeyCommand::Get,
+        output: Some(KeyAnswer::Text(Some(text.to_owned()))),
         began,
         ended: began + 1,
     }
 }
 
-fn report(key: &str, calls: Vec<Call<Command, Answer>>) -> Report {
+fn report(key: &str, calls: Vec<Call<KeyCommand, KeyAnswer>>) -> Report {
     let mut history = History::default();
     history.calls.insert(key.to_owned(), calls);
     Report::of(&history, in_time())

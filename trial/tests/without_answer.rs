@@ -1,5 +1,5 @@
 //! The checker on histories in which many calls have no answer: each was made at any later moment, or never.
-use durkenzo_trial::{judge, judge_until, Answer, Call, Command, Model, Register, Verdict};
+use durkenzo_trial::{judge, judge_until, Call, KeyAnswer, KeyCommand, Model, Register, Verdict};
 use std::time::{Duration, Instant};
 
 const SEED: u64 = 0x9e37_79b9_7f4a_7c15;
@@ -16,14 +16,14 @@ impl Chance {
     }
 }
 
-fn command(chance: &mut Chance, at: u64) -> Command {
+fn command(chance: &mut Chance, at: u64) -> KeyCommand {
     match chance.below(10) {
-        0 | 1 => Command::Set(format!("{at}x")),
-        2 => Command::Set(at.to_string()),
-        3 | 4 => Command::Incr,
-        5 => Command::Append(format!("+{at}")),
-        6 => Command::Del,
-        _ => Command::Get,
+        0 | 1 => KeyCommand::Set(format!("{at}x")),
+        2 => KeyCommand::Set(at.to_string()),
+        3 | 4 => KeyCommand::Incr,
+        5 => KeyCommand::Append(format!("+{at}")),
+        6 => KeyCommand::Del,
+        _ => KeyCommand::Get,
     }
 }
 
@@ -33,7 +33,7 @@ fn history(
     count: u64,
     one_in: u64,
     spread: u64,
-) -> Vec<Call<Command, Answer>> {
+) -> Vec<Call<KeyCommand, KeyAnswer>> {
     let (mut state, mut calls, mut waiting) = (None, Vec::new(), Vec::new());
     for at in 0..count {
         let (input, moment) = (command(chance, at), 1_000 + at * 10);
@@ -72,7 +72,7 @@ fn history(
 }
 
 /// Tries all orders.
-fn has_order(calls: &[Call<Command, Answer>], taken: u32, state: &Option<String>) -> bool {
+fn has_order(calls: &[Call<KeyCommand, KeyAnswer>], taken: u32, state: &Option<String>) -> bool {
     let left = |it: &usize| taken >> it & 1 == 0;
     let answered = (0..calls.len()).filter(|it| left(it) && calls[*it].output.is_some());
     let Some(end) = answered.map(|it| calls[it].ended).min() else {
@@ -125,9 +125,10 @@ fn takes_long_histories() {
 /// Of each kind of wrong answer one in a long history of which a part has no answer.
 #[test]
 fn finds_wrong_answers_in_long_histories() {
-    let set = |at: u64, text: &str| answered(at, Command::Set(text.to_owned()), Answer::Done);
-    let get = |at: u64, text: &str| answered(at, Command::Get, Answer::Text(Some(text.to_owned())));
-    let incr = |at: u64, number: i64| answered(at, Command::Incr, Answer::Number(number));
+    let set = |at: u64, text: &str| answered(at, KeyCommand::Set(text.to_owned()), KeyAnswer::Done);
+    let get =
+        |at: u64, text: &str| answered(at, KeyCommand::Get, KeyAnswer::Text(Some(text.to_owned())));
+    let incr = |at: u64, number: i64| answered(at, KeyCommand::Incr, KeyAnswer::Number(number));
     let planted: [(&str, Vec<_>); 5] = [
         ("a lost update", vec![set(1, "5"), incr(2, 6), incr(3, 6)]),
         (
@@ -160,7 +161,7 @@ fn finds_wrong_answers_in_long_histories() {
             );
             // Those without answer write nothing that is read here.
             calls.retain(|it| {
-                it.output.is_some() || !matches!(it.input, Command::Incr | Command::Set(_))
+                it.output.is_some() || !matches!(it.input, KeyCommand::Incr | KeyCommand::Set(_))
             });
             calls.extend(last.clone());
             assert_ne!(
@@ -172,7 +173,7 @@ fn finds_wrong_answers_in_long_histories() {
     }
 }
 
-fn answered(at: u64, input: Command, output: Answer) -> Call<Command, Answer> {
+fn answered(at: u64, input: KeyCommand, output: KeyAnswer) -> Call<KeyCommand, KeyAnswer> {
     let began = 1_000_000 + at * 10;
     Call {
         input,
@@ -182,8 +183,8 @@ fn answered(at: u64, input: Command, output: Answer) -> Call<Command, Answer> {
     }
 }
 
-fn open(at: u64, text: &str) -> Call<Command, Answer> {
-    let input = Command::Set(text.to_owned());
+fn open(at: u64, text: &str) -> Call<KeyCommand, KeyAnswer> {
+    let input = KeyCommand::Set(text.to_owned());
     Call {
         input,
         output: None,
@@ -195,11 +196,11 @@ fn open(at: u64, text: &str) -> Call<Command, Answer> {
 /// A write without answer may be made at any later moment, once.
 #[test]
 fn takes_a_write_that_comes_late() {
-    let text = |it: &str| Answer::Text(Some(it.to_owned()));
-    let set = answered(1, Command::Set("5".to_owned()), Answer::Done);
+    let text = |it: &str| KeyAnswer::Text(Some(it.to_owned()));
+    let set = answered(1, KeyCommand::Set("5".to_owned()), KeyAnswer::Done);
     let (five, late) = (
-        |at| answered(at, Command::Get, text("5")),
-        |at| answered(at, Command::Get, text("w")),
+        |at| answered(at, KeyCommand::Get, text("5")),
+        |at| answered(at, KeyCommand::Get, text("w")),
     );
     let calls = vec![open(0, "w"), set, five(2), late(3), late(4)];
     assert_eq!(judge::<Register>(&calls), Verdict::Linearizable);
@@ -207,20 +208,20 @@ fn takes_a_write_that_comes_late() {
     assert_eq!(judge::<Register>(&again), Verdict::Wrong);
     // An increment without answer counts once at most.
     let incr = Call {
-        input: Command::Incr,
+        input: KeyCommand::Incr,
         output: None,
         began: 0,
         ended: 0,
     };
     let (one, two) = (
-        answered(1, Command::Incr, Answer::Number(1)),
-        answered(2, Command::Get, text("2")),
+        answered(1, KeyCommand::Incr, KeyAnswer::Number(1)),
+        answered(2, KeyCommand::Get, text("2")),
     );
     assert_eq!(
         judge::<Register>(&[incr.clone(), one.clone(), two.clone()]),
         Verdict::Linearizable
     );
-    let three = answered(2, Command::Get, text("3"));
+    let three = answered(2, KeyCommand::Get, text("3"));
     assert_eq!(
         judge::<Register>(&[incr.clone(), one.clone(), three.clone()]),
         Verdict::Wrong
@@ -238,19 +239,30 @@ fn decides_what_a_key_of_a_trial_has() {
     let in_time = || Instant::now() + Duration::from_secs(20);
     for seed in 1..6 {
         let mut calls = history(&mut Chance(SEED.wrapping_mul(seed)), 2_000, 0, 20);
-        let open = calls.iter().skip(500).filter(|it| it.input != Command::Get);
+        let open = calls
+            .iter()
+            .skip(500)
+            .filter(|it| it.input != KeyCommand::Get);
         let open: Vec<_> = open.step_by(200).take(12).cloned().collect();
         calls.extend(open.into_iter().map(|it| Call {
             output: None,
-            input: Command::Set(format!("lost{}", it.began)),
+            input: KeyCommand::Set(format!("lost{}", it.began)),
             ..it
         }));
         let right = judge_until::<Register>(&calls, in_time());
         assert_eq!(right, Verdict::Linearizable, "seed {seed}");
-        calls.push(answered(1, Command::Set("5".to_owned()), Answer::Done));
-        calls.push(answered(2, Command::Set("6".to_owned()), Answer::Done));
-        let text = Answer::Text(Some("5".to_owned()));
-        calls.push(answered(3, Command::Get, text));
+        calls.push(answered(
+            1,
+            KeyCommand::Set("5".to_owned()),
+            KeyAnswer::Done,
+        ));
+        calls.push(answered(
+            2,
+            KeyCommand::Set("6".to_owned()),
+            KeyAnswer::Done,
+        ));
+        let text = KeyAnswer::Text(Some("5".to_owned()));
+        calls.push(answered(3, KeyCommand::Get, text));
         let wrong = judge_until::<Register>(&calls, in_time());
         assert_eq!(wrong, Verdict::Wrong, "seed {seed}");
     }
@@ -259,16 +271,20 @@ fn decides_what_a_key_of_a_trial_has() {
 /// Calls without answer that make no difference to what follows are tried once, and not at each place.
 #[test]
 fn decides_where_calls_without_answer_make_no_difference() {
-    let mut calls = vec![answered(0, Command::Set("word".to_owned()), Answer::Done)];
+    let mut calls = vec![answered(
+        0,
+        KeyCommand::Set("word".to_owned()),
+        KeyAnswer::Done,
+    )];
     calls.extend((0..20).map(|it| open(1, &format!("lost{it}"))));
-    let later = |at| answered(at, Command::Incr, Answer::NoNumber);
+    let later = |at| answered(at, KeyCommand::Incr, KeyAnswer::NoNumber);
     calls.extend((2..200).map(later));
     for (text, wanted) in [
         ("word", Verdict::Linearizable),
         ("lost7", Verdict::Linearizable),
         ("other", Verdict::Wrong),
     ] {
-        let last = answered(200, Command::Get, Answer::Text(Some(text.to_owned())));
+        let last = answered(200, KeyCommand::Get, KeyAnswer::Text(Some(text.to_owned())));
         let whole = [calls.clone(), vec![last]].concat();
         assert_eq!(judge::<Register>(&whole), wanted, "{text}");
     }
@@ -278,7 +294,7 @@ fn decides_where_calls_without_answer_make_no_difference() {
 #[test]
 fn gives_up_in_time() {
     let append = |at: u64| Call {
-        input: Command::Append(format!("+{at}")),
+        input: KeyCommand::Append(format!("+{at}")),
         output: None,
         began: at,
         ended: 0,
@@ -286,8 +302,8 @@ fn gives_up_in_time() {
     let mut calls: Vec<_> = (0..40).map(append).collect();
     calls.push(answered(
         1,
-        Command::Get,
-        Answer::Text(Some("no order gives it".to_owned())),
+        KeyCommand::Get,
+        KeyAnswer::Text(Some("no order gives it".to_owned())),
     ));
     let began = Instant::now();
     let found = judge_until::<Register>(&calls, began + Duration::from_millis(100));

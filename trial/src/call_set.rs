@@ -1,5 +1,5 @@
 /// A set of calls by their numbers, of which low ones come first.
-pub(crate) struct Taken {
+pub(crate) struct CallSet {
     bits: Vec<u64>,
     /// All words before this one are full.
     full: usize,
@@ -7,10 +7,10 @@ pub(crate) struct Taken {
     top: usize,
 }
 
-impl Taken {
+impl CallSet {
     /// None of so many calls.
-    pub(crate) fn new(count: usize) -> Taken {
-        Taken {
+    pub(crate) fn new(count: usize) -> CallSet {
+        CallSet {
             bits: vec![0; count.div_ceil(64)],
             full: 0,
             top: 0,

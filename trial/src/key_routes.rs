@@ -1,15 +1,15 @@
-use crate::{Client, Plan, Reply};
+use crate::{RespClient, RespReply, TrialPlan};
 
 /// Which server is called for a key, as the servers tell.
 #[derive(Debug, Default)]
-pub(crate) struct Routes {
+pub(crate) struct KeyRoutes {
     /// Where clients reach the owner of each shard; empty where that isn't known.
     owners: Vec<String>,
 }
 
-impl Routes {
+impl KeyRoutes {
     /// Where the key's owner listens; the address of this turn where nobody tells.
-    pub(crate) fn address(&mut self, plan: &Plan, key: &str, turn: u64) -> String {
+    pub(crate) fn address(&mut self, plan: &TrialPlan, key: &str, turn: u64) -> String {
         if self.owners.is_empty() {
             self.owners = read(plan, turn).unwrap_or_default();
         }
@@ -28,13 +28,13 @@ impl Routes {
 
 /// The addresses of the owners, as the server of this turn says: lines of a shard, its owner, and where clients reach
 /// it.
-fn read(plan: &Plan, turn: u64) -> Option<Vec<String>> {
-    let mut client = Client::connect(plan.address(turn), plan.patience).ok()?;
-    let Reply::List(lines) = client.call(&["SM", "ROUTES"]).ok()? else {
+fn read(plan: &TrialPlan, turn: u64) -> Option<Vec<String>> {
+    let mut client = RespClient::connect(plan.address(turn), plan.patience).ok()?;
+    let RespReply::List(lines) = client.call(&["SM", "ROUTES"]).ok()? else {
         return None;
     };
-    let address = |line: &Reply| match line {
-        Reply::Text(Some(it)) | Reply::Line(it) => {
+    let address = |line: &RespReply| match line {
+        RespReply::Text(Some(it)) | RespReply::Line(it) => {
             let last = it.rsplit(' ').next().unwrap_or_default();
             last.trim_start_matches('-').to_owned()
         }

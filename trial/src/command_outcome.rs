@@ -1,0 +1,34 @@
+use crate::{Failure, KeyAnswer, KeyCommand, RespReply};
+
+/// What came of a command.
+#[derive(Debug)]
+pub enum CommandOutcome {
+    /// Nobody got it.
+    NotSent,
+    /// Its answer.
+    Answer(KeyAnswer),
+    /// This refusal: it did nothing.
+    Refused(String),
+    /// This, which answers nothing that was asked: it may have been done, or may be done yet.
+    Garbled(String),
+    /// It may have been done, or may be done yet.
+    Unknown,
+}
+
+impl CommandOutcome {
+    /// What came of this command, by its reply or why there is none.
+    pub fn of(input: &KeyCommand, reply: Result<RespReply, Failure>) -> CommandOutcome {
+        match reply {
+            Ok(reply) => match (input.answer(&reply), reply) {
+                (Some(answer), _) => CommandOutcome::Answer(answer),
+                (None, RespReply::Error(it)) if it.starts_with("UNKNOWN") => {
+                    CommandOutcome::Unknown
+                }
+                (None, RespReply::Error(it)) => CommandOutcome::Refused(it),
+                (None, reply) => CommandOutcome::Garbled(format!("{reply:?}")),
+            },
+            Err(failure) if failure.is_garbled() => CommandOutcome::Garbled(failure.0.to_string()),
+            Err(_) => CommandOutcome::Unknown,
+        }
+    }
+}
