@@ -5,7 +5,7 @@
 
 // What the answers of etcd are read into, for the modules of the store that are read here again.
 use durkenzo_store::{
-    Change, CompactError, LeaseError, LeaseId, Outcome, Pair, ReadError, Reading, Revision,
+    CompactError, KeyChange, LeaseError, LeaseId, Outcome, Pair, ReadError, Reading, Revision,
     Transaction, WriteError,
 };
 

@@ -30,13 +30,13 @@ type Make = fn(&Path) -> Box<dyn Target>;
 /// Each target, by its name.
 pub const TARGETS: [(&str, Make); 11] = [
     ("resp", |_| Box::<targets::Resp>::default()),
-    ("pattern", |_| Box::new(targets::Pattern)),
-    ("dump", |room| Box::new(targets::Dump::new(room))),
+    ("pattern", |_| Box::new(targets::ScanPatterns)),
+    ("dump", |room| Box::new(targets::DumpBytes::new(room))),
     ("settings", |_| Box::new(targets::SettingsLine)),
     ("sent", |_| Box::new(targets::SentBytes::new())),
-    ("records", |_| Box::new(targets::Records)),
+    ("records", |_| Box::new(targets::StoreValues)),
     ("log", |_| Box::new(targets::Log)),
-    ("etcd", |_| Box::new(targets::Etcd)),
+    ("etcd", |_| Box::new(targets::EtcdAnswers)),
     ("frames", |_| Box::new(targets::Frames::new())),
     ("greetings", |_| Box::new(targets::Greetings)),
     ("sqlite", |room| Box::new(targets::SqliteFile::new(room))),

@@ -34,7 +34,8 @@ class Copy:
         (self.bin / "rt").chmod(0o755)
 
     def files(self):
-        return sorted(map(str, self.top.rglob("*")))
+        """Returns all files but the locks, which cargo itself writes."""
+        return sorted(str(it) for it in self.top.rglob("*") if it.name != "Cargo.lock")
 
     def checked(self, crate, *words, **env):
         """Has cargo check the crate; returns the finished run."""

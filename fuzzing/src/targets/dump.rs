@@ -2,8 +2,8 @@ use crate::chance::Chance;
 use crate::mutator;
 use crate::target::{holds, Target};
 use durkenzo::Board;
-use durkenzo_server::body::{Memory, Request, Shard, Storage, Value};
-use durkenzo_server::dump::{read, restore, shard_text, DumpFault, DumpFile, Head, Loaded};
+use durkenzo_server::body::{new_shard, BodyRequest, BoxedBody, ValueRef};
+use durkenzo_server::dump::{read, restore, shard_text, DumpFault, DumpFile, DumpHead, Loaded};
 use durkenzo_server::keyspace::Rule;
 use std::fs;
 use std::path::{Path, PathBuf};
@@ -12,21 +12,21 @@ use std::path::{Path, PathBuf};
 const SERVERS: u16 = 3;
 
 /// A file of `SM DUMP`, as `SM LOAD` reads it.
-pub struct Dump {
+pub struct DumpBytes {
     folder: PathBuf,
-    head: Head,
+    head: DumpHead,
 }
 
-impl Target for Dump {
+impl Target for DumpBytes {
     fn check(&mut self, input: &[u8]) -> Result<(), String> {
         fs::write(self.folder.join("dump"), input).map_err(|it| it.to_string())?;
-        let Ok(mut loaded) = read(&self.folder, "dump", &self.head, &Memory) else {
+        let Ok(mut loaded) = read(&self.folder, "dump", &self.head) else {
             return Ok(());
         };
         let once = self.spelled(&mut loaded).map_err(|it| it.to_string())?;
         let heads = loaded.heads.clone();
         restored(loaded);
-        let again = read(&self.folder, "spelled", &self.head, &Memory);
+        let again = read(&self.folder, "spelled", &self.head);
         let mut again = again.map_err(|it| format!("spelled anew it is refused: {it}"))?;
         let are_same = again.heads.iter().zip(&heads).all(|(one, other)| {
             (one.shard, one.stand, one.generation) == (other.shard, other.stand, other.generation)
@@ -51,10 +51,10 @@ impl Target for Dump {
     }
 
     fn seeds(&mut self) -> Vec<Vec<u8>> {
-        let mut bodies: Vec<Shard> = (0..2).filter_map(|it| Memory.open(it).ok()).collect();
+        let mut bodies: Vec<BoxedBody> = (0..2).filter_map(|_| new_shard().ok()).collect();
         for body in &mut bodies {
-            body.apply(Request::Put(b"key", Value::Text(b"two\nlines")));
-            body.apply(Request::Put(b"n", Value::Count(-7)));
+            body.apply(BodyRequest::Put(b"key", ValueRef::Text(b"two\nlines")));
+            body.apply(BodyRequest::Put(b"n", ValueRef::Count(-7)));
         }
         let lines = ["shard 0 Forwarding 1 2 9 2", "shard 1 Paused 3 0 4 2"];
         let head = serde_json::to_string(&self.head).unwrap_or_default();
@@ -77,12 +77,12 @@ impl Target for Dump {
     }
 }
 
-impl Dump {
-    pub fn new(room: &Path) -> Dump {
+impl DumpBytes {
+    pub fn new(room: &Path) -> DumpBytes {
         let rule = Rule::Bounds(vec![Vec::new(), b"m".to_vec()]);
-        Dump {
+        DumpBytes {
             folder: room.to_owned(),
-            head: Head::new(SERVERS, &rule),
+            head: DumpHead::new(SERVERS, &rule),
         }
     }
 

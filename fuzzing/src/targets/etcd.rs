@@ -1,5 +1,5 @@
 use crate::target::{holds, Target};
-use durkenzo_store::{Change, LeaseId, Outcome, Pair, Revision};
+use durkenzo_store::{KeyChange, LeaseId, Outcome, Pair, Revision};
 use serde_json::{json, Value};
 
 #[path = "../../../store/src/etcd/call_error.rs"]
@@ -9,13 +9,15 @@ mod call_error;
 #[allow(dead_code)]
 mod wire;
 
-use call_error::{CallError, Refusal};
-use wire::{Granted, Kept, RangeResult, Streamed, TransactionResult, WatchRequest, WatchResult};
+use call_error::{CallError, GrpcStatus};
+use wire::{
+    Granted, KeepAliveResponse, RangeResult, Streamed, TransactionResult, WatchRequest, WatchResult,
+};
 
 /// What etcd's gateway answers.
-pub struct Etcd;
+pub struct EtcdAnswers;
 
-impl Target for Etcd {
+impl Target for EtcdAnswers {
     fn check(&mut self, input: &[u8]) -> Result<(), String> {
         if let Ok(found) = serde_json::from_slice::<TransactionResult>(input) {
             of_transaction(found.outcome())?;
@@ -30,7 +32,7 @@ impl Target for Etcd {
         {
             of_watch(found)?;
         }
-        if let Ok(refusal) = serde_json::from_slice::<Refusal>(input) {
+        if let Ok(refusal) = serde_json::from_slice::<GrpcStatus>(input) {
             let error = CallError::Refused(refusal);
             let told = (
                 error.clone().of_write(),
@@ -44,7 +46,7 @@ impl Target for Etcd {
         }
         // Numbers alone.
         let _ = serde_json::from_slice::<Granted>(input).map(|it| it.id);
-        let _ = serde_json::from_slice::<Streamed<Kept>>(input);
+        let _ = serde_json::from_slice::<Streamed<KeepAliveResponse>>(input);
         Ok(())
     }
 
@@ -110,8 +112,8 @@ fn of_range(revision: Revision, pairs: Vec<Pair>) -> Result<(), String> {
 }
 
 fn of_watch(found: WatchResult) -> Result<(), String> {
-    for change in found.events.into_iter().map(Change::from) {
-        let Change {
+    for change in found.events.into_iter().map(KeyChange::from) {
+        let KeyChange {
             key,
             value,
             revision,

@@ -1,12 +1,13 @@
 use crate::chance::Chance;
 use crate::mutator;
 use crate::target::{holds, Target};
-use durkenzo_server::body::Memory;
-use durkenzo_server::cluster::{Cluster, Configuration};
+use durkenzo_control::links::{Frame, RequestBatch};
+use durkenzo_server::cluster::Cluster;
 use durkenzo_server::command::step_of_spelled;
-use durkenzo_server::io::ReplyTo;
+use durkenzo_server::configuration::Configuration;
+use durkenzo_server::io::ReplyAddress;
 use durkenzo_server::keyspace::{Keyspace, Rule};
-use durkenzo_server::peers::Frame;
+use durkenzo_server::works::WireReason;
 use std::sync::Arc;
 
 /// How many bytes stand before what the length of a frame counts.
@@ -20,7 +21,7 @@ pub struct Frames {
 impl Target for Frames {
     fn check(&mut self, input: &[u8]) -> Result<(), String> {
         let mut rest = input;
-        while let Ok(Some((number, frame, end))) = Frame::read(rest) {
+        while let Ok(Some((number, frame, end))) = Frame::<WireReason>::read(rest) {
             holds(LENGTH < end && end <= rest.len(), || {
                 format!("a frame ends at {end}")
             })?;
@@ -29,14 +30,15 @@ impl Target for Frames {
             holds(spelled == rest[..end], || {
                 format!("spelled anew it has other bytes: {frame:?}")
             })?;
-            let short = Frame::read(&rest[..end - 1]);
+            let short = Frame::<WireReason>::read(&rest[..end - 1]);
             holds(short == Ok(None), || {
                 format!("without its last byte it is {short:?}")
             })?;
-            if let Frame::Works(works) = frame {
-                holds(works.fits(), || "it is greater than it may be".to_owned())?;
-                let mut each = works.works.iter();
-                each.try_for_each(|it| self.work(it, works.shard))?;
+            if let Frame::Requests(batch) = frame {
+                let fits = RequestBatch::fits(batch.requests.iter().map(|it| it.len()));
+                holds(fits, || "it is greater than it may be".to_owned())?;
+                let mut each = batch.requests.iter();
+                each.try_for_each(|it| self.work(it, batch.shard))?;
             }
             rest = &rest[end..];
         }
@@ -85,7 +87,7 @@ impl Frames {
     pub fn new() -> Frames {
         let rule = Rule::Bounds(vec![Vec::new(), b"m".to_vec()]);
         let keyspace = Keyspace::new(&rule).ok();
-        let cluster = Cluster::new(Configuration::new(rule), Box::new(Memory)).ok();
+        let cluster = Cluster::in_memory(Configuration::new(rule)).ok();
         Frames {
             place: keyspace.zip(cluster.map(Arc::new)),
         }
@@ -97,7 +99,7 @@ impl Frames {
             return Err("there is no cluster".to_owned());
         };
         let spelled = |bytes: &[u8]| {
-            let reply_to = ReplyTo::process(|_| {});
+            let reply_to = ReplyAddress::process(|_| {});
             let step = step_of_spelled(bytes, shard, keyspace, cluster, reply_to);
             step.map(|it| it.work.spell())
         };

@@ -1,7 +1,7 @@
 use crate::chance::Chance;
 use crate::mutator;
 use crate::target::{holds, Target};
-use durkenzo_server::peers::Greeting;
+use durkenzo_control::links::Greeting;
 
 /// How many bytes stand before what the length of a greeting counts, and where that stands.
 const HEAD: usize = 9;

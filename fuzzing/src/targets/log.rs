@@ -1,7 +1,7 @@
 use super::pieces;
 use crate::chance::Chance;
 use crate::target::{holds, Target};
-use durkenzo_store_sys::{Asked, Code, Decision, Head, Limits, Server, Told};
+use durkenzo_store_sys::{Code, Decision, Head, Limits, Server, ServerRequest, Told};
 
 const LIMITS: Limits = Limits {
     batch_bytes: 4_096,
@@ -83,11 +83,11 @@ fn read(server: &mut Server) -> Result<Vec<Told>, Code> {
     for (client, key) in (READER..).zip(KEYS) {
         let request = [&[1, key.len() as u8], key].concat();
         let request = &request[..];
-        let asked = Asked {
+        let asked = ServerRequest {
             client,
             number: 1,
             request,
-            ..Asked::default()
+            ..ServerRequest::default()
         };
         if server.take(&asked)? != Decision::Waits {
             return Ok(Vec::new());
@@ -134,11 +134,11 @@ fn written(
     requests: &[&[u8]],
 ) -> Result<(Vec<u8>, Vec<u8>), Code> {
     for (client, request) in (1..).zip(requests) {
-        let asked = Asked {
+        let asked = ServerRequest {
             client,
             number,
             request,
-            ..Asked::default()
+            ..ServerRequest::default()
         };
         server.take(&asked)?;
     }

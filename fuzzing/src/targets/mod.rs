@@ -12,13 +12,13 @@ mod sent;
 mod settings;
 mod sqlite;
 
-pub use dump::Dump;
-pub use etcd::Etcd;
+pub use dump::DumpBytes;
+pub use etcd::EtcdAnswers;
 pub use frames::Frames;
 pub use greetings::Greetings;
 pub use log::Log;
-pub use pattern::Pattern;
-pub use records::Records;
+pub use pattern::ScanPatterns;
+pub use records::StoreValues;
 pub use resp::Resp;
 pub use sent::SentBytes;
 pub use settings::SettingsLine;

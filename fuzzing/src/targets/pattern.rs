@@ -9,9 +9,9 @@ mod glob;
 const LONGEST: usize = 4_096;
 
 /// Patterns of `SCAN`: what stands before the first line's end, of the text behind it.
-pub struct Pattern;
+pub struct ScanPatterns;
 
-impl Target for Pattern {
+impl Target for ScanPatterns {
     fn check(&mut self, input: &[u8]) -> Result<(), String> {
         let input = &input[..input.len().min(2 * LONGEST)];
         let end = input.iter().position(|it| *it == b'\n');

@@ -17,9 +17,9 @@ const PLACED: u64 = 7;
 const FAULTS: [u32; 3] = [93, 94, 95];
 
 /// What lies at the keys of a shard's record, of servers' states and of a log's head.
-pub struct Records;
+pub struct StoreValues;
 
-impl Target for Records {
+impl Target for StoreValues {
     fn check(&mut self, input: &[u8]) -> Result<(), String> {
         let pieces = pieces::of(input);
         let [record, first, second, ..] = pieces[..] else {
