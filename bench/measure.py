@@ -20,6 +20,7 @@ sys.dont_write_bytecode = True
 sys.path.insert(0, str(pathlib.Path(__file__).resolve().parent.parent / "tools"))
 import beside
 import exported
+import other_crates
 import runs
 import without_proof
 
@@ -102,6 +103,16 @@ def proved(crate, command):
         sys.exit("`rt %s` in %s ended with %d, and says why above" % (command, folder, ran.returncode))
     (folder / "out" / (crate if command == "run" else f"lib{crate}.a")).touch()
     return folder / "out"
+
+
+def member(name, library=None):
+    """Builds a bench's program in Rust that is a member of the workspace, over the libraries in this folder if one is
+    given, and returns it."""
+    need("cargo")
+    ran = other_crates.cargo("build", "--release", "-p", name, library=library)
+    if ran.returncode:
+        sys.exit(f"{ran.stderr[-3000:]}cargo can't build {name}")
+    return other_crates.target() / "release" / name
 
 
 def in_rust(folder, **environment):

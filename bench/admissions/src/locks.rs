@@ -6,17 +6,18 @@ use std::sync::Mutex;
 
 const CEILING: u64 = (1 << 36) - 1;
 
-struct Record {
+struct LockedRecord {
     owner: u16,
     admitted: bool,
     generation: u64,
 }
 
-struct Locks(Vec<Mutex<Record>>);
+struct RecordLocks(Vec<Mutex<LockedRecord>>);
 
-impl Locks {
-    fn new() -> Locks {
-        black_box(Locks((0..SHARDS).map(|_| Mutex::new(Record { owner: 1, admitted: false, generation: 1 })).collect()))
+impl RecordLocks {
+    fn new() -> RecordLocks {
+        let record = |_| Mutex::new(LockedRecord { owner: 1, admitted: false, generation: 1 });
+        black_box(RecordLocks((0..SHARDS).map(record).collect()))
     }
 
     fn look(&self, shard: usize) -> u64 {
@@ -40,11 +41,11 @@ impl Locks {
 }
 
 // A record and a body under one lock, of which the body is a count.
-struct Bodies(Vec<Mutex<(Record, u64)>>);
+struct Bodies(Vec<Mutex<(LockedRecord, u64)>>);
 
 impl Bodies {
     fn new() -> Bodies {
-        let record = || Record { owner: 1, admitted: false, generation: 1 };
+        let record = || LockedRecord { owner: 1, admitted: false, generation: 1 };
         black_box(Bodies((0..SHARDS).map(|_| Mutex::new((record(), 0))).collect()))
     }
 
@@ -61,22 +62,22 @@ impl Bodies {
 }
 
 pub fn looks(operations: u64) -> u64 {
-    let locks = Locks::new();
+    let locks = RecordLocks::new();
     at_random(operations, |shard| locks.look(shard))
 }
 
 pub fn chained_looks(operations: u64) -> u64 {
-    let locks = Locks::new();
+    let locks = RecordLocks::new();
     chained(operations, |shard| locks.look(shard))
 }
 
 pub fn admissions(operations: u64) -> u64 {
-    let locks = Locks::new();
+    let locks = RecordLocks::new();
     at_random(operations, |shard| locks.admit_and_finish(shard))
 }
 
 pub fn refusals(operations: u64) -> u64 {
-    let locks = Locks::new();
+    let locks = RecordLocks::new();
     at_random(operations, |shard| locks.refuse(shard))
 }
 
@@ -87,7 +88,7 @@ pub fn executions(operations: u64) -> u64 {
 
 /// Takes the first lock so many times, and counts.
 pub fn takes(operations: u64) -> u64 {
-    let locks = Locks::new();
+    let locks = RecordLocks::new();
     let mut made = 0u64;
     for _ in 0..operations {
         black_box(locks.look(0));

@@ -1,12 +1,12 @@
 //! A body for each shard in a cell beside its atomic word: only who is admitted touches it. A body is a count.
 
 use crate::choice::{SHARDS, at_random};
-use crate::words::Words;
+use crate::words::AtomicWords;
 use std::cell::UnsafeCell;
 use std::hint::black_box;
 
 struct Slots {
-    words: Words,
+    words: AtomicWords,
     bodies: Box<[UnsafeCell<u64>; SHARDS]>,
 }
 
@@ -16,7 +16,7 @@ unsafe impl Sync for Slots {}
 impl Slots {
     fn new() -> Slots {
         let bodies: Box<[UnsafeCell<u64>]> = (0..SHARDS).map(|_| UnsafeCell::new(0)).collect();
-        black_box(Slots { words: Words::new(), bodies: bodies.try_into().unwrap() })
+        black_box(Slots { words: AtomicWords::new(), bodies: bodies.try_into().unwrap() })
     }
 
     fn execute(&self, shard: usize) -> u64 {

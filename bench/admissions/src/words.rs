@@ -9,12 +9,12 @@ const SERVED_BY_1: u64 = 0x2001 << 48;
 const ADMITTED: u64 = 1 << 60;
 const GENERATION: u64 = (1 << 36) - 1;
 
-pub struct Words(Box<[AtomicU64; SHARDS]>);
+pub struct AtomicWords(Box<[AtomicU64; SHARDS]>);
 
-impl Words {
-    pub fn new() -> Words {
+impl AtomicWords {
+    pub fn new() -> AtomicWords {
         let words: Box<[AtomicU64]> = (0..SHARDS).map(|_| AtomicU64::new(SERVED_BY_1 + 1)).collect();
-        black_box(Words(words.try_into().unwrap()))
+        black_box(AtomicWords(words.try_into().unwrap()))
     }
 
     fn look(&self, shard: usize) -> u64 {
@@ -48,28 +48,28 @@ impl Words {
 }
 
 pub fn looks(operations: u64) -> u64 {
-    let words = Words::new();
+    let words = AtomicWords::new();
     at_random(operations, |shard| words.look(shard))
 }
 
 pub fn chained_looks(operations: u64) -> u64 {
-    let words = Words::new();
+    let words = AtomicWords::new();
     chained(operations, |shard| words.look(shard))
 }
 
 pub fn admissions(operations: u64) -> u64 {
-    let words = Words::new();
+    let words = AtomicWords::new();
     at_random(operations, |shard| words.admit(shard).map_or(0, |admitted| words.finish(shard, admitted)))
 }
 
 pub fn refusals(operations: u64) -> u64 {
-    let words = Words::new();
+    let words = AtomicWords::new();
     at_random(operations, |shard| words.refuse(shard))
 }
 
 /// Loads the first word so many times, and counts.
 pub fn loads(operations: u64) -> u64 {
-    let words = Words::new();
+    let words = AtomicWords::new();
     let mut made = 0u64;
     for _ in 0..operations {
         black_box(words.0[0].load(SeqCst));
@@ -80,7 +80,7 @@ pub fn loads(operations: u64) -> u64 {
 
 /// Loads it twice each time.
 pub fn pairs_of_loads(operations: u64) -> u64 {
-    let words = Words::new();
+    let words = AtomicWords::new();
     let mut made = 0u64;
     for _ in 0..operations {
         black_box(words.0[0].load(SeqCst));

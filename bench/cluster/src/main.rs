@@ -6,7 +6,7 @@ mod channels;
 mod shard;
 
 use channels::{Channels, Crossbeam, Std};
-use shard::{Shard, Stand, Step};
+use shard::{Shard, Ownership, ServeOutcome};
 use std::sync::RwLock;
 use std::sync::atomic::{AtomicBool, AtomicU64, Ordering::SeqCst};
 use std::thread;
@@ -15,7 +15,7 @@ use std::time::Instant;
 const LEFT: u64 = u64::MAX;
 
 /// What is done, as bench_cluster has it.
-struct Plan {
+struct RunOptions {
     way: String,
     servers: usize,
     workers: usize,
@@ -28,7 +28,7 @@ struct Plan {
     has_places: bool,
 }
 
-impl Plan {
+impl RunOptions {
     fn is_directed(&self) -> bool {
         self.way != "rest"
     }
@@ -39,7 +39,7 @@ impl Plan {
 }
 
 /// A request on its way: the reply is the count, or nothing where it is refused.
-struct Message<C: Channels> {
+struct CountRequest<C: Channels> {
     shard: usize,
     key: Vec<u8>,
     reply: C::Sender<Option<i64>>,
@@ -51,11 +51,11 @@ struct Manager<C: Channels> {
     routes: RwLock<Vec<usize>>,
     turns: Vec<AtomicU64>,
     is_over: AtomicBool,
-    inboxes: RwLock<Vec<C::Sender<Message<C>>>>,
+    inboxes: RwLock<Vec<C::Sender<CountRequest<C>>>>,
 }
 
 #[derive(Default)]
-struct Tally {
+struct RunTally {
     acked: u64,
     refused: u64,
     longest: u64,
@@ -63,21 +63,23 @@ struct Tally {
 }
 
 impl<C: Channels> Manager<C> {
-    fn work(&self, server: usize, inbox: &C::Receiver<Message<C>>) {
+    fn work(&self, server: usize, inbox: &C::Receiver<CountRequest<C>>) {
         while let Some(message) = C::receive(inbox) {
-            let Message { shard, key, reply } = message;
+            let CountRequest { shard, key, reply } = message;
             match self.shards[shard].serve(server, key) {
-                Step::Answered(count) => C::send(&reply, Some(count)),
-                Step::Forward(to, key) => C::send(&self.inboxes.read().unwrap()[to], Message { shard, key, reply }),
-                Step::Refused => C::send(&reply, None),
+                ServeOutcome::Answered(count) => C::send(&reply, Some(count)),
+                ServeOutcome::Forward(to, key) => {
+                    C::send(&self.inboxes.read().unwrap()[to], CountRequest { shard, key, reply });
+                }
+                ServeOutcome::Refused => C::send(&reply, None),
             }
         }
     }
 
-    fn call_each(&self, plan: &Plan, client: usize) -> Tally {
+    fn call_each(&self, plan: &RunOptions, client: usize) -> RunTally {
         let inboxes = self.inboxes.read().unwrap().clone();
         let kept = C::place();
-        let mut tally = Tally::default();
+        let mut tally = RunTally::default();
         let last = if plan.calls == 0 { u64::MAX } else { plan.calls };
         for turn in 0..last {
             if plan.calls == 0 && self.is_over.load(SeqCst) {
@@ -90,7 +92,8 @@ impl<C: Channels> Manager<C> {
                 let own = plan.has_places.then(C::place);
                 let (reply, replies) = own.as_ref().unwrap_or(&kept);
                 let server = self.routes.read().unwrap()[shard];
-                C::send(&inboxes[server], Message { shard, key: vec![high, low, client as u8], reply: reply.clone() });
+                let key = vec![high, low, client as u8];
+                C::send(&inboxes[server], CountRequest { shard, key, reply: reply.clone() });
                 match C::receive(replies).expect("a reply") {
                     Some(count) => {
                         tally.acked += 1;
@@ -118,19 +121,19 @@ impl<C: Channels> Manager<C> {
     }
 
     fn migrate(&self, from: usize, to: usize) {
-        self.shards[0].change(Stand { executor: Some(to), forwards: Some((from, to)) });
+        self.shards[0].change(Ownership { executor: Some(to), forwards: Some((from, to)) });
         self.routes.write().unwrap()[0] = to;
         self.wait_round();
-        self.shards[0].change(Stand { executor: Some(to), forwards: None });
+        self.shards[0].change(Ownership { executor: Some(to), forwards: None });
     }
 
     fn reassign(&self, to: usize) {
-        self.shards[0].change(Stand::default());
-        self.shards[0].change(Stand { executor: Some(to), forwards: None });
+        self.shards[0].change(Ownership::default());
+        self.shards[0].change(Ownership { executor: Some(to), forwards: None });
         self.routes.write().unwrap()[0] = to;
     }
 
-    fn direct(&self, plan: &Plan) -> Vec<u64> {
+    fn direct(&self, plan: &RunOptions) -> Vec<u64> {
         let times = (0..plan.migrations).map(|turn| {
             self.wait_round();
             let (from, to) = if turn % 2 == 0 { (0, 1) } else { (1, 0) };
@@ -144,10 +147,10 @@ impl<C: Channels> Manager<C> {
     }
 }
 
-fn run<C: Channels>(plan: &Plan) {
+fn run<C: Channels>(plan: &RunOptions) {
     let start = Instant::now();
     let since = || start.elapsed().as_nanos() as u64;
-    let (senders, receivers): (Vec<_>, Vec<_>) = (0..plan.servers).map(|_| C::inbox::<Message<C>>()).unzip();
+    let (senders, receivers): (Vec<_>, Vec<_>) = (0..plan.servers).map(|_| C::inbox::<CountRequest<C>>()).unzip();
     let manager = Manager::<C> {
         shards: (0..plan.shards).map(|_| Shard::default()).collect(),
         routes: RwLock::new(vec![0; plan.shards]),
@@ -166,19 +169,19 @@ fn run<C: Channels>(plan: &Plan) {
         marks[0] = since();
         for (number, shard) in manager.shards.iter().enumerate() {
             let server = number % plan.servers;
-            shard.change(Stand { executor: Some(server), forwards: None });
+            shard.change(Ownership { executor: Some(server), forwards: None });
             manager.routes.write().unwrap()[number] = server;
         }
         marks[1] = since();
         let clients: Vec<_> = (0..plan.clients).map(|client| scope.spawn(move || manager.call_each(plan, client))).collect();
         let times = manager.direct(plan);
-        let tallies: Vec<Tally> = clients.into_iter().map(|it| it.join().unwrap()).collect();
+        let tallies: Vec<RunTally> = clients.into_iter().map(|it| it.join().unwrap()).collect();
         marks[2] = since();
         manager.inboxes.write().unwrap().clear();
         (tallies, times)
     });
     marks[3] = since();
-    let sum = |of: fn(&Tally) -> u64| tallies.iter().map(of).fold(0, u64::wrapping_add);
+    let sum = |of: fn(&RunTally) -> u64| tallies.iter().map(of).fold(0, u64::wrapping_add);
     let applied: u64 = manager.shards.iter().map(Shard::applied).sum();
     let longest = tallies.iter().map(|it| it.longest).max().unwrap_or(0);
     println!("{} {applied} {} {longest} {}", sum(|it| it.acked), sum(|it| it.refused), sum(|it| it.told));
@@ -191,7 +194,7 @@ fn main() {
     let [_, kind, way, numbers @ ..] = &words[..] else { panic!("usage: cluster std|crossbeam|places rest|graceful|abrupt SERVERS WORKERS SHARDS CLIENTS CALLS MIGRATIONS") };
     let numbers: Vec<u64> = numbers.iter().map(|it| it.parse().expect("a number")).collect();
     let [servers, workers, shards, clients, calls, migrations] = numbers[..] else { panic!("six numbers are wanted") };
-    let plan = Plan {
+    let plan = RunOptions {
         way: way.clone(),
         servers: servers as usize,
         workers: workers as usize,

@@ -5,25 +5,25 @@ use std::sync::{Mutex, RwLock};
 
 /// Who executes, and who forwards to whom.
 #[derive(Clone, Copy, Default)]
-pub struct Stand {
+pub struct Ownership {
     pub executor: Option<usize>,
     pub forwards: Option<(usize, usize)>,
 }
 
 #[derive(Default)]
 pub struct Shard {
-    stand: RwLock<Stand>,
-    body: Mutex<Body>,
+    stand: RwLock<Ownership>,
+    body: Mutex<CountedBody>,
 }
 
 #[derive(Default)]
-struct Body {
+struct CountedBody {
     counts: BTreeMap<Vec<u8>, i64>,
     applied: u64,
 }
 
 /// What a server does with a request.
-pub enum Step {
+pub enum ServeOutcome {
     Answered(i64),
     Forward(usize, Vec<u8>),
     Refused,
@@ -31,16 +31,16 @@ pub enum Step {
 
 impl Shard {
     /// Adds 1 to the key's count, if this server executes. The stand can't change meanwhile.
-    pub fn serve(&self, server: usize, key: Vec<u8>) -> Step {
+    pub fn serve(&self, server: usize, key: Vec<u8>) -> ServeOutcome {
         let stand = self.stand.read().unwrap();
         match (stand.executor, stand.forwards) {
-            (Some(executor), _) if executor == server => Step::Answered(self.body.lock().unwrap().add(key)),
-            (_, Some((from, to))) if from == server => Step::Forward(to, key),
-            _ => Step::Refused,
+            (Some(executor), _) if executor == server => ServeOutcome::Answered(self.body.lock().unwrap().add(key)),
+            (_, Some((from, to))) if from == server => ServeOutcome::Forward(to, key),
+            _ => ServeOutcome::Refused,
         }
     }
 
-    pub fn change(&self, stand: Stand) {
+    pub fn change(&self, stand: Ownership) {
         *self.stand.write().unwrap() = stand;
     }
 
@@ -49,7 +49,7 @@ impl Shard {
     }
 }
 
-impl Body {
+impl CountedBody {
     fn add(&mut self, key: Vec<u8>) -> i64 {
         self.applied += 1;
         let count = self.counts.entry(key).or_insert(0);

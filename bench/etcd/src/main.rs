@@ -28,7 +28,7 @@ use transactions::Transactions;
 const KEYS: u64 = 16;
 
 /// What a client does over and over.
-trait Caller: Send {
+trait Workload: Send {
     /// Makes what its calls need, which write or read.
     fn prepare(&mut self, writes: bool) -> Result<(), String>;
 
@@ -42,12 +42,12 @@ fn callers(
     addresses: &str,
     count: u64,
     shards: usize,
-) -> Result<Vec<Box<dyn Caller>>, String> {
+) -> Result<Vec<Box<dyn Workload>>, String> {
     let addresses: Vec<_> = addresses.split(',').collect();
     if kind == "txn" {
         return Transactions::several(&addresses, count);
     }
-    let connect = |it: u64| -> Result<Box<dyn Caller>, String> {
+    let connect = |it: u64| -> Result<Box<dyn Workload>, String> {
         let address = addresses[it as usize % addresses.len()];
         Ok(Box::new(match kind.ends_with("-owner") {
             true => Redis::of_owners(address, it)?,
@@ -59,7 +59,7 @@ fn callers(
 
 /// What one caller did in this time, once all are prepared and may begin.
 fn work(
-    mut caller: Box<dyn Caller>,
+    mut caller: Box<dyn Workload>,
     writes: bool,
     all: &Barrier,
     time: Duration,

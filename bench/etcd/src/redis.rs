@@ -1,4 +1,4 @@
-use crate::{Caller, KEYS};
+use crate::{Workload, KEYS};
 use std::io::{BufRead, BufReader, Read, Write};
 use std::net::TcpStream;
 use std::time::Duration;
@@ -8,7 +8,7 @@ const PATIENCE: Duration = Duration::from_secs(30);
 
 /// A client of servers.
 pub(crate) struct Redis {
-    streams: Vec<Stream>,
+    streams: Vec<RedisConnection>,
     /// For each shard, which of the streams is asked.
     routes: Vec<usize>,
     writes: bool,
@@ -19,7 +19,7 @@ impl Redis {
     /// One with a name of its own, which asks this server for keys of so many shards.
     pub(crate) fn of_one(address: &str, shards: usize, name: u64) -> Result<Redis, String> {
         Ok(Redis {
-            streams: vec![Stream::connect(address)?],
+            streams: vec![RedisConnection::connect(address)?],
             routes: vec![0; shards],
             writes: true,
             name,
@@ -30,11 +30,11 @@ impl Redis {
     pub(crate) fn of_owners(address: &str, name: u64) -> Result<Redis, String> {
         let (mut streams, mut routes) = (Vec::new(), Vec::new());
         let mut known: Vec<String> = Vec::new();
-        for owner in Stream::connect(address)?.owners()? {
+        for owner in RedisConnection::connect(address)?.owners()? {
             let place = known.iter().position(|it| *it == owner);
             routes.push(place.unwrap_or(known.len()));
             if place.is_none() {
-                streams.push(Stream::connect(&owner)?);
+                streams.push(RedisConnection::connect(&owner)?);
                 known.push(owner);
             }
         }
@@ -47,7 +47,7 @@ impl Redis {
     }
 }
 
-impl Caller for Redis {
+impl Workload for Redis {
     /// Writes all of its keys.
     fn prepare(&mut self, writes: bool) -> Result<(), String> {
         (0..KEYS).try_for_each(|it| self.call(it))?;
@@ -74,19 +74,19 @@ impl Caller for Redis {
 }
 
 /// A connection to a server.
-struct Stream {
+struct RedisConnection {
     stream: BufReader<TcpStream>,
     line: String,
 }
 
-impl Stream {
-    fn connect(address: &str) -> Result<Stream, String> {
+impl RedisConnection {
+    fn connect(address: &str) -> Result<RedisConnection, String> {
         let connected = TcpStream::connect(address).and_then(|it| {
             it.set_nodelay(true)?;
             it.set_read_timeout(Some(PATIENCE))?;
             Ok(it)
         });
-        Ok(Stream {
+        Ok(RedisConnection {
             stream: BufReader::new(connected.map_err(|error| format!("{address}: {error}"))?),
             line: String::new(),
         })

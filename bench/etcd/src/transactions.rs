@@ -1,4 +1,4 @@
-use crate::{Caller, KEYS};
+use crate::{Workload, KEYS};
 use durkenzo_store::{Access, Etcd, Outcome, Revision, Store, Transaction};
 use std::sync::Arc;
 
@@ -11,7 +11,10 @@ pub(crate) struct Transactions {
 
 impl Transactions {
     /// So many, which share a connection of their own to each member.
-    pub(crate) fn several(endpoints: &[&str], count: u64) -> Result<Vec<Box<dyn Caller>>, String> {
+    pub(crate) fn several(
+        endpoints: &[&str],
+        count: u64,
+    ) -> Result<Vec<Box<dyn Workload>>, String> {
         let on = |at: usize| {
             let turned = (0..endpoints.len()).map(|it| endpoints[(at + it) % endpoints.len()]);
             Etcd::new(Access::new(turned)).map(Arc::new)
@@ -20,7 +23,7 @@ impl Transactions {
             .map(on)
             .collect::<Result<_, _>>()
             .map_err(|error| error.to_string())?;
-        let made = |it: u64| -> Box<dyn Caller> {
+        let made = |it: u64| -> Box<dyn Workload> {
             Box::new(Transactions {
                 members: stores.clone(),
                 name: it,
@@ -31,7 +34,7 @@ impl Transactions {
     }
 }
 
-impl Caller for Transactions {
+impl Workload for Transactions {
     /// Writes all of its keys.
     fn prepare(&mut self, _writes: bool) -> Result<(), String> {
         (0..KEYS).try_for_each(|it| self.call(it))

@@ -1,12 +1,12 @@
 //! Counts on the library's board. A worker has a pass of each server, and asks the one that it last knew to own a
 //! shard.
-use crate::way::{Asked, Way, Worker};
+use crate::shard_store::{KeyRequest, ShardStore, ShardWorker};
 use durkenzo::{AdmitFault, Board, Mode, Pass};
 use std::thread;
 
 pub struct Counts(Board<u64>);
 
-pub struct Counter {
+pub struct BoardWorker {
     passes: [Pass<u64>; 2],
     owners: Vec<u16>,
 }
@@ -22,11 +22,11 @@ impl Counts {
     }
 }
 
-impl Way for Counts {
-    type Worker<'a> = Counter;
+impl ShardStore for Counts {
+    type Worker<'a> = BoardWorker;
 
-    fn worker(&self) -> Counter {
-        Counter {
+    fn worker(&self) -> BoardWorker {
+        BoardWorker {
             passes: [1, 2].map(|server| self.0.pass(server).expect("memory")),
             owners: vec![1; self.0.count()],
         }
@@ -40,8 +40,8 @@ impl Way for Counts {
     }
 }
 
-impl Worker for Counter {
-    fn request(&mut self, asked: Asked) -> u64 {
+impl ShardWorker for BoardWorker {
+    fn request(&mut self, asked: KeyRequest) -> u64 {
         let (mut server, mut mode) = (self.owners[asked.shard], Mode::Direct);
         loop {
             match self.passes[usize::from(server) - 1].admit(asked.shard as u16, mode) {

@@ -2,7 +2,7 @@
 use std::io::{BufRead, BufReader, Read, Write};
 use std::net::TcpStream;
 
-pub struct Client {
+pub struct RedisClient {
     reader: BufReader<TcpStream>,
     line: String,
     text: Vec<u8>,
@@ -19,11 +19,11 @@ pub fn command(words: &[&[u8]]) -> Vec<u8> {
     bytes
 }
 
-impl Client {
-    pub fn new(port: u16) -> Client {
+impl RedisClient {
+    pub fn new(port: u16) -> RedisClient {
         let stream = TcpStream::connect(("127.0.0.1", port)).expect("a server at this port");
         stream.set_nodelay(true).expect("a socket");
-        Client {
+        RedisClient {
             reader: BufReader::with_capacity(1 << 16, stream),
             line: String::new(),
             text: Vec::new(),

@@ -1,9 +1,9 @@
 //! Rounds of two ways in one process, in turn.
-use crate::choice::Choice;
-use crate::round::{self, Round};
+use crate::request_choice::RequestChoice;
+use crate::round::{self, TimedRound};
+use crate::round_result::{RoundResult, MOST_TIMES};
+use crate::shard_store::{KeyRequest, ShardStore, ShardWorker};
 use crate::sizes::Sizes;
-use crate::told::{Told, MOST_TIMES};
-use crate::way::{Asked, Way, Worker};
 use std::hint::black_box;
 use std::time::Instant;
 
@@ -11,12 +11,12 @@ use std::time::Instant;
 const TIMED: u64 = 32;
 
 /// Writes each key once.
-pub fn filled<W: Way>(way: W, sizes: &Sizes) -> W {
+pub fn filled<W: ShardStore>(way: W, sizes: &Sizes) -> W {
     {
         let mut worker = way.worker();
         let keys = u64::from(sizes.keys);
         for number in 0..sizes.shards as u64 * keys {
-            worker.request(Asked {
+            worker.request(KeyRequest {
                 shard: (number / keys) as usize,
                 key: (number % keys) as u32,
                 is_write: true,
@@ -27,7 +27,7 @@ pub fn filled<W: Way>(way: W, sizes: &Sizes) -> W {
 }
 
 /// Has both ways make requests in turn; the one that begins changes with each round.
-pub fn beside<A: Way, B: Way>(ours: &A, locks: &B, sizes: &Sizes) {
+pub fn beside<A: ShardStore, B: ShardStore>(ours: &A, locks: &B, sizes: &Sizes) {
     for number in 0..sizes.rounds {
         for turn in [number % 2, 1 - number % 2] {
             match turn {
@@ -38,7 +38,7 @@ pub fn beside<A: Way, B: Way>(ours: &A, locks: &B, sizes: &Sizes) {
     }
 }
 
-fn run<W: Way>(way: &W, sizes: &Sizes) -> Told {
+fn run<W: ShardStore>(way: &W, sizes: &Sizes) -> RoundResult {
     round::run(
         sizes,
         sizes.threads,
@@ -48,8 +48,13 @@ fn run<W: Way>(way: &W, sizes: &Sizes) -> Told {
 }
 
 /// A thread's requests until the end: how many, and the times of some.
-fn work<W: Way>(way: &W, sizes: &Sizes, thread: usize, round: &Round) -> (u64, Vec<u64>) {
-    let (mut worker, mut choice) = (way.worker(), Choice::new(sizes, thread));
+fn work<W: ShardStore>(
+    way: &W,
+    sizes: &Sizes,
+    thread: usize,
+    round: &TimedRound,
+) -> (u64, Vec<u64>) {
+    let (mut worker, mut choice) = (way.worker(), RequestChoice::new(sizes, thread));
     let (mut made, mut times) = (0, Vec::with_capacity(MOST_TIMES));
     round.begin();
     while !round.is_over() {
@@ -67,8 +72,11 @@ fn work<W: Way>(way: &W, sizes: &Sizes, thread: usize, round: &Round) -> (u64, V
 }
 
 /// Moves shards at random until the end, and returns how often.
-fn migrate<W: Way>(way: &W, sizes: &Sizes, round: &Round) -> u64 {
-    let (mut choice, mut owners) = (Choice::new(sizes, sizes.threads), vec![1; sizes.shards]);
+fn migrate<W: ShardStore>(way: &W, sizes: &Sizes, round: &TimedRound) -> u64 {
+    let (mut choice, mut owners) = (
+        RequestChoice::new(sizes, sizes.threads),
+        vec![1; sizes.shards],
+    );
     round.begin();
     let made = round.paced(sizes.migrations, |_| {
         let shard = choice.below(sizes.shards as u64) as usize;

@@ -1,11 +1,11 @@
 //! Clients of a server, each a thread with a connection, of which one request is under way at a time: half of them get
 //! a text; the others add to a count, or put a text where texts have another size than usual.
-use crate::choice::Choice;
-use crate::client::{command, Client};
-use crate::round::{self, Round};
+use crate::client::{command, RedisClient};
+use crate::request_choice::RequestChoice;
+use crate::round::{self, TimedRound};
+use crate::round_result::MOST_TIMES;
+use crate::shard_store::KeyRequest;
 use crate::sizes::Sizes;
-use crate::told::MOST_TIMES;
-use crate::way::Asked;
 use std::time::Instant;
 
 /// The size of texts at which requests that write are additions.
@@ -19,7 +19,7 @@ fn name_of(kind: &str, number: u64) -> Vec<u8> {
 
 /// Writes each text once, which is in the server then.
 fn fill(sizes: &Sizes, text: &[u8]) {
-    let mut client = Client::new(sizes.port);
+    let mut client = RedisClient::new(sizes.port);
     let all = sizes.shards as u64 * u64::from(sizes.keys);
     let batch = (ROOM / (sizes.text as u64 + 64)).max(1);
     for start in (0..all).step_by(batch as usize) {
@@ -32,7 +32,7 @@ fn fill(sizes: &Sizes, text: &[u8]) {
     }
 }
 
-fn request(asked: Asked, sizes: &Sizes, text: &[u8]) -> Vec<u8> {
+fn request(asked: KeyRequest, sizes: &Sizes, text: &[u8]) -> Vec<u8> {
     let number = asked.shard as u64 * u64::from(sizes.keys) + u64::from(asked.key);
     match (asked.is_write, sizes.text == USUAL) {
         (false, _) => command(&[b"GET", &name_of("text", number)]),
@@ -42,8 +42,11 @@ fn request(asked: Asked, sizes: &Sizes, text: &[u8]) -> Vec<u8> {
 }
 
 /// The requests of a client until the end: how many, and the times of the first.
-fn call(sizes: &Sizes, client: usize, text: &[u8], round: &Round) -> (u64, Vec<u64>) {
-    let (mut connection, mut choice) = (Client::new(sizes.port), Choice::new(sizes, client));
+fn call(sizes: &Sizes, client: usize, text: &[u8], round: &TimedRound) -> (u64, Vec<u64>) {
+    let (mut connection, mut choice) = (
+        RedisClient::new(sizes.port),
+        RequestChoice::new(sizes, client),
+    );
     let (mut made, mut times) = (0, Vec::with_capacity(MOST_TIMES));
     round.begin();
     while !round.is_over() {
@@ -60,8 +63,8 @@ fn call(sizes: &Sizes, client: usize, text: &[u8], round: &Round) -> (u64, Vec<u
 }
 
 /// Moves shards in turn between servers 1 and 2 until the end, and returns how often.
-fn migrate(sizes: &Sizes, round: &Round) -> u64 {
-    let mut client = Client::new(sizes.port);
+fn migrate(sizes: &Sizes, round: &TimedRound) -> u64 {
+    let mut client = RedisClient::new(sizes.port);
     // Some are at server 1 already, which is refused.
     for shard in 0..sizes.shards {
         let _ = client.migrate(shard, 1);
@@ -79,6 +82,6 @@ pub fn run(sizes: &Sizes) {
     if sizes.filled == 0 {
         fill(sizes, text);
     }
-    let call = |client: usize, round: &Round| call(sizes, client, text, round);
+    let call = |client: usize, round: &TimedRound| call(sizes, client, text, round);
     round::run(sizes, sizes.clients, call, |round| migrate(sizes, round)).print("load");
 }

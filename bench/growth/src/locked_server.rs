@@ -7,12 +7,12 @@ use std::net::{TcpListener, TcpStream};
 use std::sync::{Arc, Mutex};
 use std::thread;
 
-struct Held {
+struct OwnedTexts {
     owner: u16,
     texts: BTreeMap<Vec<u8>, Vec<u8>>,
 }
 
-type Shards = Vec<Mutex<Held>>;
+type ServedShards = Vec<Mutex<OwnedTexts>>;
 
 /// The words of the next command, or none at the end.
 fn read(reader: &mut BufReader<TcpStream>, line: &mut String) -> io::Result<Option<Vec<Vec<u8>>>> {
@@ -51,7 +51,7 @@ fn number_of(word: &[u8]) -> Option<i64> {
     std::str::from_utf8(word).ok()?.parse().ok()
 }
 
-fn answer(shards: &Shards, words: Vec<Vec<u8>>, out: &mut Vec<u8>) {
+fn answer(shards: &ServedShards, words: Vec<Vec<u8>>, out: &mut Vec<u8>) {
     let kept = |key: &[u8]| {
         shards[shard_of(key, shards.len())]
             .lock()
@@ -93,7 +93,7 @@ fn answer(shards: &Shards, words: Vec<Vec<u8>>, out: &mut Vec<u8>) {
 }
 
 /// Answers what a connection asks; what came together is answered together.
-fn attend(shards: &Shards, stream: TcpStream) -> io::Result<()> {
+fn attend(shards: &ServedShards, stream: TcpStream) -> io::Result<()> {
     stream.set_nodelay(true)?;
     let (mut reader, mut line, mut out) = (
         BufReader::with_capacity(1 << 16, stream),
@@ -111,11 +111,12 @@ fn attend(shards: &Shards, stream: TcpStream) -> io::Result<()> {
 }
 
 pub fn run(sizes: &Sizes) {
-    let held = || Held {
+    let held = || OwnedTexts {
         owner: 1,
         texts: BTreeMap::new(),
     };
-    let shards: Arc<Shards> = Arc::new((0..sizes.shards).map(|_| Mutex::new(held())).collect());
+    let shards: Arc<ServedShards> =
+        Arc::new((0..sizes.shards).map(|_| Mutex::new(held())).collect());
     let listener = TcpListener::bind(("127.0.0.1", sizes.port)).expect("a free port");
     thread::spawn(move || {
         for stream in listener.incoming().flatten() {

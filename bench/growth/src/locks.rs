@@ -1,21 +1,21 @@
 //! A lock for each shard in Rust, round its owner and its body, a count or a `BTreeMap`. A worker that meets another
 //! owner than it last knew learns it there; a migration is one step under the lock.
 use crate::keys::{bound_of, key_of};
+use crate::shard_store::{KeyRequest, ShardStore, ShardWorker};
 use crate::sizes::Sizes;
-use crate::way::{Asked, Way, Worker};
 use std::collections::BTreeMap;
 use std::sync::{Mutex, MutexGuard};
 
 /// What is behind a lock.
-pub struct Held<B> {
+pub struct OwnedBody<B> {
     owner: u16,
     body: B,
 }
 
-pub type Shards<B> = Vec<Mutex<Held<B>>>;
+pub type Shards<B> = Vec<Mutex<OwnedBody<B>>>;
 
 fn shards_of<B: Default>(count: usize) -> Shards<B> {
-    let held = || Held {
+    let held = || OwnedBody {
         owner: 1,
         body: B::default(),
     };
@@ -27,7 +27,7 @@ fn locked<'a, B>(
     shards: &'a Shards<B>,
     owners: &mut [u16],
     shard: usize,
-) -> MutexGuard<'a, Held<B>> {
+) -> MutexGuard<'a, OwnedBody<B>> {
     let held = shards[shard].lock().expect("no thread panics");
     if held.owner != owners[shard] {
         owners[shard] = held.owner;
@@ -47,7 +47,7 @@ impl LockedCounts {
     }
 }
 
-impl Way for LockedCounts {
+impl ShardStore for LockedCounts {
     type Worker<'a> = (&'a Shards<u64>, Vec<u16>);
 
     fn worker(&self) -> Self::Worker<'_> {
@@ -59,19 +59,17 @@ impl Way for LockedCounts {
     }
 }
 
-impl Worker for (&Shards<u64>, Vec<u16>) {
-    fn request(&mut self, asked: Asked) -> u64 {
+impl ShardWorker for (&Shards<u64>, Vec<u16>) {
+    fn request(&mut self, asked: KeyRequest) -> u64 {
         let mut held = locked(self.0, &mut self.1, asked.shard);
         held.body += 1;
         held.body
     }
 }
 
-type Map = BTreeMap<Vec<u8>, Vec<u8>>;
-
 pub struct LockedTexts {
     bounds: Vec<Vec<u8>>,
-    shards: Shards<Map>,
+    shards: Shards<BTreeMap<Vec<u8>, Vec<u8>>>,
     text: Vec<u8>,
 }
 
@@ -85,7 +83,7 @@ impl LockedTexts {
     }
 }
 
-impl Way for LockedTexts {
+impl ShardStore for LockedTexts {
     type Worker<'a> = (&'a LockedTexts, Vec<u16>);
 
     fn worker(&self) -> Self::Worker<'_> {
@@ -97,9 +95,9 @@ impl Way for LockedTexts {
     }
 }
 
-impl Worker for (&LockedTexts, Vec<u16>) {
+impl ShardWorker for (&LockedTexts, Vec<u16>) {
     /// The request is made with memory of its own, and its shard is found by the key, as in the library.
-    fn request(&mut self, asked: Asked) -> u64 {
+    fn request(&mut self, asked: KeyRequest) -> u64 {
         let (texts, key) = (self.0, key_of(asked.shard, asked.key).to_vec());
         let text = asked.is_write.then(|| texts.text.clone());
         let shard = texts

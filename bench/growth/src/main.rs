@@ -3,18 +3,18 @@
 //! prints a line of each; `growth load port=PORT ..` makes requests to a server, and prints one line; `growth locks
 //! port=PORT ..` is a server whose shards are behind locks.
 mod board;
-mod choice;
 mod client;
 mod in_process;
 mod keys;
 mod load;
 mod locked_server;
 mod locks;
+mod request_choice;
 mod round;
+mod round_result;
 mod service;
+mod shard_store;
 mod sizes;
-mod told;
-mod way;
 
 use sizes::Sizes;
 
@@ -24,7 +24,7 @@ fn board(sizes: &Sizes) {
 }
 
 fn serve(sizes: &Sizes) {
-    let ours = in_process::filled(service::Texts::new(sizes), sizes);
+    let ours = in_process::filled(service::ServiceTexts::new(sizes), sizes);
     let locks = in_process::filled(locks::LockedTexts::new(sizes), sizes);
     in_process::beside(&ours, &locks, sizes);
 }

@@ -1,6 +1,6 @@
 //! A round: threads make requests for a while, beside one that moves shards.
+use crate::round_result::RoundResult;
 use crate::sizes::Sizes;
-use crate::told::Told;
 use std::sync::atomic::{AtomicBool, Ordering::Relaxed};
 use std::sync::Barrier;
 use std::thread;
@@ -10,12 +10,12 @@ use std::time::{Duration, Instant};
 const NAP: Duration = Duration::from_millis(5);
 
 /// What the threads of a round share: they begin together, and end soon after each other.
-pub struct Round {
+pub struct TimedRound {
     start: Barrier,
     is_over: AtomicBool,
 }
 
-impl Round {
+impl TimedRound {
     /// Has this thread wait until all are ready.
     pub fn begin(&self) {
         self.start.wait();
@@ -48,11 +48,11 @@ impl Round {
 pub fn run(
     sizes: &Sizes,
     threads: usize,
-    work: impl Fn(usize, &Round) -> (u64, Vec<u64>) + Sync,
-    migrate: impl FnOnce(&Round) -> u64 + Send,
-) -> Told {
+    work: impl Fn(usize, &TimedRound) -> (u64, Vec<u64>) + Sync,
+    migrate: impl FnOnce(&TimedRound) -> u64 + Send,
+) -> RoundResult {
     let is_moving = sizes.migrations > 0;
-    let round = &Round {
+    let round = &TimedRound {
         start: Barrier::new(threads + usize::from(is_moving) + 1),
         is_over: AtomicBool::new(false),
     };
@@ -71,7 +71,7 @@ pub fn run(
             .into_iter()
             .map(|it| it.join().expect("no thread panics"))
             .collect();
-        Told {
+        RoundResult {
             requests: told.iter().map(|it| it.0).sum(),
             migrations: mover.map_or(0, |it| it.join().expect("no thread panics")),
             taken,

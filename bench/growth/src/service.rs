@@ -1,13 +1,13 @@
 //! Texts on the library's board of the sample service. A worker has a pass of each server, and one to make envelopes.
 use crate::keys::{bound_of, key_of};
+use crate::shard_store::{KeyRequest, ShardStore, ShardWorker};
 use crate::sizes::Sizes;
-use crate::way::{Asked, Way, Worker};
 use durkenzo::{
     Envelope, Layout, Reply, Request, ServeFault, ServeRefused, Served, Service, ServicePass, Value,
 };
 use std::thread;
 
-pub struct Texts {
+pub struct ServiceTexts {
     service: Service,
     text: Vec<u8>,
 }
@@ -19,21 +19,21 @@ pub struct Asker<'a> {
     text: &'a [u8],
 }
 
-impl Texts {
-    pub fn new(sizes: &Sizes) -> Texts {
+impl ServiceTexts {
+    pub fn new(sizes: &Sizes) -> ServiceTexts {
         let layout = Layout::new((0..sizes.shards).map(bound_of)).expect("rising bounds");
         let service = Service::builder(layout).servers(2).build().expect("memory");
         for shard in 0..sizes.shards as u16 {
             service.control().assign(shard, 1).expect("a vacant shard");
         }
-        Texts {
+        ServiceTexts {
             service,
             text: vec![7; sizes.text],
         }
     }
 }
 
-impl Way for Texts {
+impl ShardStore for ServiceTexts {
     type Worker<'a> = Asker<'a>;
 
     fn worker(&self) -> Asker<'_> {
@@ -64,8 +64,8 @@ impl Asker<'_> {
     }
 }
 
-impl Worker for Asker<'_> {
-    fn request(&mut self, asked: Asked) -> u64 {
+impl ShardWorker for Asker<'_> {
+    fn request(&mut self, asked: KeyRequest) -> u64 {
         let key = key_of(asked.shard, asked.key);
         let (mut envelope, mut server) = (
             self.envelope(&key, asked.is_write),

@@ -1,5 +1,5 @@
 //! The library's board, of which server 1 owns all shards. Each thread has a pass of that server.
-use crate::way::{Way, Worker, SHARDS};
+use crate::count_store::{CountStore, CountWorker, SHARDS};
 use durkenzo::{AdmitFault, Board, Mode, Pass};
 
 pub struct Owned(Board<u64>);
@@ -11,7 +11,7 @@ impl Owned {
     }
 }
 
-impl Way for Owned {
+impl CountStore for Owned {
     type Worker<'a> = Pass<u64>;
 
     fn new() -> Owned {
@@ -30,7 +30,7 @@ impl Way for Owned {
     }
 }
 
-impl Worker for Pass<u64> {
+impl CountWorker for Pass<u64> {
     fn look(&mut self, shard: usize) -> u64 {
         Pass::look(self, shard as u16).expect("a shard").generation
     }

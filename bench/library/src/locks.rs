@@ -1,10 +1,10 @@
 //! A lock for each shard round its count, of std and of parking_lot. Neither knows an owner.
-use crate::way::{Way, Worker, SHARDS};
+use crate::count_store::{CountStore, CountWorker, SHARDS};
 use std::sync::Mutex;
 
 pub struct OfStd(Vec<Mutex<u64>>);
 
-impl Way for OfStd {
+impl CountStore for OfStd {
     type Worker<'a> = &'a OfStd;
 
     fn new() -> OfStd {
@@ -16,7 +16,7 @@ impl Way for OfStd {
     }
 }
 
-impl Worker for &OfStd {
+impl CountWorker for &OfStd {
     fn look(&mut self, shard: usize) -> u64 {
         *self.0[shard].lock().expect("no thread panics")
     }
@@ -30,7 +30,7 @@ impl Worker for &OfStd {
 
 pub struct OfParkingLot(Vec<parking_lot::Mutex<u64>>);
 
-impl Way for OfParkingLot {
+impl CountStore for OfParkingLot {
     type Worker<'a> = &'a OfParkingLot;
 
     fn new() -> OfParkingLot {
@@ -42,7 +42,7 @@ impl Way for OfParkingLot {
     }
 }
 
-impl Worker for &OfParkingLot {
+impl CountWorker for &OfParkingLot {
     fn look(&mut self, shard: usize) -> u64 {
         *self.0[shard].lock()
     }

@@ -3,19 +3,19 @@
 //! begin at another one in each round; where requests are served also what their replies tell. `library memory WAY`
 //! prints the bytes that the way takes.
 mod board;
+mod count_store;
 mod locks;
 mod map;
 mod served;
-mod way;
 
 use board::Owned;
+use count_store::{CountStore, CountWorker, SHARDS};
 use locks::{OfParkingLot, OfStd};
 use map::Mapped;
-use served::{Asks, Site};
+use served::{Asks, ServiceWorker};
 use std::hint::black_box;
 use std::thread;
 use std::time::Instant;
-use way::{Way, Worker, SHARDS};
 
 const THREADS: usize = 4;
 const ALONE: u64 = 3_000_000;
@@ -25,7 +25,7 @@ const COPIES: usize = 64;
 
 /// Which shards a thread chooses from.
 #[derive(Clone, Copy)]
-enum Reach {
+enum ShardChoice {
     Own,
     All,
     One,
@@ -35,7 +35,7 @@ enum Reach {
 fn at_random(
     times: u64,
     thread: usize,
-    reach: Reach,
+    reach: ShardChoice,
     mut operation: impl FnMut(usize) -> u64,
 ) -> u64 {
     let (mut state, mut told) = (88_172_645_463_325_252 * (thread as u64 + 1), 0u64);
@@ -45,9 +45,9 @@ fn at_random(
         state ^= state << 17;
         let chosen = (state >> 40) as usize;
         let shard = match reach {
-            Reach::Own => chosen % (SHARDS / THREADS) + thread * (SHARDS / THREADS),
-            Reach::All => chosen % SHARDS,
-            Reach::One => 0,
+            ShardChoice::Own => chosen % (SHARDS / THREADS) + thread * (SHARDS / THREADS),
+            ShardChoice::All => chosen % SHARDS,
+            ShardChoice::One => 0,
         };
         told = told.wrapping_add(operation(shard));
     }
@@ -61,24 +61,24 @@ fn timed(operations: u64, work: impl FnOnce() -> u64) -> f64 {
     start.elapsed().as_nanos() as f64 / operations as f64
 }
 
-fn look<W: Way>() -> f64 {
+fn look<W: CountStore>() -> f64 {
     let way = black_box(W::new());
     let mut worker = way.worker();
     timed(ALONE, || {
-        at_random(ALONE, 0, Reach::All, |shard| worker.look(shard))
+        at_random(ALONE, 0, ShardChoice::All, |shard| worker.look(shard))
     })
 }
 
-fn count<W: Way>() -> f64 {
+fn count<W: CountStore>() -> f64 {
     let way = black_box(W::new());
     let mut worker = way.worker();
     timed(ALONE, || {
-        at_random(ALONE, 0, Reach::All, |shard| worker.count(shard))
+        at_random(ALONE, 0, ShardChoice::All, |shard| worker.count(shard))
     })
 }
 
 /// Four threads count, and no addition is lost.
-fn together<W: Way>(reach: Reach) -> f64 {
+fn together<W: CountStore>(reach: ShardChoice) -> f64 {
     let way = black_box(W::new());
     let counts = &|thread| {
         let mut worker = way.worker();
@@ -98,7 +98,7 @@ fn together<W: Way>(reach: Reach) -> f64 {
     taken
 }
 
-fn show<W: Way>(way: &str) {
+fn show<W: CountStore>(way: &str) {
     println!("a look;{way};{}", look::<W>());
     println!(
         "an admission, a count in the body, its end;{way};{}",
@@ -106,15 +106,15 @@ fn show<W: Way>(way: &str) {
     );
     println!(
         "four threads, each at its own shards;{way};{}",
-        together::<W>(Reach::Own)
+        together::<W>(ShardChoice::Own)
     );
     println!(
         "four threads, at all shards;{way};{}",
-        together::<W>(Reach::All)
+        together::<W>(ShardChoice::All)
     );
     println!(
         "four threads, at one shard;{way};{}",
-        together::<W>(Reach::One)
+        together::<W>(ShardChoice::One)
     );
 }
 
@@ -122,7 +122,7 @@ fn show_refused() {
     let owned = black_box(Owned::new());
     let mut pass = owned.stranger();
     let taken = timed(ALONE, || {
-        at_random(ALONE, 0, Reach::All, |shard| {
+        at_random(ALONE, 0, ShardChoice::All, |shard| {
             board::refused(&mut pass, shard)
         })
     });
@@ -131,7 +131,7 @@ fn show_refused() {
 
 /// The sums of what the replies tell are those of bench/serve's programs.
 fn show_served() {
-    let mut site = black_box(Site::new());
+    let mut site = black_box(ServiceWorker::new());
     // What was put is told by later gets.
     for (kind, is_put) in [("get", false), ("put", true)] {
         for (asks, row) in [(Asks::AtShard, "serve"), (Asks::ByKey, "search and serve")] {
@@ -157,7 +157,7 @@ fn resident() -> usize {
 }
 
 /// The bytes that the way takes, in a process that made no other.
-fn memory_of<W: Way>() -> usize {
+fn memory_of<W: CountStore>() -> usize {
     let before = resident();
     let kept = black_box((0..COPIES).map(|_| W::new()).collect::<Vec<_>>());
     (resident() - before) / kept.len()

@@ -1,10 +1,10 @@
 //! A concurrent map of the counts by their shards. It knows no owner.
-use crate::way::{Way, Worker, SHARDS};
+use crate::count_store::{CountStore, CountWorker, SHARDS};
 use dashmap::DashMap;
 
 pub struct Mapped(DashMap<usize, u64>);
 
-impl Way for Mapped {
+impl CountStore for Mapped {
     type Worker<'a> = &'a Mapped;
 
     fn new() -> Mapped {
@@ -16,7 +16,7 @@ impl Way for Mapped {
     }
 }
 
-impl Worker for &Mapped {
+impl CountWorker for &Mapped {
     fn look(&mut self, shard: usize) -> u64 {
         *self.0.get(&shard).expect("a shard")
     }

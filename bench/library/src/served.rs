@@ -1,6 +1,6 @@
 //! The library's board of the sample service, whose server 1 owns all shards, with 16 keys of 16 bytes each and texts
 //! of 32: the requests of bench/serve, which come in the same order.
-use crate::way::SHARDS;
+use crate::count_store::SHARDS;
 use durkenzo::{Layout, Mode, Reply, Request, Sent, Served, Service, ServicePass, Value};
 
 const KEYS: u8 = 16;
@@ -14,13 +14,13 @@ pub enum Asks {
 }
 
 /// A client's pass, and a server's.
-pub struct Site {
+pub struct ServiceWorker {
     client: ServicePass,
     server: ServicePass,
 }
 
-impl Site {
-    pub fn new() -> Site {
+impl ServiceWorker {
+    pub fn new() -> ServiceWorker {
         let bound = |shard: u16| match shard {
             0 => Vec::new(),
             _ => shard.to_be_bytes().to_vec(),
@@ -28,7 +28,7 @@ impl Site {
         let layout = Layout::new((0..SHARDS as u16).map(bound)).expect("rising bounds");
         let service = Service::builder(layout).build().expect("memory");
         let pass = || service.pass(1).expect("memory");
-        let mut site = Site {
+        let mut site = ServiceWorker {
             client: pass(),
             server: pass(),
         };

@@ -24,7 +24,7 @@ pub struct Rows {
     pub order: Vec<u32>,
 }
 
-type Run = fn(&Rows) -> u64;
+type TimedRun = fn(&Rows) -> u64;
 
 /// The next state of a pseudo-random choice (xorshift64).
 fn next(state: u64) -> u64 {
@@ -107,7 +107,7 @@ fn given(round: usize, length: usize) {
 
 fn map_runs(round: usize, count: u32) {
     let empty = rows_of(count);
-    let runs: [(&str, Run, Run, Vec<u32>); 7] = [
+    let runs: [(&str, TimedRun, TimedRun, Vec<u32>); 7] = [
         ("get", ours::get, theirs::get, at_random(count, READS)),
         ("put over a key, against insert", ours::put, theirs::insert_over, at_random(count, READS)),
         ("put over a key, with rebuilds, against insert", ours::put_and_rebuild, theirs::insert_over, at_random(count, READS)),
@@ -121,7 +121,7 @@ fn map_runs(round: usize, count: u32) {
     }
 }
 
-fn map_run(name: &str, round: usize, empty: &Rows, ours: Run, theirs: Run, order: Vec<u32>) {
+fn map_run(name: &str, round: usize, empty: &Rows, ours: TimedRun, theirs: TimedRun, order: Vec<u32>) {
     let operations = order.len();
     let name = format!("{name}, {} keys", empty.keys.len() / KEY_BYTES);
     let rows = Rows { order, keys: empty.keys.clone(), texts: empty.texts.clone() };

@@ -15,9 +15,9 @@ unsafe extern "C" {
     fn bench_map_insert(keys: *const u8, keys_length: usize, texts: *const u8, texts_length: usize, order: *const u32, turns: usize) -> u64;
 }
 
-type Run = unsafe extern "C" fn(*const u8, usize, *const u8, usize, *const u32, usize) -> u64;
+type ProvedRun = unsafe extern "C" fn(*const u8, usize, *const u8, usize, *const u32, usize) -> u64;
 
-fn done(run: Run, rows: &Rows) -> u64 {
+fn done(run: ProvedRun, rows: &Rows) -> u64 {
     let Rows { keys, texts, order } = rows;
     // The runs read these slices and keep nothing of them.
     unsafe { run(keys.as_ptr(), keys.len(), texts.as_ptr(), texts.len(), order.as_ptr(), order.len()) }

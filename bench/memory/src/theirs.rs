@@ -6,15 +6,15 @@ use std::ops::Bound;
 
 const BLOCK_BYTES: usize = 65_536;
 
-type Map = BTreeMap<Vec<u8>, Vec<u8>>;
+type StdMap = BTreeMap<Vec<u8>, Vec<u8>>;
 
 fn row(bytes: &[u8], length: usize, at: u32) -> &[u8] {
     let start = at as usize * length;
     bytes.get(start..start + length).unwrap_or(&[])
 }
 
-fn map_of(rows: &Rows) -> Map {
-    let mut map = Map::new();
+fn map_of(rows: &Rows) -> StdMap {
+    let mut map = StdMap::new();
     for at in 0..(rows.keys.len() / KEY_BYTES) as u32 {
         map.insert(row(&rows.keys, KEY_BYTES, at).to_vec(), row(&rows.texts, TEXT_BYTES, at).to_vec());
     }
@@ -25,7 +25,7 @@ fn seen(text: Option<&[u8]>) -> u64 {
     text.map_or(0, |text| text.len() as u64 + text.first().map_or(0, |byte| u64::from(*byte)))
 }
 
-fn sum_of(map: &Map, rows: &Rows) -> u64 {
+fn sum_of(map: &StdMap, rows: &Rows) -> u64 {
     (0..(rows.keys.len() / KEY_BYTES) as u32).map(|at| seen(map.get(row(&rows.keys, KEY_BYTES, at)).map(Vec::as_slice))).sum()
 }
 
@@ -73,7 +73,7 @@ pub fn copy_over(rows: &Rows) -> u64 {
 
 /// Makes the key hold so many copies of the text in turn, and keeps those before, as an arena does.
 pub fn given(key: &[u8], text: &[u8], count: usize) -> u64 {
-    let (mut map, mut before) = (Map::new(), Vec::new());
+    let (mut map, mut before) = (StdMap::new(), Vec::new());
     for _ in 0..count {
         before.extend(map.insert(key.to_vec(), text.to_vec()));
     }
@@ -104,7 +104,7 @@ pub fn scan(rows: &Rows) -> u64 {
 }
 
 pub fn insert(rows: &Rows) -> u64 {
-    let mut map = Map::new();
+    let mut map = StdMap::new();
     for at in &rows.order {
         map.insert(row(&rows.keys, KEY_BYTES, *at).to_vec(), row(&rows.texts, TEXT_BYTES, *at).to_vec());
     }

@@ -24,41 +24,41 @@ enum Pace {
 
 #[derive(Clone, Copy)]
 #[allow(dead_code)]
-struct Route {
+struct PublishedRoute {
     shard: u16,
     server: u16,
     generation: u64,
 }
 
-type Map = Vec<Option<Route>>;
+type RouteTable = Vec<Option<PublishedRoute>>;
 
-trait Routes: Sync {
-    fn route(&self, shard: usize) -> Option<Route>;
-    fn publish(&self, route: Route);
+trait RoutePublisher: Sync {
+    fn route(&self, shard: usize) -> Option<PublishedRoute>;
+    fn publish(&self, route: PublishedRoute);
 }
 
-struct Swapped(ArcSwap<Map>);
+struct Swapped(ArcSwap<RouteTable>);
 
-impl Routes for Swapped {
-    fn route(&self, shard: usize) -> Option<Route> {
+impl RoutePublisher for Swapped {
+    fn route(&self, shard: usize) -> Option<PublishedRoute> {
         self.0.load()[shard]
     }
 
-    fn publish(&self, route: Route) {
-        let mut map = Map::clone(&self.0.load());
+    fn publish(&self, route: PublishedRoute) {
+        let mut map = RouteTable::clone(&self.0.load());
         map[usize::from(route.shard)] = Some(route);
         self.0.store(Arc::new(map));
     }
 }
 
-struct Locked(RwLock<Map>);
+struct Locked(RwLock<RouteTable>);
 
-impl Routes for Locked {
-    fn route(&self, shard: usize) -> Option<Route> {
+impl RoutePublisher for Locked {
+    fn route(&self, shard: usize) -> Option<PublishedRoute> {
         self.0.read().unwrap()[shard]
     }
 
-    fn publish(&self, route: Route) {
+    fn publish(&self, route: PublishedRoute) {
         self.0.write().unwrap()[usize::from(route.shard)] = Some(route);
     }
 }
@@ -85,7 +85,7 @@ fn next(state: u64) -> u64 {
     state ^ (state << 17)
 }
 
-fn read_all(routes: &impl Routes, bounds: &[Vec<u8>]) -> (u64, u64) {
+fn read_all(routes: &impl RoutePublisher, bounds: &[Vec<u8>]) -> (u64, u64) {
     let (mut choice, mut found) = (FIRST_CHOICE, 0);
     let start = Instant::now();
     for _ in 0..READS {
@@ -128,7 +128,7 @@ fn read_by_the_library() -> (u64, u64) {
     (start.elapsed().as_nanos() as u64, sum)
 }
 
-fn publish_until(routes: &impl Routes, pace: Pace, stop: &AtomicBool) -> u64 {
+fn publish_until(routes: &impl RoutePublisher, pace: Pace, stop: &AtomicBool) -> u64 {
     if pace == Pace::AtRest {
         return 0;
     }
@@ -140,15 +140,16 @@ fn publish_until(routes: &impl Routes, pace: Pace, stop: &AtomicBool) -> u64 {
         if pace == Pace::EachMillisecond {
             thread::sleep(Duration::from_millis(turn).saturating_sub(start.elapsed()));
         }
-        routes.publish(Route { shard: (turn % u64::from(SHARDS)) as u16, server: 1, generation: 2 + turn / u64::from(SHARDS) });
+        let (shard, generation) = ((turn % u64::from(SHARDS)) as u16, 2 + turn / u64::from(SHARDS));
+        routes.publish(PublishedRoute { shard, server: 1, generation });
     }
     unreachable!()
 }
 
-fn measure(routes: &impl Routes, readers: usize, pace: Pace) {
+fn measure(routes: &impl RoutePublisher, readers: usize, pace: Pace) {
     let bounds = &bounds_of(LONG_BOUND - 2);
     for shard in 0..SHARDS {
-        routes.publish(Route { shard, server: 1, generation: 1 });
+        routes.publish(PublishedRoute { shard, server: 1, generation: 1 });
     }
     let stop = AtomicBool::new(false);
     thread::scope(|scope| {
@@ -174,7 +175,7 @@ fn pace_of(word: &str) -> Pace {
 
 fn main() {
     let words: Vec<String> = std::env::args().collect();
-    let map: Map = vec![None; usize::from(SHARDS)];
+    let map: RouteTable = vec![None; usize::from(SHARDS)];
     let number = |at: usize| words[at].parse().expect("a number");
     match words[1].as_str() {
         "arc-swap" => measure(&Swapped(ArcSwap::from_pointee(map)), number(2), pace_of(&words[3])),

@@ -11,41 +11,41 @@ pub enum Kind {
     Put,
 }
 
-pub enum Request {
+pub enum ServedRequest {
     Get(Vec<u8>),
     Put(Vec<u8>, Vec<u8>),
 }
 
-pub enum Reply {
+pub enum ServedReply {
     Nothing,
     Text(Vec<u8>),
     Done,
 }
 
-impl Request {
+impl ServedRequest {
     fn key(&self) -> &[u8] {
         match self {
-            Request::Get(key) | Request::Put(key, _) => key,
+            ServedRequest::Get(key) | ServedRequest::Put(key, _) => key,
         }
     }
 }
 
-impl Reply {
+impl ServedReply {
     /// The first byte of a text and 1, or 1 where a text was put.
     pub fn told(&self) -> u64 {
         match self {
-            Reply::Text(text) => u64::from(text[0]) + 1,
-            Reply::Done => 1,
-            Reply::Nothing => 0,
+            ServedReply::Text(text) => u64::from(text[0]) + 1,
+            ServedReply::Done => 1,
+            ServedReply::Nothing => 0,
         }
     }
 }
 
-type Map = BTreeMap<Vec<u8>, Vec<u8>>;
+type TextMap = BTreeMap<Vec<u8>, Vec<u8>>;
 
 pub struct Locks {
     bounds: Vec<Vec<u8>>,
-    shards: Vec<Mutex<Map>>,
+    shards: Vec<Mutex<TextMap>>,
     searches: bool,
 }
 
@@ -55,19 +55,22 @@ impl Locks {
         let bound = |shard: u16| if shard == 0 { Vec::new() } else { shard.to_be_bytes().to_vec() };
         Locks {
             bounds: (0..SHARDS).map(bound).collect(),
-            shards: (0..SHARDS).map(|_| Mutex::new(Map::new())).collect(),
+            shards: (0..SHARDS).map(|_| Mutex::new(TextMap::new())).collect(),
             searches,
         }
     }
 
-    pub fn answer(&self, shard: u16, request: Request) -> Reply {
+    pub fn answer(&self, shard: u16, request: ServedRequest) -> ServedReply {
         let k = if self.searches { self.shard_of(request.key()) } else { usize::from(shard) };
         let mut map = self.shards[k].lock().unwrap();
         match request {
-            Request::Get(key) => map.get(&key).map_or(Reply::Nothing, |text| Reply::Text(text.clone())),
-            Request::Put(key, text) => {
+            ServedRequest::Get(key) => match map.get(&key) {
+                Some(text) => ServedReply::Text(text.clone()),
+                None => ServedReply::Nothing,
+            },
+            ServedRequest::Put(key, text) => {
                 map.insert(key, text);
-                Reply::Done
+                ServedReply::Done
             }
         }
     }

@@ -5,20 +5,20 @@ mod choice;
 mod locks;
 
 use choice::{Choice, KEYS, Reach, SHARDS, Spot};
-use locks::{Kind, Locks, Request};
+use locks::{Kind, Locks, ServedRequest};
 use std::thread;
 use std::time::Instant;
 
 const THREADS: u64 = 4;
 
 // The request at a spot: a key of 16 bytes, and a text of 32.
-fn request_of(kind: Kind, spot: Spot) -> Request {
+fn request_of(kind: Kind, spot: Spot) -> ServedRequest {
     let mut bytes = [0u8; 16];
     bytes[..2].copy_from_slice(&spot.shard.to_be_bytes());
     bytes[15] = spot.key;
     match kind {
-        Kind::Get => Request::Get(bytes.to_vec()),
-        Kind::Put => Request::Put(bytes.to_vec(), vec![spot.text; 32]),
+        Kind::Get => ServedRequest::Get(bytes.to_vec()),
+        Kind::Put => ServedRequest::Put(bytes.to_vec(), vec![spot.text; 32]),
     }
 }
 

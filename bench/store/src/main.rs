@@ -1,7 +1,7 @@
 //! Times the steps of a proved server of a shared store: 10,000 clients put texts of 32 bytes at 10,000 keys of 16, in batches of 100. While
 //! requests come, 100 others are in a transaction that isn't made yet. Each line names a step, and has its nanoseconds in one round.
 
-use durkenzo_store_sys::calls::{self, Answer, Forward, Handle, Reply, SentNumbers};
+use durkenzo_store_sys::calls::{self, AnswerNumbers, Forward, Handle, Reply, SentNumbers};
 use std::time::Instant;
 
 const CLIENTS: u64 = 10_000;
@@ -34,7 +34,7 @@ fn request(kind: u8, client: u64) -> Vec<u8> {
 }
 
 /// A server, and each client's last number.
-struct Server {
+struct MeasuredServer {
     handle: Handle,
     numbers: Vec<u64>,
     revision: u64,
@@ -62,8 +62,8 @@ fn timed<T>(total: &mut f64, run: impl FnOnce() -> T) -> T {
 }
 
 // Of all calls below: the handle is this value's alone, and pointers go with their lengths.
-impl Server {
-    fn new() -> Server {
+impl MeasuredServer {
+    fn new() -> MeasuredServer {
         let mut handle = Handle::empty();
         must(
             unsafe { calls::durkenzo_server(&mut handle, 1, 0, 1, 1_000_000, 100, 1_000, 20_000) },
@@ -73,7 +73,7 @@ impl Server {
         let mut record = vec![1];
         record.extend(WORD.to_be_bytes());
         record.extend(1_u64.to_be_bytes());
-        let mut head = vec![0; 25];
+        let mut head = [0; 25];
         head[0] = 1;
         must(
             unsafe {
@@ -90,7 +90,7 @@ impl Server {
             OK,
             "a reading",
         );
-        Server {
+        MeasuredServer {
             handle,
             numbers: vec![0; CLIENTS as usize],
             revision: 1,
@@ -174,7 +174,7 @@ impl Server {
     }
 
     fn answers(&mut self, made: usize, read: usize) {
-        let mut answer = Answer::default();
+        let mut answer = AnswerNumbers::default();
         let (into, room) = (self.room.as_mut_ptr(), self.room.len());
         for at in 0..made {
             must(
@@ -214,7 +214,7 @@ impl Server {
     }
 }
 
-fn round(server: &mut Server) {
+fn round(server: &mut MeasuredServer) {
     let mut times = Times::default();
     for batch in 0..BATCHES {
         let clients = server.chosen(batch % 2);
@@ -261,7 +261,7 @@ fn main() {
         .nth(1)
         .and_then(|it| it.parse().ok())
         .unwrap_or(1);
-    let mut server = Server::new();
+    let mut server = MeasuredServer::new();
     // Each client is known, and each key has a text, before anything is timed.
     let mut untimed = Times::default();
     for batch in 0..CLIENTS / BATCH {

@@ -15,7 +15,7 @@ const PAUSE: Duration = Duration::from_micros(200);
 const KINDS: [&str; 3] = ["MOVED", "ASK", "TRYAGAIN"];
 
 /// A slot, and the name of a key in it.
-type Key = (usize, String);
+type SlotKey = (usize, String);
 
 /// A connection to one master.
 struct Node {
@@ -59,7 +59,7 @@ impl Node {
     }
 }
 
-struct Client {
+struct ClusterClient {
     nodes: Vec<Node>,
     /// The place in `nodes` of each slot's owner.
     owners: Vec<usize>,
@@ -70,7 +70,7 @@ struct Client {
     longest: Duration,
 }
 
-impl Client {
+impl ClusterClient {
     /// Connects to each master, and takes the map from the first.
     fn new(ports: &[String]) -> Self {
         let nodes = ports.iter().map(|it| Node::new(it)).collect();
@@ -112,19 +112,19 @@ impl Client {
         }
     }
 
-    fn add(&mut self, (slot, name): &Key) {
+    fn add(&mut self, (slot, name): &SlotKey) {
         self.call(*slot, &["INCR", name], 1);
         self.acked += 1;
     }
 
     /// The sum of what a command answers for each key. All are sent before the first answer is read: no slot may move meanwhile.
-    fn sum(&mut self, command: &str, keys: &[Key]) -> u64 {
+    fn sum(&mut self, command: &str, keys: &[SlotKey]) -> u64 {
         keys.iter().for_each(|(slot, name)| self.nodes[self.owners[*slot]].send(&[command, name]));
         keys.iter().map(|(slot, _)| self.nodes[self.owners[*slot]].receive().expect("a count")[0].parse::<u64>().expect("a number")).sum()
     }
 
     /// Calls at any keys until slots have moved, and then once at each slot that has keys.
-    fn call_until(&mut self, is_over: &AtomicBool, keys: &[Key], has_pairs: bool, mut state: u64) {
+    fn call_until(&mut self, is_over: &AtomicBool, keys: &[SlotKey], has_pairs: bool, mut state: u64) {
         let mut below = |limit: usize| {
             state = state.wrapping_mul(6_364_136_223_846_793_005).wrapping_add(1_442_695_040_888_963_407);
             (state >> 33) as usize % limit
@@ -142,7 +142,7 @@ impl Client {
 }
 
 /// The keys by their slots. A slot is the CRC16, as XMODEM has it, of the tag in braces or of the whole name.
-fn keys_of(tag: &str) -> Vec<Key> {
+fn keys_of(tag: &str) -> Vec<SlotKey> {
     let shifted = |sum: u16, _| sum << 1 ^ if sum & 0x8000 == 0 { 0 } else { 0x1021 };
     let names = (0..KEYS).map(|it| format!("{tag}{it}"));
     let slot_of = |text: &str| text.bytes().fold(0, |sum, byte| (0..8).fold(sum ^ u16::from(byte) << 8, shifted)) as usize % SLOTS;
@@ -176,7 +176,7 @@ fn migrate(nodes: &mut [Node], slot: &str, from: &str, to: &str) {
     }
 }
 
-fn time_under(clients: &mut [Client], keys: &[Key], has_pairs: bool, change: impl FnOnce()) -> Duration {
+fn time_under(clients: &mut [ClusterClient], keys: &[SlotKey], has_pairs: bool, change: impl FnOnce()) -> Duration {
     let (is_over, begin) = (&AtomicBool::new(false), &Barrier::new(clients.len() + 1));
     thread::scope(|scope| {
         for (client, seed) in clients.iter_mut().zip(1..) {
@@ -203,16 +203,16 @@ fn main() {
     let words: Vec<String> = std::env::args().collect();
     let [_, way, ports @ ..] = &words[..] else { panic!("usage: redis reshard|counts|pairs PORT PORT PORT") };
     let (slots, keys) = if way == "reshard" { (500, keys_of("")) } else { (1, keys_of("{count}")) };
-    let Client { mut nodes, owners, .. } = Client::new(ports);
+    let ClusterClient { mut nodes, owners, .. } = ClusterClient::new(ports);
     nodes.iter_mut().for_each(|it| drop(it.ask(&["FLUSHALL"])));
-    let mut clients = [(); 2].map(|()| Client::new(ports));
+    let mut clients = [(); 2].map(|()| ClusterClient::new(ports));
     clients[0].acked = clients[0].sum("INCR", &keys);
     nodes.rotate_left(owners[keys[0].0]);
     let [from, to] = [0, 1].map(|it| nodes[it].ask(&["CLUSTER", "MYID"]).remove(0));
     let (slot, many) = (keys[0].0.to_string(), slots.to_string());
     let change = || if slots == 1 { migrate(&mut nodes, &slot, &from, &to) } else { reshard(&ports[0], &many, &from, &to) };
     let time = time_under(&mut clients, &keys, way == "pairs", change);
-    let mut after = Client::new(ports);
+    let mut after = ClusterClient::new(ports);
     assert_eq!(owners.iter().zip(&after.owners).filter(|(one, other)| one != other).count(), slots, "slots have another owner");
     let acked: u64 = clients.iter().map(|it| it.acked).sum();
     assert_eq!(acked, after.sum("GET", &keys), "INCRs acknowledged and applied");

@@ -3,9 +3,9 @@
 pub const SHARDS: usize = 4096;
 
 /// A way to keep the counts.
-pub trait Way: Sync {
+pub trait CountStore: Sync {
     /// What one thread acts with.
-    type Worker<'a>: Worker
+    type Worker<'a>: CountWorker
     where
         Self: 'a;
 
@@ -15,7 +15,7 @@ pub trait Way: Sync {
     fn worker(&self) -> Self::Worker<'_>;
 }
 
-pub trait Worker {
+pub trait CountWorker {
     /// Reads what the way has of the shard.
     fn look(&mut self, shard: usize) -> u64;
 

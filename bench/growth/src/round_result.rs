@@ -4,7 +4,7 @@ use std::time::Duration;
 /// How many times of requests each thread keeps at most.
 pub const MOST_TIMES: usize = 1 << 16;
 
-pub struct Told {
+pub struct RoundResult {
     pub requests: u64,
     pub migrations: u64,
     pub taken: Duration,
@@ -12,7 +12,7 @@ pub struct Told {
     pub times: Vec<u64>,
 }
 
-impl Told {
+impl RoundResult {
     /// The time below which so many of 1,000 requests stayed.
     fn part(&self, thousandths: usize) -> u64 {
         let last = self.times.len().saturating_sub(1);

@@ -1,9 +1,9 @@
 //! What each way does: it keeps a body for each shard, which threads share, and moves shards between two servers.
 
 /// A way to keep the bodies.
-pub trait Way: Sync {
+pub trait ShardStore: Sync {
     /// What one thread acts with.
-    type Worker<'a>: Worker
+    type Worker<'a>: ShardWorker
     where
         Self: 'a;
 
@@ -13,14 +13,14 @@ pub trait Way: Sync {
     fn migrate(&self, shard: usize, to: u16);
 }
 
-pub trait Worker {
+pub trait ShardWorker {
     /// Makes a request to the shard, and returns what its reply tells.
-    fn request(&mut self, asked: Asked) -> u64;
+    fn request(&mut self, asked: KeyRequest) -> u64;
 }
 
 /// A request: the shard, the number of the key in it, and whether the key is written.
 #[derive(Clone, Copy)]
-pub struct Asked {
+pub struct KeyRequest {
     pub shard: usize,
     pub key: u32,
     pub is_write: bool,

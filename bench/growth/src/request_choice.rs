@@ -1,16 +1,16 @@
 //! What is asked for next: at random (xorshift64), of each thread by itself.
+use crate::shard_store::KeyRequest;
 use crate::sizes::Sizes;
-use crate::way::Asked;
 
-pub struct Choice {
+pub struct RequestChoice {
     state: u64,
     shards: u64,
     keys: u64,
 }
 
-impl Choice {
-    pub fn new(sizes: &Sizes, thread: usize) -> Choice {
-        Choice {
+impl RequestChoice {
+    pub fn new(sizes: &Sizes, thread: usize) -> RequestChoice {
+        RequestChoice {
             state: 88_172_645_463_325_252_u64.wrapping_mul(2 * thread as u64 + 1),
             shards: sizes.shards as u64,
             keys: u64::from(sizes.keys),
@@ -29,8 +29,8 @@ impl Choice {
         ((u128::from(self.number()) * u128::from(end)) >> 64) as u64
     }
 
-    pub fn next(&mut self) -> Asked {
-        Asked {
+    pub fn next(&mut self) -> KeyRequest {
+        KeyRequest {
             shard: self.below(self.shards) as usize,
             key: self.below(self.keys) as u32,
             is_write: self.number() >> 63 == 1,
