@@ -5,6 +5,7 @@ import tempfile
 from dataclasses import dataclass
 
 import exported
+import other_crates
 import runs
 
 TOP = runs.TOP
@@ -53,7 +54,7 @@ def proved_file(crate, name):
 def server_over(libraries=None):
     """The server over the libraries in this folder, or over the proved ones."""
     serve = runs.loaded("serve")
-    if not shutil.which("cargo") or not serve.has_crates():
+    if not shutil.which("cargo") or not other_crates.has_crates():
         raise NotMade("the server needs cargo, and crates: tools/setup installs them")
     try:
         return serve.built(lambda: libraries) if libraries else serve.built()

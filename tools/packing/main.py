@@ -48,10 +48,10 @@ def crate(room, given, into):
     copy = room.folder / "crate"
     shutil.copytree(CRATE, copy, ignore=shutil.ignore_patterns("target", "out"))
     shutil.copyfile(made.TOP / "LICENSE", copy / "LICENSE")
-    for name in ("Cargo.toml", "Cargo.lock"):
-        text = (copy / name).read_text(encoding="utf-8")
-        text = re.sub(rf'(name = "durkenzo"\nversion = "){re.escape(made.VERSION)}"', rf'\g<1>{given.version}"', text)
-        (copy / name).write_text(text, encoding="utf-8")
+    manifest = copy / "Cargo.toml"
+    text = manifest.read_text(encoding="utf-8")
+    text = re.sub(rf'(name = "durkenzo"\nversion = "){re.escape(made.VERSION)}"', rf'\g<1>{given.version}"', text)
+    manifest.write_text(text, encoding="utf-8")
     target = room.folder / "target"
     room.run("cargo", "package", "--offline", "--no-verify", "--quiet", "--target-dir", target, cwd=copy)
     made_at = into / f"durkenzo-{given.version}.crate"

@@ -25,7 +25,7 @@ def texts_in(folder):
 
 def of_server():
     """Yields the crates that cargo takes, with the texts of each: where it brings none, what its manifest says."""
-    for package in runs.loaded("licences").packages([made.TOP / "server"]):
+    for package in runs.loaded("licences").packages("durkenzo-server"):
         texts = texts_in(pathlib.Path(package["manifest_path"]).parent)
         yield (
             f"{package['name']} {package['version']}",

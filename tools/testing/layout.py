@@ -11,9 +11,6 @@ from testing.program import tool
 
 RATTLE = pathlib.Path(shutil.which("rt") or "rt").resolve().with_name("rattle")
 ENDINGS = (".rt", ".antt")
-LIBRARY = ("library/rust/durkenzo", "library/rust/durkenzo-store-sys")
-OURS = ("driver", "fuzzing", *LIBRARY, "server", "simulation", "store", "trial")
-RUST = [sources.TOP / it for it in OURS]
 
 
 def files_of(folder):
@@ -40,7 +37,7 @@ def laid_out(room):
         ran = subprocess.run(command, cwd=folder, capture_output=True, text=True, errors="replace")
         why = f"rt fmt would change it:\n{(ran.stdout + ran.stderr)[-2000:]}"
         yield verdict(f"the layout of {folder.name}", ran.returncode == 0, why)
-    for folder in RUST if shutil.which("cargo-fmt") else []:
-        ran = subprocess.run(["cargo", "fmt", "--check"], cwd=folder, capture_output=True, text=True)
+    if shutil.which("cargo-fmt"):
+        ran = subprocess.run(["cargo", "fmt", "--all", "--check"], cwd=sources.TOP, capture_output=True, text=True)
         said = ran.stdout[-2000:] + ran.stderr[-2000:]
-        yield verdict(f"the layout of {folder.name} in Rust", ran.returncode == 0, said)
+        yield verdict("the layout of the workspace in Rust", ran.returncode == 0, said)
