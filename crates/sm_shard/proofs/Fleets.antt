@@ -1,10 +1,7 @@
 -- Every run of a fleet is one of the store's events, and so lawful.
 use Rattle.std.proofs.Common.{◌≡◌, ℕ, zero, suc, List, [], ◌∷◌, ◌++◌, length, map, refl, sym, ap, subst}
-use Rattle.std.proofs.Common.{◌∙◌, ◌+◌, true, false, append-nil}
-use Rattle.std.specs.Prelude.{Bool, Result, Ok, Err, ◌==◌, ◌||◌, if◌then◌else◌}
-use Rattle.std.proofs.lemmas.Bool.{eqb-true}
-use Rattle.sm_store.specs.declared.head.Head.{Head}
-use Rattle.sm_store.specs.Linear.{AreAskedFor, AsksFor, DidAsk, IsLinear}
+use Rattle.std.proofs.Common.{◌∙◌}
+use Rattle.sm_store.specs.Linear.{AreAskedFor, AsksFor, IsLinear}
 use Rattle.std.specs.Prelude.{Option, Some, None, IfSome, slice_set}
 use Rattle.std.specs.List.{AllByRecursion}
 use Rattle.sm_shard.specs.Bases.{Part, base_of}
@@ -17,20 +14,12 @@ use Rattle.sm_store.specs.System.{May, MayClaim}
 use Rattle.sm_store.specs.System.{MightHappen, System, happens, system_after}
 use Rattle.sm_store.specs.lemmas.Growth.{asked_grows, found_grows}
 use Rattle.sm_store.specs.lemmas.Logs.{all_map, asked_step, asks_within, at_place, log_step}
-use Rattle.sm_shard.specs.Decisions.{named_by}
-use Rattle.sm_shard.specs.declared.base_work.BaseWork.{BaseWork}
-use Rattle.sm_shard.specs.declared.base_work.NamedBase.{NamedBase}
-use Rattle.sm_shard.specs.declared.replica.ReplayFault.{ReplayFault}
-use Rattle.sm_shard.specs.declared.shard_server.ShardServer.{ShardServer}
-use Rattle.sm_shard.specs.declared.steps.ShardOutput.{ShardOutput}
-use Rattle.sm_shard.specs.declared.steps.ShardOutput.TheVariants.{Nothing, Sends as DoesSend, Decided, Answers, Decides}
-use Rattle.sm_shard.specs.declared.steps.ShardOutput.TheVariants.{Bases, Clears}
 use Rattle.sm_shard.specs.declared.shard_state.ShardState.{ShardState}
-use Rattle.sm_shard.specs.Fleet.{Act, MayAct, MightAct, Otherwise, Running, Starts, Steps}
-use Rattle.sm_shard.specs.Fleet.{AsksForEvent, OthersAskFor, events_of, fleet_after, sent_since}
-use Rattle.sm_shard.specs.ShardServers.{AreAsked, AreAskedOf, HasRead, IsAsked, IsAskedBy, IsTrueOf}
-use Rattle.sm_shard.specs.ShardServers.{StoreLog, basing_by, basing_from, transaction_for}
-use Rattle.sm_shard.specs.Steps.{ArePast, IsSafe, bases_of, since_after, step_claims, step_sends, transactions_of}
+use Rattle.sm_shard.specs.Fleet.{Act, AllAskFor, AsksForAct, AsksForEvent, MayAct, MightAct, Otherwise, Running, Starts}
+use Rattle.sm_shard.specs.Fleet.{Steps, events_of, fleet_after, sent_since}
+use Rattle.sm_shard.specs.ShardServers.{AreAsked, AreAskedOf, AreRequestsAsked, AreRequestsAskedOf, HasRead, IsAsked}
+use Rattle.sm_shard.specs.ShardServers.{IsAskedBy, IsTrueOf, StoreLog}
+use Rattle.sm_shard.specs.Steps.{ArePast, AsksForStep, IsSafe, since_after, step_claims, step_sends}
 use Rattle.sm_shard.proofs.Works.{base_grows}
 
 all_set : {A : Type 0} (F : A → Type 0) (xs : List A) (which : ℕ) (new : A) → AllByRecursion F xs → F new
@@ -53,10 +42,6 @@ module _ {Q : Type 0} where
   items_grow : {M R : Type 0} (new : Ask Q) (asked : List (Ask Q)) (since shard : ℕ) (ready : ShardState M Q R)
       → AreAskedOf asked since shard ready → AreAskedOf (new ∷ asked) since shard ready
   items_grow new asked since shard ready are = record {
-    sent = all_map (IsAsked asked shard) (IsAsked (new ∷ asked) shard) (item_grows new asked shard)
-        ready.sent.items are.sent;
-    waiting = all_map (IsAsked asked shard) (IsAsked (new ∷ asked) shard) (item_grows new asked shard)
-        ready.waiting.items are.waiting;
     asking = all_map (IsAsked asked shard) (IsAsked (new ∷ asked) shard) (item_grows new asked shard)
         ready.asking.items are.asking;
     carried = all_map (IsAskedBy asked shard since) (IsAskedBy (new ∷ asked) shard since)
@@ -70,6 +55,32 @@ module _ {Q : Type 0} where
   asked_more [] asked since shard (Some ready) are = are
   asked_more (new ∷ more) asked since shard (Some ready) are =
       items_grow new (more ++ asked) since shard ready (asked_more more asked since shard (Some ready) are)
+
+  requests_grow : {M R : Type 0} (new : Ask Q) (asked : List (Ask Q)) (shard : ℕ) (ready : ShardState M Q R)
+      → AreRequestsAskedOf asked shard ready → AreRequestsAskedOf (new ∷ asked) shard ready
+  requests_grow new asked shard ready are = record {
+    sent = all_map (IsAsked asked shard) (IsAsked (new ∷ asked) shard) (item_grows new asked shard)
+        ready.sent.items are.sent;
+    waiting = all_map (IsAsked asked shard) (IsAsked (new ∷ asked) shard) (item_grows new asked shard)
+        ready.waiting.items are.waiting;
+  }
+
+  requests_more : {M R : Type 0} (more asked : List (Ask Q)) (shard : ℕ) (found : Option (ShardState M Q R))
+      → IfSome found (λ ready. AreRequestsAskedOf asked shard ready)
+      → IfSome found (λ ready. AreRequestsAskedOf (more ++ asked) shard ready)
+  requests_more more asked shard None are = are
+  requests_more [] asked shard (Some ready) are = are
+  requests_more (new ∷ more) asked shard (Some ready) are =
+      requests_grow new (more ++ asked) shard ready (requests_more more asked shard (Some ready) are)
+
+  -- the requests of a server that runs were asked
+  abbrev AreRunningAsked : {M R : Type 0} → List (Ask Q) → Running M Q R → Type 0
+  AreRunningAsked asked running = AreRequestsAsked asked running.server
+
+  running_more : {M R : Type 0} (more asked : List (Ask Q)) (running : Running M Q R)
+      → AreRunningAsked asked running → AreRunningAsked (more ++ asked) running
+  running_more more asked running are =
+      requests_more more asked running.server.shard running.server.ready are
 
 module _ {M Q R : Type 0} (service : Automaton M Q R) where
   knows_grows : (more log : StoreLog Q R) (me shard : ℕ) (ready : ShardState M Q R)
@@ -140,70 +151,7 @@ module _ {Q R : Type 0} where
   claimed_after events (claim ∷ claims) =
       ap (λ (system : System Q (Part R) R). happens system (Claims claim)) (claimed_after events claims)
 
-module _ {Q : Type 0} where
-  abbrev AllAsked : List (Ask Q) → ℕ → List (Item Q) → Type 0
-  AllAsked asked shard items =
-      AllByRecursion (λ item. DidAsk asked shard item.client item.number item.request) items
-
-  none_asked : (b : Bool) (asked : List (Ask Q)) (shard : ℕ) → AllAsked asked shard (if b then [] else [])
-  none_asked true asked shard = tt
-  none_asked false asked shard = tt
-
-  made_asked : (b : Bool) (asked : List (Ask Q)) (k : ℕ) (items : List (Item Q))
-      → (b ≡ true → AllAsked asked k items)
-      → AllAsked asked k (if b || false then (if b then items else []) ++ [] else [])
-  made_asked true asked k items all = subst (AllAsked asked k) (sym (append-nil items)) (all refl)
-  made_asked false asked k items all = tt
-
-  for_asks :
-      (R : Type 0) (asked : List (Ask Q)) (shard me : ℕ) (base : Option NamedBase) (items : List (Item Q)) (head : Head)
-      (stood logged : ℕ) → AllByRecursion (IsAsked asked shard) items
-      → AsksFor asked (transaction_for {R = R} shard me base items head stood logged)
-  for_asks R asked shard me None [] head stood logged all = λ k. tt
-  for_asks R asked shard me (Some base) [] head stood logged all =
-      λ k. none_asked (shard == k || false) asked k
-  for_asks R asked shard me base (item ∷ items) head stood logged all =
-      λ k. made_asked (shard == k) asked k (item ∷ items)
-      (λ same. subst (λ (n : ℕ). AllAsked asked n (item ∷ items)) (eqb-true shard k same) all)
-
 module _ {Q R : Type 0} where
-  from_asks : (asked : List (Ask Q)) (shard number place : ℕ) (parts : List (Part R))
-      → AllByRecursion (AsksFor asked) (basing_from shard number place parts)
-  from_asks asked shard number place [] = tt
-  from_asks asked shard number place (part ∷ parts) =
-      ((λ k. tt), from_asks asked shard number (place + 1) parts)
-
-  bases_ask : (asked : List (Ask Q)) (shard : ℕ) (work : Option (BaseWork R))
-      → AllByRecursion (AsksFor asked) (basing_by shard work)
-  bases_ask asked shard None = tt
-  bases_ask asked shard (Some work) = from_asks asked shard work.number 0 work.parts.items
-
-  ready_asks : {M : Type 0} (asked : List (Ask Q)) (since me shard : ℕ) (found : Option (ShardState M Q R))
-      → IfSome found (λ ready. AreAskedOf asked since shard ready)
-      → AllByRecursion (AsksFor asked) (transactions_of me shard found)
-  ready_asks asked since me shard None all = tt
-  ready_asks asked since me shard (Some ready) all = (
-    for_asks R asked shard me (named_by ready.work) ready.sent.items ready.head ready.stood ready.logged all.sent,
-    tt,
-  )
-
-  of_ready : {M : Type 0} (asked : List (Ask Q)) (shard : ℕ) (found : Option (ShardState M Q R))
-      → AllByRecursion (AsksFor asked) (bases_of shard found)
-  of_ready asked shard None = tt
-  of_ready asked shard (Some ready) = bases_ask asked shard ready.work
-
-  -- what a step sends was asked for
-  step_asks : {M : Type 0} (asked : List (Ask Q)) (since : ℕ) (result : Result (ShardOutput Q R) ReplayFault)
-      (new : ShardServer M Q R) → AreAsked asked since new → AllByRecursion (AsksFor asked) (step_sends result new)
-  step_asks asked since (Ok DoesSend) new all = ready_asks asked since new.me new.shard new.ready all
-  step_asks asked since (Ok Bases) new all = of_ready asked new.shard new.ready
-  step_asks asked since (Ok (Clears key)) new all = ((λ k. tt), tt)
-  step_asks asked since (Ok Nothing) new all = tt
-  step_asks asked since (Ok (Decided decision)) new all = tt
-  step_asks asked since (Ok (Answers answers)) new all = tt
-  step_asks asked since (Ok (Decides again)) new all = tt
-  step_asks asked since (Err fault) new all = tt
-
   sends_asked : (events : List (Event Q (Part R) R)) (txns : List (Transaction Q (Part R)))
       → AllByRecursion (AsksFor (system_after events).asked) txns → AreAskedFor events
       → AreAskedFor (map Sends txns ++ events)
@@ -217,6 +165,18 @@ module _ {Q R : Type 0} where
       → AreAskedFor (map Claims claims ++ events)
   claims_asked [] events asked = asked
   claims_asked (claim ∷ claims) events asked = claims_asked claims events asked
+
+  -- the system of a fleet is that of its events
+  system_is : {M : Type 0} (acts : List (Act M Q R)) → (fleet_after acts).system ≡ system_after (events_of acts)
+  system_is [] = refl
+  system_is (Starts server ∷ acts) = system_is acts
+  system_is (Steps which old input result new ∷ acts) =
+      let sends = step_sends result new in
+      let claims = step_claims new.shard input result in
+      ap (λ (now : System Q (Part R) R). with_claims (with_sent now sends) claims) (system_is acts)
+      ∙ ap (λ (now : System Q (Part R) R). with_claims now claims) (sym (sent_after (events_of acts) sends))
+      ∙ sym (claimed_after (map Sends sends ++ events_of acts) claims)
+  system_is (Otherwise event ∷ acts) = ap (λ (system : System Q (Part R) R). happens system event) (system_is acts)
 
 module _ {M Q R : Type 0} (service : Automaton M Q R) where
   -- what may be claimed may be, whatever else is sent and claimed
@@ -263,13 +223,11 @@ module _ {M Q R : Type 0} (service : Automaton M Q R) (charter : Charter Q (Part
     claims_might system txns events is claims all.1 might,
   )
 
-  -- the fleet's system is one after events that might happen, and what its servers hold is so
+  -- the fleet's events might happen, and what its servers hold is so
   record IsRun (acts : List (Act M Q R)) : Type 0 where
     pub might : MightHappen service charter (events_of acts)
-    pub is : (fleet_after acts).system ≡ system_after (events_of acts)
     pub good : AllByRecursion (IsGoodServer service charter (fleet_after acts).system.log
         (fleet_after acts).system.asked) (fleet_after acts).servers
-    pub asked_for : OthersAskFor acts → AreAskedFor (events_of acts)
 
   -- each run of events is lawful
   abbrev Lawful : Type 0
@@ -289,7 +247,6 @@ module _ {M Q R : Type 0} (service : Automaton M Q R) (charter : Charter Q (Part
       → MayAct service charter (fleet_after acts) act → IsRun (act ∷ acts)
   run_step law parts acts (Starts server) run may = record {
     might = run.might;
-    is = run.is;
     good = (
       record {
         count = may.1;
@@ -300,21 +257,21 @@ module _ {M Q R : Type 0} (service : Automaton M Q R) (charter : Charter Q (Part
       },
       run.good,
     );
-    asked_for = run.asked_for;
   }
   run_step law parts acts (Steps which old input result new) run may =
       let fleet = fleet_after acts in
       let events = events_of acts in
       let system = fleet.system in
       let log = system.log in
+      let is = system_is acts in
       let step = may.1 in
       let was : IsGoodServer service charter log system.asked old =
       subst (λ (o : Option (Running M Q R)). IfSome o (IsGoodServer service charter log system.asked)) may.0
       (at_place (IsGoodServer service charter log system.asked) fleet.servers which run.good) in
       let past : ArePast system =
-      subst (λ (now : System Q (Part R) R). ArePast now) (sym run.is) (asks_within events) in
+      subst (λ (now : System Q (Part R) R). ArePast now) (sym is) (asks_within events) in
       let right : AreRight charter log =
-      subst (λ (now : System Q (Part R) R). AreRight charter now.log) (sym run.is) (law events run.might).right in
+      subst (λ (now : System Q (Part R) R). AreRight charter now.log) (sym is) (law events run.might).right in
       let safe : IsSafe service charter system old.since old.server.shard input result new =
       step.call charter system old.since was.count parts right past was.known was.in_time step.input_is in
       let claims_may : AllByRecursion (MayClaim service system) (step_claims new.shard input result) =
@@ -324,16 +281,12 @@ module _ {M Q R : Type 0} (service : Automaton M Q R) (charter : Charter Q (Part
       let claims = step_claims new.shard input result in
       let first : List (Event Q (Part R) R) = map Sends sends ++ events in
       let sent : with_sent system sends ≡ system_after first =
-      ap (λ (now : System Q (Part R) R). with_sent now sends) run.is ∙ sym (sent_after events sends) in
-      let asks : AllByRecursion (AsksFor (system_after events).asked) sends =
-      subst (λ (now : System Q (Part R) R). AllByRecursion (AsksFor now.asked) sends) run.is
-      (step_asks system.asked (since_after result old.since (length log)) result new safe.asked) in
+      ap (λ (now : System Q (Part R) R). with_sent now sends) is ∙ sym (sent_after events sends) in
       record {
         might = claims_might system sends first (sym sent) claims claims_may
             (sends_might events sends
-            (subst (λ (now : System Q (Part R) R). AllByRecursion (MaySend charter now.log) sends) run.is safe.may)
+            (subst (λ (now : System Q (Part R) R). AllByRecursion (MaySend charter now.log) sends) is safe.may)
             run.might);
-        is = ap (λ (now : System Q (Part R) R). with_claims now claims) sent ∙ sym (claimed_after first claims);
         good = all_set (IsGoodServer service charter log system.asked) fleet.servers which
             (record { server = new; since = since_after result old.since (length log) }) run.good
             (record {
@@ -341,7 +294,6 @@ module _ {M Q R : Type 0} (service : Automaton M Q R) (charter : Charter Q (Part
               known = safe.known;
               in_time = safe.asked;
             });
-        asked_for = λ others. claims_asked claims first (sends_asked events sends asks (run.asked_for others));
       }
   run_step law parts acts (Otherwise event) run may =
       let fleet = fleet_after acts in
@@ -351,37 +303,84 @@ module _ {M Q R : Type 0} (service : Automaton M Q R) (charter : Charter Q (Part
       let new = IsGoodServer service charter (grown.0 ++ fleet.system.log) (asks.0 ++ fleet.system.asked) in
       record {
         might = (
-          subst (λ (system : System Q (Part R) R). May service charter system event) run.is may,
+          subst (λ (system : System Q (Part R) R). May service charter system event) (system_is acts) may,
           run.might,
         );
-        is = ap (λ (system : System Q (Part R) R). happens system event) run.is;
         good = subst (λ (log : StoreLog Q R). AllByRecursion (IsGoodServer service charter log
             (happens fleet.system event).asked) fleet.servers) (sym grown.1)
             (subst (λ (asked : List (Ask Q)). AllByRecursion (IsGoodServer service charter
             (grown.0 ++ fleet.system.log) asked) fleet.servers) (sym asks.1)
             (all_map old new (good_grows service charter grown.0 fleet.system.log asks.0 fleet.system.asked)
             fleet.servers run.good));
-        asked_for = λ others. event_asked acts event run.is others.0 (run.asked_for others.1);
       }
 
   runs : Lawful → charter.parts ≡ base_of service → (acts : List (Act M Q R)) → MightAct service charter acts
       → IsRun acts
-  runs law parts [] might = record { might = tt; is = refl; good = tt; asked_for = λ others. tt }
+  runs law parts [] might = record { might = tt; good = tt }
   runs law parts (act ∷ earlier) might =
       run_step law parts earlier act (runs law parts earlier might.1) might.0
+
+  -- what its servers have was asked, and so was what is made
+  record IsAskedRun (acts : List (Act M Q R)) : Type 0 where
+    pub servers : AllByRecursion (AreRunningAsked (fleet_after acts).system.asked) (fleet_after acts).servers
+    pub events : AreAskedFor (events_of acts)
+
+  ask_step : (acts : List (Act M Q R)) (act : Act M Q R) → IsAskedRun acts
+      → MayAct service charter (fleet_after acts) act → AsksForAct (fleet_after acts) act → IsAskedRun (act ∷ acts)
+  ask_step acts (Starts server) run may asks = record {
+    servers = (
+      subst (λ (o : Option (ShardState M Q R)). IfSome o (λ ready. AreRequestsAskedOf
+          (fleet_after acts).system.asked server.shard ready)) (sym may.0) tt,
+      run.servers,
+    );
+    events = run.events;
+  }
+  ask_step acts (Steps which old input result new) run may asks =
+      let fleet = fleet_after acts in
+      let events = events_of acts in
+      let asked = fleet.system.asked in
+      let sends = step_sends result new in
+      let was : AreRunningAsked asked old =
+      subst (λ (o : Option (Running M Q R)). IfSome o (AreRunningAsked asked)) may.0
+      (at_place (AreRunningAsked asked) fleet.servers which run.servers) in
+      let done : AsksForStep asked result new = asks.1 asked was asks.0 in
+      record {
+        servers = all_set (AreRunningAsked asked) fleet.servers which
+            (record { server = new; since = since_after result old.since (length fleet.system.log) }) run.servers
+            done.requests;
+        events = claims_asked (step_claims new.shard input result) (map Sends sends ++ events)
+            (sends_asked events sends
+            (subst (λ (now : System Q (Part R) R). AllByRecursion (AsksFor now.asked) sends) (system_is acts)
+            done.sends)
+            run.events);
+      }
+  ask_step acts (Otherwise event) run may asks =
+      let fleet = fleet_after acts in
+      let more = asked_step fleet.system event in
+      record {
+        servers = subst (λ (asked : List (Ask Q)). AllByRecursion (AreRunningAsked asked) fleet.servers)
+            (sym more.1)
+            (all_map (AreRunningAsked fleet.system.asked) (AreRunningAsked (more.0 ++ fleet.system.asked))
+            (running_more more.0 fleet.system.asked) fleet.servers run.servers);
+        events = event_asked acts event (system_is acts) asks run.events;
+      }
+
+  asked_runs : (acts : List (Act M Q R)) → MightAct service charter acts → AllAskFor acts → IsAskedRun acts
+  asked_runs [] might asks = record { servers = tt; events = tt }
+  asked_runs (act ∷ earlier) might asks =
+      ask_step earlier act (asked_runs earlier might.1 asks.1) might.0 asks.0
 
   -- what holds of all runs of events holds of a fleet's
   pub lawful : Lawful → (acts : List (Act M Q R)) → charter.parts ≡ base_of service
       → MightAct service charter acts → IsLawful service charter (fleet_after acts).system
   lawful law acts parts might =
       let run = runs law parts acts might in
-      subst (IsLawful service charter) (sym run.is) (law (events_of acts) run.might)
+      subst (IsLawful service charter) (sym (system_is acts)) (law (events_of acts) run.might)
 
   -- and linearizable
   pub fleet_linear : Lawful → ((events : List (Event Q (Part R) R)) → MightHappen service charter events
       → AreAskedFor events → IsLinear service events)
       → (acts : List (Act M Q R)) → charter.parts ≡ base_of service → MightAct service charter acts
-      → OthersAskFor acts → IsLinear service (events_of acts)
-  fleet_linear law linear acts parts might others =
-      let run = runs law parts acts might in
-      linear (events_of acts) run.might (run.asked_for others)
+      → AllAskFor acts → IsLinear service (events_of acts)
+  fleet_linear law linear acts parts might asks =
+      linear (events_of acts) (runs law parts acts might).might (asked_runs acts might asks).events

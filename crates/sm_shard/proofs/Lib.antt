@@ -1,3 +1,4 @@
+mod Asks
 pub mod Crowds
 mod Cuts
 mod Fleets

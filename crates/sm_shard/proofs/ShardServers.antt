@@ -42,11 +42,11 @@ use Rattle.sm_shard.specs.Decisions.{batch_from, batch_length, begins_base, deci
 use Rattle.sm_shard.specs.Decisions.{asking_after, is_behind, is_taken, named_by, waiting_after}
 use Rattle.sm_shard.specs.Replicas.{IsReplica, read_of, replies_of}
 use Rattle.sm_shard.specs.Steps.{ArePast, bases_of, transactions_of}
-use Rattle.sm_shard.specs.ShardServers.{AreAskedOf, DidHold, HasRead, IsAsked, IsAskedBy, IsDecided, IsFlushed}
-use Rattle.sm_shard.specs.ShardServers.{AreWritten, IsNewBase, IsButWork, IsShardState, IsUnflushed, IsWorkTrue}
-use Rattle.sm_shard.specs.ShardServers.{named_at, named_now, written_now}
-use Rattle.sm_shard.specs.ShardServers.{StoreLog, StoreSystem, WasMade, WereMade, claimed_all, claimed_by}
-use Rattle.sm_shard.specs.ShardServers.{claimed_read, claimed_reads, sent_transaction, transaction_for}
+use Rattle.sm_shard.specs.ShardServers.{AreAskedOf, AreRequestsAskedOf, AreWritten, DidHold, HasRead, IsAsked}
+use Rattle.sm_shard.specs.ShardServers.{IsAskedBy, IsButWork, IsDecided, IsFlushed, IsNewBase, IsShardState}
+use Rattle.sm_shard.specs.ShardServers.{IsUnflushed, IsWorkTrue, StoreLog, StoreSystem, WasMade, WereMade, claimed_all}
+use Rattle.sm_shard.specs.ShardServers.{claimed_by, claimed_read, claimed_reads, named_at, named_now, sent_transaction}
+use Rattle.sm_shard.specs.ShardServers.{transaction_for, written_now}
 use Rattle.sm_shard.proofs.Replicas.{answers_are}
 use Rattle.sm_shard.proofs.Works.{base_begun, base_later, base_written, bases_may, clear_may, head_found, lt_of}
 use Rattle.sm_shard.proofs.Works.{name_may}
@@ -473,7 +473,7 @@ module _ {M Q R : Type 0} (service : Automaton M Q R) where
       → AreAskedOf asked since shard ready → AreAskedOf asked since shard (named_at revision base ready)
   asked_at asked since shard revision ready None are = are
   asked_at asked since shard revision ready (Some base) are =
-      record { sent = are.sent; waiting = are.waiting; asking = are.asking; carried = are.carried }
+      record { asking = are.asking; carried = are.carried }
 
   pub asked_named : (asked : List (Ask Q)) (since shard revision : ℕ) (ready : ShardState M Q R)
       (carried : Vec (Item Q)) → carried.items ≡ [] → AreAskedOf asked since shard ready
@@ -481,11 +481,21 @@ module _ {M Q R : Type 0} (service : Automaton M Q R) where
   asked_named asked since shard revision ready carried none are =
       asked_at asked since shard revision (carrying ready carried) (named_by ready.work)
       (record {
-        sent = are.sent;
-        waiting = are.waiting;
         asking = are.asking;
         carried = subst (AllByRecursion (IsAskedBy asked shard since)) (sym none) tt;
       })
+
+  requests_at : (asked : List (Ask Q)) (shard revision : ℕ) (ready : ShardState M Q R) (base : Option NamedBase)
+      → AreRequestsAskedOf asked shard ready → AreRequestsAskedOf asked shard (named_at revision base ready)
+  requests_at asked shard revision ready None are = are
+  requests_at asked shard revision ready (Some base) are = record { sent = are.sent; waiting = are.waiting }
+
+  pub requests_named : (asked : List (Ask Q)) (shard revision : ℕ) (ready : ShardState M Q R) (carried : Vec (Item Q))
+      → AreRequestsAskedOf asked shard ready
+      → AreRequestsAskedOf asked shard (named_now revision (carrying ready carried))
+  requests_named asked shard revision ready carried are =
+      requests_at asked shard revision (carrying ready carried) (named_by ready.work)
+      (record { sent = are.sent; waiting = are.waiting })
 
   -- the server goes on from there
   pub knows_made : (log : StoreLog Q R) (me shard revision : ℕ) (old new : ShardState M Q R)
@@ -683,14 +693,6 @@ module _ {M Q R : Type 0} (service : Automaton M Q R) where
             (sym state_is) (subst (AreAccepted old.state me before) items_are ready.accepted);
       }
 
-  all_front : {A : Type 0} (F : A → Type 0) (xs ys : List A) → AllByRecursion F (xs ++ ys) → AllByRecursion F xs
-  all_front F [] ys all = tt
-  all_front F (x ∷ xs) ys all = (all.0, all_front F xs ys all.1)
-
-  all_rest : {A : Type 0} (F : A → Type 0) (xs ys : List A) → AllByRecursion F (xs ++ ys) → AllByRecursion F ys
-  all_rest F [] ys all = all
-  all_rest F (x ∷ xs) ys all = all_rest F xs ys all.1
-
   -- the reads that waited were asked before now
   asked_now : (system : StoreSystem Q R) (shard : ℕ) → ArePast system → (item : Item Q)
       → IsAsked system.asked shard item → IsAskedBy system.asked shard (length system.log) item
@@ -702,25 +704,46 @@ module _ {M Q R : Type 0} (service : Automaton M Q R) where
         was.1.among,
   )
 
+  requests_same : (asked : List (Ask Q)) (shard : ℕ) (old new : ShardState M Q R) → IsUnflushed old new
+      → AreRequestsAskedOf asked shard old → AreRequestsAskedOf asked shard new
+  requests_same asked shard old new same are = record {
+    sent = subst (AllByRecursion (IsAsked asked shard)) (sym same.sent) are.sent;
+    waiting = subst (AllByRecursion (IsAsked asked shard)) (sym same.waiting) are.waiting;
+  }
+
   pub asked_flushed : (limits : ShardLimits) (size : Q → ℕ) (system : StoreSystem Q R) (since shard : ℕ)
       (old new : ShardState M Q R) → ArePast system → IsFlushed limits size old new
       → AreAskedOf system.asked since shard old → AreAskedOf system.asked (length system.log) shard new
   asked_flushed limits size system since shard old new past flush asked = record {
-    sent = subst (AllByRecursion (IsAsked system.asked shard)) (sym flush.sent)
-        (all_front (IsAsked system.asked shard) (take (batch_length limits size old) old.waiting.items)
-        (drop (batch_length limits size old) old.waiting.items)
-        (subst (AllByRecursion (IsAsked system.asked shard))
-        (sym (take-append-drop (batch_length limits size old) old.waiting.items)) asked.waiting));
-    waiting = subst (AllByRecursion (IsAsked system.asked shard)) (sym flush.waiting)
-        (all_rest (IsAsked system.asked shard) (take (batch_length limits size old) old.waiting.items)
-        (drop (batch_length limits size old) old.waiting.items)
-        (subst (AllByRecursion (IsAsked system.asked shard))
-        (sym (take-append-drop (batch_length limits size old) old.waiting.items)) asked.waiting));
     asking = subst (AllByRecursion (IsAsked system.asked shard)) (sym flush.asking) tt;
     carried = subst (AllByRecursion (IsAskedBy system.asked shard (length system.log))) (sym flush.carried)
         (all_map (IsAsked system.asked shard) (IsAskedBy system.asked shard (length system.log))
         (asked_now system shard past) old.asking.items asked.asking);
   }
+
+  -- the requests are the same, and some of those that waited were sent, if any
+  pub requests_flushed : {E : Type 0} (limits : ShardLimits) (size : Q → ℕ) (asked : List (Ask Q)) (shard : ℕ)
+      (old new : ShardState M Q R) (result : Result Bool E)
+      → IfOk result (λ sends. IsTrue sends → IsFlushed limits size old new)
+      → IfOk result (λ sends. sends ≡ false → IsUnflushed old new) → OnErr result (IsUnflushed old new)
+      → AreRequestsAskedOf asked shard old → AreRequestsAskedOf asked shard new
+  requests_flushed limits size asked shard old new (Ok true) sends waits err are =
+      let all = AllByRecursion (IsAsked asked shard) in
+      let count = batch_length limits size old in
+      let waiting = old.waiting.items in
+      let was : all (take count waiting ++ drop count waiting) =
+      subst all (sym (take-append-drop count waiting)) are.waiting in
+      let flush = sends refl in
+      record {
+        sent = subst all (sym flush.sent)
+            (all-front (IsAsked asked shard) (take count waiting) (drop count waiting) was);
+        waiting = subst all (sym flush.waiting)
+            (all-back (IsAsked asked shard) (take count waiting) (drop count waiting) was);
+      }
+  requests_flushed limits size asked shard old new (Ok false) sends waits err are =
+      requests_same asked shard old new (waits refl) are
+  requests_flushed limits size asked shard old new (Err e) sends waits err are =
+      requests_same asked shard old new err are
 
   asked_if : (asked : List (Ask Q)) (shard : ℕ) (waits : Bool) (items : List (Item Q)) (item : Item Q)
       → AllByRecursion (IsAsked asked shard) items → IsAsked asked shard item
@@ -742,16 +765,11 @@ module _ {M Q R : Type 0} (service : Automaton M Q R) where
 
   -- one more read, which was asked, waits
   pub asked_one : {E : Type 0} (asked : List (Ask Q)) (since shard me : ℕ) (limits : ShardLimits)
-      (old new : ShardState M Q R) (item : Item Q) (result : Result (Decision R) E) → new.sent ≡ old.sent
-      → new.waiting ≡ old.waiting
-      → new.carried ≡ old.carried
+      (old new : ShardState M Q R) (item : Item Q) (result : Result (Decision R) E) → new.carried ≡ old.carried
       → OnOk result (new.asking.items ≡ asking_after limits old me item)
       → OnErr result (new.asking.items ≡ old.asking.items) → AreAskedOf asked since shard old
       → IsAsked asked shard item → AreAskedOf asked since shard new
-  asked_one asked since shard me limits old new item result sent waiting carried ok err all one = record {
-    sent = subst (λ (list : Vec (Item Q)). AllByRecursion (IsAsked asked shard) list.items) (sym sent) all.sent;
-    waiting = subst (λ (list : Vec (Item Q)). AllByRecursion (IsAsked asked shard) list.items) (sym waiting)
-        all.waiting;
+  asked_one asked since shard me limits old new item result carried ok err all one = record {
     asking = asking_of asked shard me limits old new item result ok err all.asking one;
     carried = subst (λ (list : Vec (Item Q)). AllByRecursion (IsAskedBy asked shard since) list.items) (sym carried)
         all.carried;
@@ -769,18 +787,14 @@ module _ {M Q R : Type 0} (service : Automaton M Q R) where
       subst (AllByRecursion (IsAsked asked shard)) (sym err) all
 
   -- one more request, which was asked, waits
-  pub asked_request : {E : Type 0} (asked : List (Ask Q)) (since shard me : ℕ) (limits : ShardLimits) (size : Q → ℕ)
+  pub request_taken : {E : Type 0} (asked : List (Ask Q)) (shard me : ℕ) (limits : ShardLimits) (size : Q → ℕ)
       (old new : ShardState M Q R) (item : Item Q) (result : Result (Decision R) E) → new.sent ≡ old.sent
-      → new.carried ≡ old.carried → new.asking ≡ old.asking
       → OnOk result (new.waiting.items ≡ waiting_after limits size old me item)
-      → OnErr result (new.waiting.items ≡ old.waiting.items) → AreAskedOf asked since shard old
-      → IsAsked asked shard item → AreAskedOf asked since shard new
-  asked_request asked since shard me limits size old new item result sent carried asking ok err all one = record {
+      → OnErr result (new.waiting.items ≡ old.waiting.items) → AreRequestsAskedOf asked shard old
+      → IsAsked asked shard item → AreRequestsAskedOf asked shard new
+  request_taken asked shard me limits size old new item result sent ok err all one = record {
     sent = subst (λ (list : Vec (Item Q)). AllByRecursion (IsAsked asked shard) list.items) (sym sent) all.sent;
     waiting = waiting_of asked shard me limits size old new item result ok err all.waiting one;
-    asking = subst (λ (list : Vec (Item Q)). AllByRecursion (IsAsked asked shard) list.items) (sym asking) all.asking;
-    carried = subst (λ (list : Vec (Item Q)). AllByRecursion (IsAskedBy asked shard since) list.items) (sym carried)
-        all.carried;
   }
 
   pub known_of : (log : StoreLog Q R) (me shard : ℕ) (found : Option (ShardState M Q R)) (ready : ShardState M Q R)

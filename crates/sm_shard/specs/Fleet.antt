@@ -10,7 +10,7 @@ use Rattle.sm_shard.specs.declared.replica.ReplayFault.{ReplayFault}
 use Rattle.sm_shard.specs.declared.shard_server.ShardServer.{ShardServer}
 use Rattle.sm_shard.specs.declared.steps.ShardInput.{ShardInput}
 use Rattle.sm_shard.specs.declared.steps.ShardOutput.{ShardOutput}
-use Rattle.sm_shard.specs.Steps.{IsInput, IsStepOf, since_after, step_claims, step_sends}
+use Rattle.sm_shard.specs.Steps.{IsInput, IsRequestAsked, IsStepOf, KeepsAsked, since_after, step_claims, step_sends}
 
 -- a server, and the length of the log when it last sent
 pub record Running (M Q R : Type 0) : Type 0 where
@@ -99,9 +99,15 @@ abbrev pub AsksForEvent : {M Q R : Type 0} → Fleet M Q R → Event Q (Part R) 
 AsksForEvent fleet (IsSent txn) = AsksFor fleet.system.asked txn
 AsksForEvent fleet _ = Unit {0}
 
--- so does everybody but the servers, in all these acts
-abbrev pub OthersAskFor : {M Q R : Type 0} → List (Act M Q R) → Type 0
-OthersAskFor [] = Unit {0}
-OthersAskFor (Otherwise event ∷ earlier) = AsksForEvent (fleet_after earlier) event × OthersAskFor earlier
-OthersAskFor (Starts server ∷ earlier) = OthersAskFor earlier
-OthersAskFor (Steps which old input result new ∷ earlier) = OthersAskFor earlier
+-- nobody makes a request by this act that wasn't asked: a server is given only one that was, and keeps to those, as its
+-- contract says
+abbrev pub AsksForAct : {M Q R : Type 0} → Fleet M Q R → Act M Q R → Type 0
+AsksForAct fleet (Starts server) = Unit {0}
+AsksForAct fleet (Steps which old input result new) =
+    IsRequestAsked fleet.system.asked old.server.shard input × KeepsAsked old.server input result new
+AsksForAct fleet (Otherwise event) = AsksForEvent fleet event
+
+-- nor by any of these acts
+abbrev pub AllAskFor : {M Q R : Type 0} → List (Act M Q R) → Type 0
+AllAskFor [] = Unit {0}
+AllAskFor (act ∷ earlier) = AsksForAct (fleet_after earlier) act × AllAskFor earlier

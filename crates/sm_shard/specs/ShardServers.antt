@@ -90,18 +90,26 @@ IsAskedBy {Q = Q} asked shard since item =
     (ask : Ask Q) × WasAsked asked shard item.client item.number ask × (ask.request ≡ item.request)
     × (ask.since ≤ since)
 
--- what was sent or waits was asked, and so were the reads that wait; the reads of the transaction that was sent at this
--- length of the log were asked before
+-- the reads that wait were asked, and those of the transaction that was sent at this length of the log were asked
+-- before
 pub record AreAskedOf {M Q R : Type 0} (asked : List (Ask Q)) (since shard : ℕ)
     (ready : ShardState M Q R) : Type 0 where
-  pub sent : AllByRecursion (IsAsked asked shard) ready.sent.items
-  pub waiting : AllByRecursion (IsAsked asked shard) ready.waiting.items
   pub asking : AllByRecursion (IsAsked asked shard) ready.asking.items
   pub carried : AllByRecursion (IsAskedBy asked shard since) ready.carried.items
 
 -- the server's reads were asked in time
 abbrev pub AreAsked : {M Q R : Type 0} → List (Ask Q) → ℕ → ShardServer M Q R → Type 0
 AreAsked asked since server = IfSome server.ready (λ ready. AreAskedOf asked since server.shard ready)
+
+-- each request that was sent was asked, and so was each that waits
+pub record AreRequestsAskedOf {M Q R : Type 0} (asked : List (Ask Q)) (shard : ℕ)
+    (ready : ShardState M Q R) : Type 0 where
+  pub sent : AllByRecursion (IsAsked asked shard) ready.sent.items
+  pub waiting : AllByRecursion (IsAsked asked shard) ready.waiting.items
+
+-- the requests that the server has sent, or keeps waiting, were asked
+abbrev pub AreRequestsAsked : {M Q R : Type 0} → List (Ask Q) → ShardServer M Q R → Type 0
+AreRequestsAsked asked server = IfSome server.ready (λ ready. AreRequestsAskedOf asked server.shard ready)
 
 -- what a decision says of a request is so, where the server knows these requests
 abbrev pub IsDecided : {M Q R : Type 0} → Automaton M Q R → Record → ℕ → List (Item Q) → ℕ → ℕ

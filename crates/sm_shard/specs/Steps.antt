@@ -9,7 +9,8 @@ use Rattle.sm_store.specs.declared.item.Item.{Item}
 use Rattle.sm_store.specs.Clients.{Automaton}
 use Rattle.sm_store.specs.Store.{head_key, head_of, record_key, stored_record}
 use Rattle.sm_store.specs.Deeds.{AreRight, Charter, Clearing, MaySend, WasFound, transaction_of}
-use Rattle.sm_store.specs.System.{Claim, MayClaim}
+use Rattle.sm_store.specs.Linear.{AsksFor}
+use Rattle.sm_store.specs.System.{Ask, Claim, MayClaim}
 use Rattle.sm_store.specs.Whole.{AreBatches, AreParts}
 use Rattle.sm_shard.specs.declared.replica.ReplayFault.{ReplayFault}
 use Rattle.sm_shard.specs.declared.shard_server.ShardServer.{ShardServer}
@@ -26,7 +27,7 @@ use Rattle.sm_shard.specs.declared.steps.ShardOutput.TheVariants.{Nothing, Sends
 use Rattle.sm_shard.specs.declared.steps.ShardOutput.TheVariants.{Clears}
 use Rattle.sm_shard.specs.Decisions.{server_begins, server_behind, server_decision, server_read_decision, server_sends}
 use Rattle.sm_shard.specs.Replicas.{read_of, replies_of}
-use Rattle.sm_shard.specs.ShardServers.{AreAsked, AreWritten, DidHold, IsAsked, IsTrueOf, StoreLog}
+use Rattle.sm_shard.specs.ShardServers.{AreAsked, AreRequestsAsked, AreWritten, DidHold, IsAsked, IsTrueOf, StoreLog}
 use Rattle.sm_shard.specs.ShardServers.{StoreSystem}
 use Rattle.sm_shard.specs.ShardServers.{WereMade, basing_by, claimed_all, claimed_by, claimed_reads, sent_transaction}
 
@@ -85,7 +86,7 @@ IsInput service system since server (Read state stood head logged parts batches)
     × IsLogRead system.log server.shard head logged parts.now (map (λ batch. batch.items) batches.now)
 IsInput service system since server (RecordRead state stood) =
     WasFound (stored_record server.shard) (record_key server.shard) system.log state stood
-IsInput service system since server (Request item) = IsAsked system.asked server.shard item
+IsInput service system since server (Request item) = Unit {0}
 IsInput service system since server (Question item) = IsAsked system.asked server.shard item
 IsInput service system since server Flush = Unit {0}
 IsInput service system since server (Made revision) =
@@ -118,6 +119,24 @@ IsStepOf {Q = Q} {R = R} service old input result new =
     → charter.parts ≡ base_of service → AreRight charter system.log → ArePast system
     → IsTrueOf service system.log old → AreAsked system.asked since old → IsInput service system since old input
     → IsSafe service charter system since old.shard input result new
+
+-- if the input is a request to be made, it was asked
+abbrev pub IsRequestAsked : {Q R : Type 0} → List (Ask Q) → ℕ → ShardInput Q R → Type 0
+IsRequestAsked asked shard (Request item) = IsAsked asked shard item
+IsRequestAsked asked shard _ = Unit {0}
+
+-- after the step the requests of the server were asked, and so were those of each transaction that it sends
+pub record AsksForStep {M Q R : Type 0} (asked : List (Ask Q)) (result : Result (ShardOutput Q R) ReplayFault)
+    (new : ShardServer M Q R) : Type 0 where
+  pub requests : AreRequestsAsked asked new
+  pub sends : AllByRecursion (AsksFor asked) (step_sends result new)
+
+-- whatever was asked, a server that has only such requests, and is given only such, keeps to them
+abbrev pub KeepsAsked : {M Q R : Type 0} → ShardServer M Q R → ShardInput Q R
+    → Result (ShardOutput Q R) ReplayFault → ShardServer M Q R → Type 0
+KeepsAsked {Q = Q} old input result new =
+    (asked : List (Ask Q)) → AreRequestsAsked asked old → IsRequestAsked asked old.shard input
+    → AsksForStep asked result new
 
 -- the requests are to be decided again: those that were sent or wait, and those that only read
 abbrev pub AreUndecided : {M Q R : Type 0} → ShardState M Q R → Undecided Q → Type 0

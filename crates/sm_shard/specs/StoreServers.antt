@@ -5,7 +5,7 @@ use Rattle.sm_shard.specs.declared.replica.ReplayFault.{ReplayFault}
 use Rattle.sm_shard.specs.declared.shard_server.ShardServer.{ShardServer}
 use Rattle.sm_shard.specs.declared.steps.ShardInput.{ShardInput}
 use Rattle.sm_shard.specs.declared.steps.ShardOutput.{ShardOutput}
-use Rattle.sm_shard.specs.Steps.{IsOutputOf, IsStepOf}
+use Rattle.sm_shard.specs.Steps.{IsOutputOf, IsStepOf, KeepsAsked}
 
 -- it is this server's for this shard, of so many
 pub record IsAtShard {M Q R : Type 0} (me count shard : ℕ) (server : ShardServer M Q R) : Type 0 where
@@ -35,6 +35,7 @@ pub record IsStoreStep {M Q R : Type 0} (service : Automaton M Q R) (size : Q �
   pub is : news ≡ slice_set olds shard new
   pub exact : IfOk result (IsOutputOf service size old input)
   pub call : IsStepOf service old input result new
+  pub asked_for : KeepsAsked old input result new
   pub me : new.me ≡ old.me
   pub shard_is : new.shard ≡ old.shard
   pub count : new.count ≡ old.count

@@ -6,7 +6,7 @@ ghost use Rattle.sm_store.specs.Deeds.{Charter};
 ghost use Rattle.sm_store.specs.Linear.{IsLinear};
 ghost use Rattle.sm_store.specs.System.{IsLawful};
 ghost use Rattle.sm_shard.specs.Bases.{Part, base_of};
-ghost use Rattle.sm_shard.specs.Fleet.{Act, MightAct, OthersAskFor, events_of, fleet_after};
+ghost use Rattle.sm_shard.specs.Fleet.{Act, AllAskFor, MightAct, events_of, fleet_after};
 
 use crate::base_part::BasePart;
 use crate::store_machine::StoreMachine;
@@ -28,7 +28,7 @@ pub fn fleets_are_lawful<Q, R, M>()
 /// late, twice or never, and processes stop, forget and start.
 pub fn fleets_are_linear<Q: Drop, R: Copy + Drop, M: StoreMachine<Q, R>>()
     ensures { (charter : Charter Q (Part R)) (acts : List (Act M Q R)) → charter.parts ≡ base_of M.service
-        → MightAct M.service charter acts → OthersAskFor acts → IsLinear M.service (events_of acts) }
+        → MightAct M.service charter acts → AllAskFor acts → IsLinear M.service (events_of acts) }
 {
     runs_are_lawful::<Q, BasePart<R>, R, M>();
     runs_are_linear::<Q, BasePart<R>, R, M>();

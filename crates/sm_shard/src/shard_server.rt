@@ -84,7 +84,7 @@ impl<Q: Drop, R: Copy + Drop, M: StoreMachine<Q, R>> ShardServer<M, Q, R> {
     ghost use Rattle.sm_shard.specs.Decisions.{clients_kept, server_sends};
     ghost use Rattle.sm_shard.specs.declared.shard_state.Decision.TheVariants.{TooManyClients};
     ghost use Rattle.sm_shard.specs.Replicas.{read_of, replies_of};
-    ghost use Rattle.sm_shard.specs.ShardServers.{AreAsked, DidHold, IsAsked, IsTrueOf, StoreLog};
+    ghost use Rattle.sm_shard.specs.ShardServers.{AreAsked, AreRequestsAsked, DidHold, IsAsked, IsTrueOf, StoreLog};
     ghost use Rattle.sm_shard.specs.ShardServers.{StoreSystem};
     ghost use Rattle.sm_shard.specs.ShardServers.{WereMade, claimed_all, claimed_by, claimed_reads};
     ghost use Rattle.sm_shard.specs.ShardServers.{AreWritten, basing_by, parts_transactions, sending_transaction};
@@ -103,6 +103,7 @@ impl<Q: Drop, R: Copy + Drop, M: StoreMachine<Q, R>> ShardServer<M, Q, R> {
         ensures exact { IsSome result ↔ shard < count }
         ensures known { IfSome result (λ server. (log : StoreLog Q R) → IsTrueOf M.service log server) }
         ensures asked { IfSome result (λ server. (asked : List (Ask Q)) (since : ℕ) → AreAsked asked since server) }
+        ensures asked_for { IfSome result (λ server. (asked : List (Ask Q)) → AreRequestsAsked asked server) }
     {
         let _named = me.number();
         if u64::from(shard.number()) < count {
@@ -140,6 +141,7 @@ impl<Q: Drop, R: Copy + Drop, M: StoreMachine<Q, R>> ShardServer<M, Q, R> {
             → IsLogRead log self.old.shard head logged parts.now (map (λ batch. batch.items) batches.now)
             → IsTrueOf M.service log self.new }
         ensures asked { (asked : List (Ask Q)) (since : ℕ) → AreAsked asked since self.new }
+        ensures asked_for { (asked : List (Ask Q)) → AreRequestsAsked asked self.new }
     {
         self.ready = None;
         let replica = replay::<Q, R, M>(alloc, &head, parts, batches)?;
@@ -167,7 +169,9 @@ impl<Q: Drop, R: Copy + Drop, M: StoreMachine<Q, R>> ShardServer<M, Q, R> {
         ensures known { (log : StoreLog Q R) → IsTrueOf M.service log self.old
             → IsTrueOf M.service log self.new }
         ensures asked { (asked : List (Ask Q)) (since : ℕ) → AreAsked asked since self.old
-            → IsAsked asked self.old.shard item → AreAsked asked since self.new }
+            → AreAsked asked since self.new }
+        ensures asked_for { (asked : List (Ask Q)) → AreRequestsAsked asked self.old
+            → IsAsked asked self.old.shard item → AreRequestsAsked asked self.new }
         ensures decision { IfOk result (λ decision. decision
             ≡ server_decision self.old.limits M.size self.old.ready self.old.me item) }
         // What forgets enough isn't refused so.
@@ -195,6 +199,8 @@ impl<Q: Drop, R: Copy + Drop, M: StoreMachine<Q, R>> ShardServer<M, Q, R> {
             → IsTrueOf M.service log self.new }
         ensures asked { (asked : List (Ask Q)) (since : ℕ) → AreAsked asked since self.old
             → IsAsked asked self.old.shard item → AreAsked asked since self.new }
+        ensures asked_for { (asked : List (Ask Q)) → AreRequestsAsked asked self.old
+            → AreRequestsAsked asked self.new }
         ensures decision { IfOk result (λ decision. decision
             ≡ server_read_decision self.old.limits self.old.ready self.old.me item) }
     {
@@ -221,6 +227,8 @@ impl<Q: Drop, R: Copy + Drop, M: StoreMachine<Q, R>> ShardServer<M, Q, R> {
             → AreAsked asked since self.old → AreAsked asked since self.new) }
         ensures err { OnErr result ((asked : List (Ask Q)) (since : ℕ) → AreAsked asked since self.old
             → AreAsked asked since self.new) }
+        ensures asked_for { (asked : List (Ask Q)) → AreRequestsAsked asked self.old
+            → AreRequestsAsked asked self.new }
     {
         let limits = self.limits;
         match &mut self.ready {
@@ -263,6 +271,8 @@ impl<Q: Drop, R: Copy + Drop, M: StoreMachine<Q, R>> ShardServer<M, Q, R> {
             → IsTrueOf M.service log self.new }
         ensures asked { (asked : List (Ask Q)) (since : ℕ) → AreAsked asked since self.old
             → AreAsked asked since self.new }
+        ensures asked_for { (asked : List (Ask Q)) → AreRequestsAsked asked self.old
+            → AreRequestsAsked asked self.new }
         ensures made { IfOk result (λ answers. IfSome self.old.ready (λ ready. answers.made.items
             ≡ replies_of M.service ready.replica.machine ready.sent.items)) }
         ensures answered { IfOk result (λ answers. IfSome self.old.ready (λ ready. answers.read.items
@@ -315,6 +325,7 @@ impl<Q: Drop, R: Copy + Drop, M: StoreMachine<Q, R>> ShardServer<M, Q, R> {
             → WasFound (stored_record self.old.shard) (record_key self.old.shard) log state stood
             → IsTrueOf M.service log self.new }
         ensures asked { (asked : List (Ask Q)) (since : ℕ) → AreAsked asked since self.new }
+        ensures asked_for { (asked : List (Ask Q)) → AreRequestsAsked asked self.new }
     {
         let Some(mut ready) = self.ready.take() else {
             return forgotten::<Q, R, M>(alloc, None);
@@ -345,6 +356,8 @@ impl<Q: Drop, R: Copy + Drop, M: StoreMachine<Q, R>> ShardServer<M, Q, R> {
         ensures known { (log : StoreLog Q R) → IsTrueOf M.service log self.old → IsTrueOf M.service log self.new }
         ensures asked { (asked : List (Ask Q)) (since : ℕ) → AreAsked asked since self.old
             → AreAsked asked since self.new }
+        ensures asked_for { (asked : List (Ask Q)) → AreRequestsAsked asked self.old
+            → AreRequestsAsked asked self.new }
         ensures exact { IfOk result (λ begun. begun ≡ server_begins self.old.ready) }
     {
         match &mut self.ready {
@@ -385,6 +398,8 @@ impl<Q: Drop, R: Copy + Drop, M: StoreMachine<Q, R>> ShardServer<M, Q, R> {
             → IsTrueOf M.service log self.new }
         ensures asked { (asked : List (Ask Q)) (since : ℕ) → AreAsked asked since self.old
             → AreAsked asked since self.new }
+        ensures asked_for { (asked : List (Ask Q)) → AreRequestsAsked asked self.old
+            → AreRequestsAsked asked self.new }
     {
         if let Some(ready) = &mut self.ready {
             write_base(ready);
@@ -428,6 +443,7 @@ impl<Q: Drop, R: Copy + Drop, M: StoreMachine<Q, R>> ShardServer<M, Q, R> {
             ≡ ready.carried.items ++ ready.asking.items) }
         ensures known { (log : StoreLog Q R) → IsTrueOf M.service log self.new }
         ensures asked { (asked : List (Ask Q)) (since : ℕ) → AreAsked asked since self.new }
+        ensures asked_for { (asked : List (Ask Q)) → AreRequestsAsked asked self.new }
     {
         let ready = self.ready.take();
         forgotten(alloc, ready)

@@ -1,5 +1,5 @@
 ghost use Rattle.std.specs.Prelude.{◌≡◌, IfOk};
-ghost use Rattle.sm_shard.specs.Steps.{IsOutputOf, IsStepOf};
+ghost use Rattle.sm_shard.specs.Steps.{IsOutputOf, IsStepOf, KeepsAsked};
 
 use crate::base_part::BasePart;
 use crate::replica::ReplayFault;
@@ -79,6 +79,7 @@ pub fn step<Q: Drop, R: Copy + Drop, M: StoreMachine<Q, R>>(
     ensures limits { server.new.limits ≡ server.old.limits }
     ensures exact { IfOk result (IsOutputOf M.service M.size server.old input.entry) }
     ensures call { IsStepOf M.service server.old input.entry result server.new }
+    ensures asked_for { KeepsAsked server.old input.entry result server.new }
 {
     match input {
         ShardInput::Read {

@@ -8,6 +8,7 @@ use Rattle.sm_shard.specs.declared.steps.ShardOutput.TheVariants.{Nothing, Answe
 use Rattle.sm_shard.specs.Steps.{IsInput, IsOutputOf, step_claims}
 use Rattle.sm_shard.specs.declared.shard_state.ShardState.{ShardState}
 use Rattle.sm_shard.specs.ShardServers.{DidHold, WereMade, claimed_all, claimed_reads, sent_transaction}
+use Rattle.sm_shard.proofs.Asks.{bases_ask, transactions_ask}
 use Rattle.sm_shard.proofs.ShardServers.{all-append, both_of, both_so, parts_may, transactions_may}
 use Rattle.sm_shard.proofs.steps.step.Goals as goal
 
@@ -165,3 +166,21 @@ returns-in_ok-on_made-in-Made-clause-exact g c =
           ≡ map (read_of g.M.StoreMachine.service ready.replica.machine) ready.carried.items)
           done.made done.answered,
     )
+
+pub returns-then-branch-clause-asked_for : goal.returns-then-branch-clause-asked_for
+returns-then-branch-clause-asked_for g c = λ asked requests came.
+    let now = c.in_ok-flush-in-Flush.ensures.asked_for asked requests in
+    let new = c.flush.new.self in
+    record { requests = now; sends = transactions_ask asked new.me new.shard new.ready now }
+
+pub returns-then-branch-2-clause-asked_for : goal.returns-then-branch-2-clause-asked_for
+returns-then-branch-2-clause-asked_for g c = λ asked requests came.
+    let new = c.begin_base.new.self in
+    record {
+      requests = c.in_ok-begin_base-in-Base.ensures.asked_for asked requests;
+      sends = bases_ask asked new.shard new.ready;
+    }
+
+pub returns-then-is_behind-clause-asked_for : goal.returns-then-is_behind-clause-asked_for
+returns-then-is_behind-clause-asked_for g c = λ asked requests came.
+    record { requests = requests; sends = ((λ k. tt), tt) }

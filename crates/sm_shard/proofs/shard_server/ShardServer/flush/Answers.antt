@@ -1,9 +1,9 @@
 use Rattle.std.specs.Prelude.{IsTrue}
 use Rattle.std.proofs.Common.{ℕ, Bool, length}
 use Rattle.sm_shard.specs.declared.shard_state.ShardState.{ShardState}
-use Rattle.sm_shard.specs.ShardServers.{AreAsked, AreAskedOf, IsFlushed, StoreSystem}
+use Rattle.sm_shard.specs.ShardServers.{AreAsked, AreAskedOf, AreRequestsAskedOf, IsFlushed, StoreSystem}
 use Rattle.sm_shard.specs.Steps.{ArePast}
-use Rattle.sm_shard.proofs.ShardServers.{asked_flushed, known_of, knows_same, ok_map, some_of}
+use Rattle.sm_shard.proofs.ShardServers.{asked_flushed, known_of, knows_same, ok_map, requests_flushed, some_of}
 use Rattle.sm_shard.proofs.shard_server.ShardServer.flush.Goals as goal
 
 pub returns-in-Some-clause-known : goal.returns-in-Some-clause-known
@@ -34,3 +34,13 @@ returns-in-Some-clause-sends g c =
     (some_of (λ (r : ShardState g.row.M.Denot g.row.Q.Denot g.row.R.Denot). AreAskedOf system.asked since shard r)
     c.args.self.now.ready ready c.in-Some.is asked))
     c.flush.ensures.sends
+
+pub returns-in-Some-clause-asked_for : goal.returns-in-Some-clause-asked_for
+returns-in-Some-clause-asked_for g c = λ asked all.
+    let shard = c.args.self.now.shard in
+    let ready = c.in-Some.ready in
+    let done = c.flush.ensures in
+    requests_flushed g.M.StoreMachine.service c.args.self.now.limits g.M.StoreMachine.size asked shard ready
+    c.flush.new.ready c.flush.result done.sends done.waits done.err
+    (some_of (λ (r : ShardState g.row.M.Denot g.row.Q.Denot g.row.R.Denot). AreRequestsAskedOf asked shard r)
+    c.args.self.now.ready ready c.in-Some.is all)

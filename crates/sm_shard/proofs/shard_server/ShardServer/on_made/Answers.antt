@@ -1,8 +1,8 @@
 use Rattle.std.proofs.Common.{rules, ◌≡◌, ◌≢◌, ◌+◌, [], Some, sym, subst, ◌∙◌}
 use Rattle.sm_shard.specs.declared.shard_state.ShardState.{ShardState}
-use Rattle.sm_shard.specs.ShardServers.{AreAskedOf, HasRead, WereMade}
+use Rattle.sm_shard.specs.ShardServers.{AreAskedOf, AreRequestsAskedOf, HasRead, WereMade}
 use Rattle.sm_shard.proofs.ShardServers.{asked_named, head_by_fields, knows_made, knows_settled, none_by_length}
-use Rattle.sm_shard.proofs.ShardServers.{none_made}
+use Rattle.sm_shard.proofs.ShardServers.{none_made, requests_named}
 use Rattle.sm_shard.proofs.ShardServers.{reads_told, some_by_length, some_of, told_made}
 use Rattle.sm_shard.proofs.shard_server.ShardServer.on_made.Goals as goal
 
@@ -87,3 +87,13 @@ returns-then-is_empty-clause-asked g c = λ asked since was.
     c.args.self.now.ready old is was in
     subst (AreAskedOf asked since shard) (sym c.name_base.ensures)
     (asked_named service asked since shard c.args.revision old _ (search rules) are)
+
+pub returns-then-is_empty-clause-asked_for : goal.returns-then-is_empty-clause-asked_for
+returns-then-is_empty-clause-asked_for g c = λ asked was.
+    let shard = c.args.self.now.shard in
+    let old = c.in-Some.ready in
+    let is : c.args.self.now.ready ≡ Some old = sym c.take.ensures.value ∙ c.in-Some.is in
+    let are = some_of (λ (r : ShardState g.row.M.Denot g.row.Q.Denot g.row.R.Denot). AreRequestsAskedOf asked shard r)
+    c.args.self.now.ready old is was in
+    subst (AreRequestsAskedOf asked shard) (sym c.name_base.ensures)
+    (requests_named g.M.StoreMachine.service asked shard c.args.revision old _ are)

@@ -8,9 +8,10 @@ use Rattle.sm_shard.specs.Decisions.{decision_of}
 use Rattle.sm_shard.specs.declared.shard_state.Decision.{Decision}
 use Rattle.sm_shard.specs.declared.shard_state.Decision.TheVariants.{TooManyClients}
 use Rattle.sm_shard.specs.declared.shard_state.ShardState.{ShardState}
-use Rattle.sm_shard.specs.ShardServers.{AreAskedOf, IsShardState, IsDecided, IsTrueOf, HasRead, StoreSystem, claimed_by}
+use Rattle.sm_shard.specs.ShardServers.{AreRequestsAskedOf, HasRead, IsDecided, IsShardState, IsTrueOf}
+use Rattle.sm_shard.specs.ShardServers.{StoreSystem, claimed_by}
 use Rattle.sm_shard.proofs.Crowds.{crowded_if_full}
-use Rattle.sm_shard.proofs.ShardServers.{asked_request, ok_map, some_of, decided_so, known_of, knows_same, same_base}
+use Rattle.sm_shard.proofs.ShardServers.{ok_map, some_of, decided_so, known_of, knows_same, request_taken, same_base}
 use Rattle.sm_shard.proofs.shard_server.ShardServer.on_request.Goals as goal
 
 pub returns-in-Some-clause-told : goal.returns-in-Some-clause-told
@@ -61,12 +62,11 @@ returns-in-Some-clause-crowded g c =
     (sym c.in-Some.is) (crowded_if_full self.limits size c.in-Some.ready self.me item (sym is ∙ crowded)))
     c.take.ensures.decision
 
-pub returns-in-Some-clause-asked : goal.returns-in-Some-clause-asked
-returns-in-Some-clause-asked g c = λ asked since all one.
+pub returns-in-Some-clause-asked_for : goal.returns-in-Some-clause-asked_for
+returns-in-Some-clause-asked_for g c = λ asked all one.
     let shard = c.args.self.now.shard in
     let done = c.take.ensures in
-    asked_request g.M.StoreMachine.service asked since shard c.args.self.now.me c.args.self.now.limits
-    g.M.StoreMachine.size c.in-Some.ready c.take.new.ready c.args.item c.take.result done.sent done.carried done.asking
-    done.waiting done.err
+    request_taken g.M.StoreMachine.service asked shard c.args.self.now.me c.args.self.now.limits
+    g.M.StoreMachine.size c.in-Some.ready c.take.new.ready c.args.item c.take.result done.sent done.waiting done.err
     (subst (λ (o : Option (ShardState g.row.M.Denot g.row.Q.Denot g.row.R.Denot)). IfSome o (λ ready.
-    AreAskedOf asked since shard ready)) c.in-Some.is all) one
+    AreRequestsAskedOf asked shard ready)) c.in-Some.is all) one
