@@ -21,6 +21,7 @@ returns-in-Ok c =
               input_is = steps.input_is ∙ ap ClearInput c.passing_key-key.ensures;
               exact = steps.exact;
               call = steps.call;
+              asked_for = steps.asked_for;
               me = steps.me;
               shard = steps.shard;
               count = steps.count;

@@ -19,6 +19,7 @@ returns-in-Ok-take c =
               input_is = (_, (refl, refl, c.in-Some.ensures, refl, refl, c.in-Ok.ensures.items), steps.input_is);
               exact = steps.exact;
               call = steps.call;
+              asked_for = steps.asked_for;
               me = steps.me;
               shard = steps.shard;
               count = steps.count;

@@ -26,6 +26,7 @@ returns c =
           );
           exact = step.exact;
           call = step.call;
+          asked_for = step.asked_for;
           me = step.me;
           shard = step.shard;
           count = step.count;

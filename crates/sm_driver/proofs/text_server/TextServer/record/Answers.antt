@@ -14,6 +14,7 @@ returns c =
           input_is = ((c.in-Ok.stored.process, c.in-Ok.ensures.found.1), refl);
           exact = step.exact;
           call = step.call;
+          asked_for = step.asked_for;
           me = step.me;
           shard = step.shard;
           count = step.count;

@@ -12,6 +12,7 @@ returns-in-Decided c =
           input_is = c.coming-input.ensures;
           exact = step.exact;
           call = step.call;
+          asked_for = step.asked_for;
           me = step.me;
           shard = step.shard;
           count = step.count;
