@@ -76,7 +76,7 @@ module _ (rows : SettingsRows) (caps : RestartCaps)
         → IsRight (charter_of rows caps ceiling parts) log deed → Keeps (placement_of log)
         → Keeps (placement_of (transaction_of deed ∷ log))
     deed_step log (Electing process) right keeps = keeps
-    deed_step log (Expiring key) right keeps = keeps
+    deed_step log (Expiring keys) right keeps = keeps
     deed_step log (Changing process k change next elected placed) right keeps =
         let none = is_none_so _ right.allowed in
         step (placement_of log) (placement_of (transaction_of {Q = Q} {P = P}
@@ -96,7 +96,7 @@ module _ (rows : SettingsRows) (caps : RestartCaps)
     deed_step log (Executing shard server items head stood logged) right keeps = keeps
     deed_step log (Basing shard number place part) right keeps = keeps
     deed_step log (Naming shard head number count logged) right keeps = keeps
-    deed_step log (Clearing key) right keeps = keeps
+    deed_step log (Clearing keys) right keeps = keeps
     deed_step log (Following server revision) right keeps = keeps
     deed_step log (Checking compares) right keeps = keeps
     deed_step log Foreign right keeps = keeps

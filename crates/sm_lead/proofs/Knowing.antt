@@ -25,9 +25,9 @@ use Rattle.sm_desk.specs.lemmas.Changes.{let_through}
 use Rattle.sm_store.specs.declared.compare.Compare.{Compare}
 use Rattle.sm_store.specs.declared.item.Item.{Item}
 use Rattle.sm_store.specs.Store.{Placement, Transaction, all_hold, leader_key, placement_key, placement_of, record_key}
-use Rattle.sm_store.specs.Store.{revision_of, stored_record, stored_state}
+use Rattle.sm_store.specs.Store.{IsRising, made_at, revision_of, stored_record, stored_state}
 use Rattle.sm_store.specs.Deeds.{Changing, Charter, Deed, HasLed, IsChanged, IsHonest, MaySend, Restarting}
-use Rattle.sm_store.specs.Deeds.{WasFound, absence_compares, at, transaction_of}
+use Rattle.sm_store.specs.Deeds.{WasFound, absence_compares, at, done_at, transaction_of}
 use Rattle.sm_store.specs.lemmas.Heart.{first_held, stood_among}
 use Rattle.sm_store.specs.lemmas.Views.{IsOfDeed, placement_view}
 use Rattle.sm_lead.specs.declared.command_write.CommandWrite.TheVariants.{State as WritesState}
@@ -175,15 +175,21 @@ module _ {Q P : Type 0} where
       → AllByRecursion IsOfDeed log
   deeds_of charter [] honest = tt
   deeds_of charter (txn ∷ earlier) honest =
-      ((honest.1.deed, honest.1.is), deeds_of charter earlier honest.2)
+      let one = honest.0 in
+      ((one.may.deed, one.is ∙ ap (made_at txn.revision) one.may.is), deeds_of charter earlier honest.1)
+
+  rising_of : (charter : Charter Q P) (log : List (Transaction Q P)) → IsHonest charter log → IsRising log
+  rising_of charter [] honest = tt
+  rising_of charter (txn ∷ earlier) honest = (honest.0.above, rising_of charter earlier honest.1)
 
   -- the records and states that were read stood when the command was made
-  stood_then : (log : List (Transaction Q P)) (control : StoreControl) → AllByRecursion IsOfDeed log
+  stood_then : (log : List (Transaction Q P)) (control : StoreControl) → IsRising log → AllByRecursion IsOfDeed log
       → (knows : KnowsStore log control) → (later past : List (Transaction Q P)) (txn : Transaction Q P)
       → log ≡ later ++ txn ∷ past
       → revision_of placement_key past ≡ control.placed → placement_of past ≡ knows.read
-  stood_then log control deeds knows later past txn is now =
-      stood_among IsOfDeed placement_of placement_key placement_view log knows.read control.placed deeds (inl refl)
+  stood_then log control rising deeds knows later past txn is now =
+      stood_among IsOfDeed placement_of placement_key placement_view log knows.read control.placed rising deeds
+      (inl refl)
       knows.placement_was (later ++ txn ∷ []) past (is ∙ regroup later txn past) now
     where
       regroup : (xs : List (Transaction Q P)) (x : Transaction Q P) (ys : List (Transaction Q P))
@@ -200,32 +206,32 @@ module _ {Q P : Type 0} where
 
   entered_known : (log : List (Transaction Q P)) (control new : StoreControl) (command : Command) (a : ℕ)
       (state : ServerState) (revision : ℕ)
-      → AllByRecursion IsOfDeed log → AreSound control.desk.books → KnowsStore log control
+      → IsRising log → AllByRecursion IsOfDeed log → AreSound control.desk.books → KnowsStore log control
       → IsKnown control.desk.books.servers a
       → CommandWasMade log
       (transaction_of (Restarting control.lead.process a state control.lead.elected control.placed))
       revision
       → new.desk.books ≡ with_state control.desk.books a state → new.records.items ≡ control.records.items
       → new.lead ≡ control.lead → new.placed ≡ revision → KnowsStore log new
-  entered_known log control new command a state revision deeds sound knows known made books reads lead placed =
+  entered_known log control new command a state revision rising deeds sound knows known made books reads lead placed =
       let past = made.past in
       let deed : Deed Q P = Restarting control.lead.process a state control.lead.elected control.placed in
       let rest = absence_compares a state in
       let now = placed_held past control.lead.elected control.placed rest made.held in
-      let was = stood_then log control deeds knows made.later past (transaction_of deed) made.is now in
+      let was = stood_then log control rising deeds knows made.later past (done_at revision deed) made.is now in
       let before : Agrees control.desk.books (placement_of past) = subst (Agrees control.desk.books) (sym was)
       knows.agrees in
       record {
         led = subst (λ (l : Leadership). HasLed log l.process l.elected) (sym lead) knows.led;
-        read = placement_of (transaction_of deed ∷ past);
+        read = placement_of (done_at revision deed ∷ past);
         placement_was = record {
           later = made.later;
-          past = transaction_of deed ∷ past;
+          past = done_at revision deed ∷ past;
           is = made.is;
-          at = sym made.at ∙ sym placed;
+          at = sym placed;
           was = refl;
         };
-        agrees = subst (λ (b : BooksView). Agrees b (placement_of (transaction_of deed ∷ past))) (sym books)
+        agrees = subst (λ (b : BooksView). Agrees b (placement_of (done_at revision deed ∷ past))) (sym books)
             (agrees_entered control.desk.books past control.lead.process a state control.lead.elected control.placed
             sound.states known before);
         records = λ k below.
@@ -240,10 +246,11 @@ module _ {Q P : Type 0} where
       }
 
   changed_known : (log : List (Transaction Q P)) (control new : StoreControl) (k : ℕ) (change : AnyChange)
-      (revision : ℕ) → AllByRecursion IsOfDeed log → KnowsStore log control → k < length control.desk.books.shards
+      (revision : ℕ) → IsRising log → AllByRecursion IsOfDeed log → KnowsStore log control
+      → k < length control.desk.books.shards
       → CommandWasMade log (command_transaction (sending_of control (write_of control (Change k change)))) revision
       → IsAfter control (Change k change) (write_of control (Change k change)) revision new → KnowsStore log new
-  changed_known log control new k change revision deeds knows within made after =
+  changed_known log control new k change revision rising deeds knows within made after =
       let past = made.past in
       let reads = control.records.items in
       let state = (read_at reads k).state in
@@ -251,7 +258,7 @@ module _ {Q P : Type 0} where
       let one : RecordRead = record { state = next; stood = revision } in
       let deed : Deed Q P = Changing control.lead.process k change next control.lead.elected control.placed in
       let now = placed_held past control.lead.elected control.placed [] made.held in
-      let was = stood_then log control deeds knows made.later past (transaction_of deed) made.is now in
+      let was = stood_then log control rising deeds knows made.later past (done_at revision deed) made.is now in
       let before : Agrees control.desk.books (placement_of past) = subst (Agrees control.desk.books) (sym was)
       knows.agrees in
       let state_is : state ≡ stored_record k past = knows.records k within ∙ ap (λ (p : Placement). p.records k)
@@ -263,15 +270,15 @@ module _ {Q P : Type 0} where
       let inside : k < length reads = omega arith in
       record {
         led = subst (λ (l : Leadership). HasLed log l.process l.elected) (sym after.lead) knows.led;
-        read = placement_of (transaction_of deed ∷ past);
+        read = placement_of (done_at revision deed ∷ past);
         placement_was = record {
           later = made.later;
-          past = transaction_of deed ∷ past;
+          past = done_at revision deed ∷ past;
           is = made.is;
-          at = sym made.at ∙ sym after.placed;
+          at = sym after.placed;
           was = refl;
         };
-        agrees = subst (λ (b : BooksView). Agrees b (placement_of (transaction_of deed ∷ past))) (sym books)
+        agrees = subst (λ (b : BooksView). Agrees b (placement_of (done_at revision deed ∷ past))) (sym books)
             (agrees_changed control.desk.books past control.lead.process k change next control.lead.elected
             control.placed within (ap (λ (r : Record). after_change r change) state_is) before);
         records = λ j below.
@@ -296,10 +303,9 @@ module _ {Q P : Type 0} where
             (sym (ap (λ (i : ℕ). read_at (set reads k one) i) same ∙ get_or-set_same reads k one unwritten inside))
             (record {
               later = made.later;
-              past = transaction_of deed ∷ past;
+              past = done_at revision deed ∷ past;
               is = made.is;
-              at = cond-true (k == j) (length past + 1) (revision_of (record_key j) past) (eq-eqb k j (sym same))
-                  ∙ sym made.at;
+              at = cond-true (k == j) revision (revision_of (record_key j) past) (eq-eqb k j (sym same));
               was = cond-true (k == j) next (stored_record j past) (eq-eqb k j (sym same));
             }))
             (λ (apart : j ≢ k).
@@ -316,25 +322,31 @@ module _ {Q P : Type 0} where
       → CommandWasMade log (command_transaction (sending_of control (write_of control command))) revision
       → IsAfter control command (write_of control command) revision new → KnowsStore log new
   outcome_known charter log control new (Change k change) revision honest sound knows none made after =
-      changed_known log control new k change revision (deeds_of charter log honest) knows
+      changed_known log control new k change revision (rising_of charter log honest)
+      (deeds_of charter log honest) knows
       (let_through control.desk.books k change (none_both _ _ none).0).within made after
   outcome_known charter log control new (Ask a) revision honest sound knows none made after =
-      entered_known log control new (Ask a) a states.Asked revision (deeds_of charter log honest) sound knows
+      entered_known log control new (Ask a) a states.Asked revision (rising_of charter log honest)
+      (deeds_of charter log honest) sound knows
       (known_of control.desk.books a _ (none_both _ _ none).0) made (ap (λ (d : DeskView). d.books) after.desk)
       after.records after.lead after.placed
   outcome_known charter log control new (Approve a) revision honest sound knows none made after =
-      entered_known log control new (Approve a) a states.Approved revision (deeds_of charter log honest) sound knows
+      entered_known log control new (Approve a) a states.Approved revision (rising_of charter log honest)
+      (deeds_of charter log honest) sound knows
       (known_of control.desk.books a _ (none_both _ _ none).0) made (ap (λ (d : DeskView). d.books) after.desk)
       after.records after.lead after.placed
   outcome_known charter log control new (Stopped a) revision honest sound knows none made after =
-      entered_known log control new (Stopped a) a states.Stopped revision (deeds_of charter log honest) sound knows
+      entered_known log control new (Stopped a) a states.Stopped revision (rising_of charter log honest)
+      (deeds_of charter log honest) sound knows
       (known_of control.desk.books a _ (none_both _ _ none).0) made (ap (λ (d : DeskView). d.books) after.desk)
       after.records after.lead after.placed
   outcome_known charter log control new (Back a) revision honest sound knows none made after =
-      entered_known log control new (Back a) a states.Up revision (deeds_of charter log honest) sound knows
+      entered_known log control new (Back a) a states.Up revision (rising_of charter log honest)
+      (deeds_of charter log honest) sound knows
       (known_of control.desk.books a _ (none_both _ _ none).0) made (ap (λ (d : DeskView). d.books) after.desk)
       after.records after.lead after.placed
   outcome_known charter log control new (Fail a) revision honest sound knows none made after =
-      entered_known log control new (Fail a) a states.Failed revision (deeds_of charter log honest) sound knows
+      entered_known log control new (Fail a) a states.Failed revision (rising_of charter log honest)
+      (deeds_of charter log honest) sound knows
       (known_of control.desk.books a _ (none_both _ _ none).0) made (ap (λ (d : DeskView). d.books) after.desk)
       after.records after.lead after.placed

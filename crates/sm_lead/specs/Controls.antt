@@ -5,7 +5,7 @@ use Rattle.sm_place.specs.declared.server_state.ServerState.TheVariants.{Up}
 use Rattle.sm_place.specs.declared.shard.Shard.{Shard}
 use Rattle.sm_place.specs.Books.{no_server, shard_at}
 use Rattle.sm_desk.specs.Desk.{DeskView}
-use Rattle.sm_store.specs.Store.{Placement, Transaction, all_hold, placement_key, placement_of}
+use Rattle.sm_store.specs.Store.{Placement, Transaction, all_hold, made_at, placement_key, placement_of}
 use Rattle.sm_store.specs.Store.{record_key, revision_of, stored_record, stored_state}
 use Rattle.sm_store.specs.Deeds.{HasLed, WasFound}
 use Rattle.sm_lead.specs.declared.leadership.Leadership.{Leadership}
@@ -67,6 +67,5 @@ pub record CommandWasMade {Q P : Type 0} (log : List (Transaction Q P)) (txn : T
     (revision : ℕ) : Type 0 where
   pub later : List (Transaction Q P)
   pub past : List (Transaction Q P)
-  pub is : log ≡ later ++ txn ∷ past
+  pub is : log ≡ later ++ made_at revision txn ∷ past
   pub held : IsTrue (all_hold past txn.compares)
-  pub at : revision ≡ length past + 1

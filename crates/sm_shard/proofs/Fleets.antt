@@ -240,7 +240,7 @@ module _ {M Q R : Type 0} (service : Automaton M Q R) (charter : Charter Q (Part
   event_asked acts (Comes shard client number request) is one all = all
   event_asked acts (Sends txn) is one all =
       (subst (λ (system : System Q (Part R) R). AsksFor system.asked txn) is one, all)
-  event_asked acts (Reaches which) is one all = all
+  event_asked acts (Reaches which revision) is one all = all
   event_asked acts (Claims claim) is one all = all
 
   run_step : Lawful → charter.parts ≡ base_of service → (acts : List (Act M Q R)) (act : Act M Q R) → IsRun acts

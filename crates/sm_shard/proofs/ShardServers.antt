@@ -20,8 +20,9 @@ use Rattle.sm_store.specs.declared.compare.Compare.{Compare}
 use Rattle.sm_store.specs.declared.head.Head.{Head}
 use Rattle.sm_store.specs.declared.item.Item.{Item}
 use Rattle.sm_store.specs.Clients.{Automaton, ComesNext, IsOver, floor_of, last_of, reply_in, state_after}
-use Rattle.sm_store.specs.Store.{Transaction, all_hold, head_key, made, record_key, revision_of, stored_record}
-use Rattle.sm_store.specs.Deeds.{AreAccepted, Charter, Checking, Executing, Clearing, MayExecute, MayName, MaySend}
+use Rattle.sm_store.specs.Store.{IsRising, Transaction, all_hold, head_key, made, made_at, record_key, revision_of}
+use Rattle.sm_store.specs.Store.{stored_record}
+use Rattle.sm_store.specs.Deeds.{AreAccepted, Charter, Checking, Executing, MayClear, MayExecute, MayName, MaySend}
 use Rattle.sm_store.specs.Deeds.{Naming, ShardLog, WasFound}
 use Rattle.sm_store.specs.Deeds.{at, shard_log, transaction_of}
 use Rattle.sm_store.specs.System.{Ask, Claim, IsAmong, IsSo, MayClaim, Overtaken, Reads, Replies}
@@ -331,19 +332,19 @@ module _ {M Q R : Type 0} (service : Automaton M Q R) where
   }
 
   -- what the server read of the log stood when its transaction was made
-  log_then : (log : StoreLog Q R) (me shard : ℕ) (ready : ShardState M Q R)
+  log_then : (log : StoreLog Q R) (me shard : ℕ) (ready : ShardState M Q R) → IsRising log
       → (knows : HasRead service log me shard ready)
       → (later past : StoreLog Q R) → log ≡ later ++ past → all_hold past (sent_transaction me shard ready).compares
       ≡ true
       → shard_log shard past ≡ record { head = ready.head; items = knows.before }
-  log_then log me shard ready knows later past is held =
+  log_then log me shard ready rising knows later past is held =
       stood_then (shard_log shard) (head_key shard) (log_view shard) log
       (record { head = ready.head; items = knows.before })
-      ready.logged (inl refl) knows.logged later past is
+      ready.logged rising (inl refl) knows.logged later past is
       (head_held past shard me (named_by ready.work) ready.sent.items ready.head ready.stood ready.logged held)
 
   -- the log was so once the transaction was made
-  pub made_then : (log : StoreLog Q R) (me shard revision : ℕ) (ready : ShardState M Q R)
+  pub made_then : (log : StoreLog Q R) (me shard revision : ℕ) (ready : ShardState M Q R) → IsRising log
       → (knows : HasRead service log me shard ready) → ready.sent.items ≢ []
       → WereMade log me shard revision ready
       → WasFound (shard_log shard) (head_key shard) log
@@ -351,7 +352,7 @@ module _ {M Q R : Type 0} (service : Automaton M Q R) where
         head = record { batches = ready.head.batches + 1; base = ready.head.base; parts = ready.head.parts };
         items = knows.before ++ ready.sent.items;
       }) revision
-  made_then log me shard revision ready knows some were_made =
+  made_then log me shard revision ready rising knows some were_made =
       let txn : Transaction Q (Part R) =
       transaction_of (Executing shard me ready.sent.items ready.head ready.stood ready.logged) in
       let txn_is : sent_transaction me shard ready ≡ txn =
@@ -362,14 +363,14 @@ module _ {M Q R : Type 0} (service : Automaton M Q R) where
       subst (λ (t : Transaction Q (Part R)). WasMade log t revision) txn_is (were_made writes) in
       let held : all_hold was_made.past (sent_transaction me shard ready).compares ≡ true =
       ap (λ (t : Transaction Q (Part R)). all_hold was_made.past t.compares) txn_is ∙ was_made.held in
-      let was = log_then log me shard ready knows (was_made.later ++ txn ∷ []) was_made.past
-      (was_made.is ∙ sym (append_assoc was_made.later (txn ∷ []) was_made.past)) held in
+      let was = log_then log me shard ready rising knows (was_made.later ++ made_at revision txn ∷ []) was_made.past
+      (was_made.is ∙ sym (append_assoc was_made.later (made_at revision txn ∷ []) was_made.past)) held in
       let same : (shard == shard) ≡ true = eq-eqb shard shard refl in
       record {
         later = was_made.later;
-        past = txn ∷ was_made.past;
+        past = made_at revision txn ∷ was_made.past;
         is = was_made.is;
-        at = rw same (sym was_made.at);
+        at = rw same refl;
         was = rw same (rw (append-nil ready.sent.items) (ap (λ (l : ShardLog Q). record {
           head =
               record { batches = ready.head.batches + 1; base = ready.head.base; parts = ready.head.parts };
@@ -380,14 +381,14 @@ module _ {M Q R : Type 0} (service : Automaton M Q R) where
 
   -- and so once the head named the base
   named_then : (log : StoreLog Q R) (me shard revision : ℕ) (ready : ShardState M Q R) (base : NamedBase)
-      → (knows : HasRead service log me shard ready) → ready.sent.items ≡ [] → named_by ready.work ≡ Some base
-      → WereMade log me shard revision ready
+      → IsRising log → (knows : HasRead service log me shard ready) → ready.sent.items ≡ []
+      → named_by ready.work ≡ Some base → WereMade log me shard revision ready
       → WasFound (shard_log shard) (head_key shard) log
       (record {
         head = record { batches = ready.head.batches; base = base.number; parts = base.parts };
         items = knows.before;
       }) revision
-  named_then log me shard revision ready base knows none is were_made =
+  named_then log me shard revision ready base rising knows none is were_made =
       let txn : Transaction Q (Part R) =
       transaction_of (Naming shard ready.head base.number base.parts ready.logged) in
       let txn_is : sent_transaction me shard ready ≡ txn =
@@ -399,14 +400,14 @@ module _ {M Q R : Type 0} (service : Automaton M Q R) where
       subst (λ (t : Transaction Q (Part R)). WasMade log t revision) txn_is (were_made writes) in
       let held : all_hold was_made.past (sent_transaction me shard ready).compares ≡ true =
       ap (λ (t : Transaction Q (Part R)). all_hold was_made.past t.compares) txn_is ∙ was_made.held in
-      let was = log_then log me shard ready knows (was_made.later ++ txn ∷ []) was_made.past
-      (was_made.is ∙ sym (append_assoc was_made.later (txn ∷ []) was_made.past)) held in
+      let was = log_then log me shard ready rising knows (was_made.later ++ made_at revision txn ∷ []) was_made.past
+      (was_made.is ∙ sym (append_assoc was_made.later (made_at revision txn ∷ []) was_made.past)) held in
       let same : (shard == shard) ≡ true = eq-eqb shard shard refl in
       record {
         later = was_made.later;
-        past = txn ∷ was_made.past;
+        past = made_at revision txn ∷ was_made.past;
         is = was_made.is;
-        at = rw same (sym was_made.at);
+        at = rw same refl;
         was = rw same (rw (append-nil (made shard was_made.past)) (ap (λ (l : ShardLog Q). record {
           head = record { batches = ready.head.batches; base = base.number; parts = base.parts };
           items = l.items;
@@ -414,23 +415,23 @@ module _ {M Q R : Type 0} (service : Automaton M Q R) where
       }
 
   knows_at : (log : StoreLog Q R) (me shard revision : ℕ) (ready : ShardState M Q R) (base : Option NamedBase)
-      → HasRead service log me shard ready → ready.sent.items ≡ [] → named_by ready.work ≡ base
+      → IsRising log → HasRead service log me shard ready → ready.sent.items ≡ [] → named_by ready.work ≡ base
       → WereMade log me shard revision ready → HasRead service log me shard (named_at revision base ready)
-  knows_at log me shard revision ready None knows none is were_made = knows
-  knows_at log me shard revision ready (Some base) knows none is were_made = record {
+  knows_at log me shard revision ready None rising knows none is were_made = knows
+  knows_at log me shard revision ready (Some base) rising knows none is were_made = record {
     stood = knows.stood;
     before = knows.before;
-    logged = named_then log me shard revision ready base knows none is were_made;
+    logged = named_then log me shard revision ready base rising knows none is were_made;
     is = record { replica = knows.is.replica; accepted = knows.is.accepted };
     base = tt;
   }
 
   -- the server goes on from where the head names the base that was sent, if one was
-  pub knows_named : (log : StoreLog Q R) (me shard revision : ℕ) (ready : ShardState M Q R)
+  pub knows_named : (log : StoreLog Q R) (me shard revision : ℕ) (ready : ShardState M Q R) → IsRising log
       → HasRead service log me shard ready → ready.sent.items ≡ [] → WereMade log me shard revision ready
       → HasRead service log me shard (named_now revision ready)
-  knows_named log me shard revision ready knows none were_made =
-      knows_at log me shard revision ready (named_by ready.work) knows none refl were_made
+  knows_named log me shard revision ready rising knows none were_made =
+      knows_at log me shard revision ready (named_by ready.work) rising knows none refl were_made
 
   -- with other reads under way
   abbrev pub carrying : ShardState M Q R → Vec (Item Q) → ShardState M Q R
@@ -448,10 +449,10 @@ module _ {M Q R : Type 0} (service : Automaton M Q R) where
   }
 
   pub knows_settled : (log : StoreLog Q R) (me shard revision : ℕ) (ready : ShardState M Q R) (carried : Vec (Item Q))
-      → HasRead service log me shard ready → ready.sent.items ≡ [] → WereMade log me shard revision ready
+      → IsRising log → HasRead service log me shard ready → ready.sent.items ≡ [] → WereMade log me shard revision ready
       → HasRead service log me shard (named_now revision (carrying ready carried))
-  knows_settled log me shard revision ready carried knows none were_made =
-      knows_named log me shard revision (carrying ready carried)
+  knows_settled log me shard revision ready carried rising knows none were_made =
+      knows_named log me shard revision (carrying ready carried) rising
       (record {
         stood = knows.stood;
         before = knows.before;
@@ -498,7 +499,7 @@ module _ {M Q R : Type 0} (service : Automaton M Q R) where
       (record { sent = are.sent; waiting = are.waiting })
 
   -- the server goes on from there
-  pub knows_made : (log : StoreLog Q R) (me shard revision : ℕ) (old new : ShardState M Q R)
+  pub knows_made : (log : StoreLog Q R) (me shard revision : ℕ) (old new : ShardState M Q R) → IsRising log
       → (knows : HasRead service log me shard old) → old.sent.items ≢ []
       → WereMade log me shard revision old
       → new.state ≡ old.state → new.stood ≡ old.stood
@@ -506,8 +507,8 @@ module _ {M Q R : Type 0} (service : Automaton M Q R) where
       → new.logged ≡ revision → new.sent.items ≡ [] → new.waiting.items ≡ old.waiting.items
       → IsReplica service (knows.before ++ old.sent.items) new.replica → new.work ≡ old.work
       → HasRead service log me shard new
-  knows_made log me shard revision old new knows some were_made state_is stood_is head_is logged_is sent_is
-      waiting_is replica work_is =
+  knows_made log me shard revision old new rising knows some were_made state_is stood_is head_is logged_is
+      sent_is waiting_is replica work_is =
       let rest : AreAccepted old.state me (knows.before ++ old.sent.items) old.waiting.items =
       accepted_back old.state me knows.before old.sent.items old.waiting.items knows.is.accepted in
       let items_are : old.waiting.items ≡ new.sent.items ++ new.waiting.items =
@@ -521,7 +522,7 @@ module _ {M Q R : Type 0} (service : Automaton M Q R) where
             (record { head = new.head; items = knows.before ++ old.sent.items }) r) (sym logged_is)
             (subst (λ (h : Head). WasFound (shard_log shard) (head_key shard) log
             (record { head = h; items = knows.before ++ old.sent.items }) revision) (sym head_is)
-            (made_then log me shard revision old knows some were_made));
+            (made_then log me shard revision old rising knows some were_made));
         is = record {
           replica = replica;
           accepted = subst (λ (s : Record). AreAccepted s me (knows.before ++ old.sent.items)
@@ -564,18 +565,19 @@ module _ {M Q R : Type 0} (service : Automaton M Q R) where
 
   -- what the replies claim is so
   pub told_made : (system : StoreSystem Q R) (me shard revision : ℕ) (ready : ShardState M Q R)
-      (answers : List (MadeReply R))
+      (answers : List (MadeReply R)) → IsRising system.log
       → (knows : HasRead service system.log me shard ready) → ready.sent.items ≢ []
       → WereMade system.log me shard revision ready
       → answers ≡ replies_of service ready.replica.machine ready.sent.items
       → AllByRecursion (MayClaim service system) (claimed_all shard answers)
-  told_made system me shard revision ready answers knows some were_made is =
+  told_made system me shard revision ready answers rising knows some were_made is =
       let items = knows.before ++ ready.sent.items in
       let next = (accepted_front ready.state me knows.before ready.sent.items ready.waiting.items
       knows.is.accepted).next in
       let those : replies_of service (state_after service service.start knows.before) ready.sent.items ≡ answers =
       ap (λ (m : M). replies_of service m ready.sent.items) (sym knows.is.replica.machine) ∙ sym is in
-      answers_so shard system _ revision (made_then system.log me shard revision ready knows some were_made) answers
+      answers_so shard system _ revision (made_then system.log me shard revision ready rising knows some were_made)
+      answers
       (subst (AllByRecursion (λ (answer : MadeReply R). reply_in service service.start items answer.client answer.number
       ≡ Some answer.reply)) those
       (answers_are service knows.before ready.sent.items next))
@@ -900,7 +902,7 @@ module _ {M Q R : Type 0} (service : Automaton M Q R) where
 
   pub clearing_may : (charter : Charter Q (Part R)) (log : StoreLog Q R) (me shard : ℕ) (ready : ShardState M Q R)
       (key : PassingKey) → HasRead service log me shard ready → is_behind shard ready.head key ≡ true
-      → MaySend charter log (transaction_of (Clearing key))
+      → MayClear charter log key
   clearing_may charter log me shard ready key knows behind =
       clear_may charter log shard ready.logged ready.head key
       (head_found log shard (record { head = ready.head; items = knows.before }) ready.logged knows.logged) behind

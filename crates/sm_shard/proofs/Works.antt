@@ -13,8 +13,8 @@ use Rattle.sm_store.specs.declared.store_key.PassingKey.{PassingKey}
 use Rattle.sm_store.specs.declared.store_key.PassingKey.TheVariants as keys
 use Rattle.sm_store.specs.Clients.{Automaton}
 use Rattle.sm_store.specs.Store.{Transaction, head_key, head_of, part_at, part_key}
-use Rattle.sm_store.specs.Deeds.{Basing, Charter, Clearing, HasRequests, MayName, MaySend, ShardLog, WasFound}
-use Rattle.sm_store.specs.Deeds.{shard_log}
+use Rattle.sm_store.specs.Deeds.{Basing, Charter, HasRequests, MayClear, MayName, MaySend, ShardLog, WasFound}
+use Rattle.sm_store.specs.Deeds.{done_at, shard_log}
 use Rattle.sm_store.specs.Deeds.{transaction_of}
 use Rattle.sm_store.specs.lemmas.Growth.{found_grows}
 use Rattle.sm_shard.specs.declared.base_work.BaseStage.{BaseStage}
@@ -73,9 +73,9 @@ module _ {Q R : Type 0} where
       (and_from (number == number) (place == place) (eq-eqb number number refl) (eq-eqb place place refl)) in
       record {
         later = was.later;
-        past = transaction_of (Basing shard number place part) ∷ was.past;
+        past = done_at revision (Basing shard number place part) ∷ was.past;
         is = was.is;
-        at = rw here (sym was.at);
+        at = rw here refl;
         was = rw here refl;
       }
 
@@ -255,33 +255,23 @@ module _ {M Q R : Type 0} (service : Automaton M Q R) where
 -- what lies behind the base may be deleted
 pub clear_may : {Q R : Type 0} (charter : Charter Q (Part R)) (log : StoreLog Q R) (shard logged : ℕ) (head : Head)
     (key : PassingKey) → WasFound (head_of shard) (head_key shard) log head logged → is_behind shard head key ≡ true
-    → MaySend charter log (transaction_of (Clearing key))
+    → MayClear charter log key
 clear_may charter log shard logged head (keys.Batch at number) found behind =
     let parts = and_parts (at == shard) (nat_le number head.base) behind in
-    let same = eqb-true at shard parts.0 in
-    record {
-      deed = Clearing (keys.Batch at number);
-      is = refl;
-      may = (
-        head,
-        logged,
-        subst (λ (k : ℕ). WasFound (head_of k) (head_key k) log head logged) (sym same) found,
-        le_of number head.base parts.1,
-      );
-    }
+    let same = eqb-true at shard parts.0 in (
+      head,
+      logged,
+      subst (λ (k : ℕ). WasFound (head_of k) (head_key k) log head logged) (sym same) found,
+      le_of number head.base parts.1,
+    )
 clear_may charter log shard logged head (keys.Part at number place) found behind =
     let parts = and_parts (at == shard) (nat_lt number head.base) behind in
-    let same = eqb-true at shard parts.0 in
-    record {
-      deed = Clearing (keys.Part at number place);
-      is = refl;
-      may = (
-        head,
-        logged,
-        subst (λ (k : ℕ). WasFound (head_of k) (head_key k) log head logged) (sym same) found,
-        lt_of number head.base parts.1,
-      );
-    }
+    let same = eqb-true at shard parts.0 in (
+      head,
+      logged,
+      subst (λ (k : ℕ). WasFound (head_of k) (head_key k) log head logged) (sym same) found,
+      lt_of number head.base parts.1,
+    )
 clear_may charter log shard logged head keys.Leader found behind = absurd (true≢false (sym behind))
 clear_may charter log shard logged head (keys.Server server) found behind = absurd (true≢false (sym behind))
 clear_may charter log shard logged head keys.Other found behind = absurd (true≢false (sym behind))

@@ -12,7 +12,7 @@ use Rattle.sm_shard.specs.declared.base_work.NamedBase.{NamedBase}
 use Rattle.sm_store.specs.declared.head.Head.{Head}
 use Rattle.sm_store.specs.declared.item.Item.{Item}
 use Rattle.sm_store.specs.Clients.{Automaton, floor_of, last_of, reply_in}
-use Rattle.sm_store.specs.Store.{Transaction, all_hold, head_key, part_at, part_key, record_key, stored_record}
+use Rattle.sm_store.specs.Store.{Transaction, all_hold, head_key, made_at, part_at, part_key, record_key, stored_record}
 use Rattle.sm_store.specs.Deeds.{AreAccepted, Basing, Checking, Executing, HasRequests, Naming as Names, WasFound, at}
 use Rattle.sm_store.specs.Deeds.{shard_log, transaction_of}
 use Rattle.sm_store.specs.System.{Ask, Carried, Claim, IsAmong, Overtaken, Reads, Replies, System, WasAsked}
@@ -249,9 +249,8 @@ parts_transactions sending = basing_from sending.shard sending.number 0 sending.
 pub record WasMade {Q R : Type 0} (log : StoreLog Q R) (txn : Transaction Q (Part R)) (revision : ℕ) : Type 0 where
   pub later : StoreLog Q R
   pub past : StoreLog Q R
-  pub is : log ≡ later ++ txn ∷ past
+  pub is : log ≡ later ++ made_at revision txn ∷ past
   pub held : IsTrue (all_hold past txn.compares)
-  pub at : revision ≡ length past + 1
 
 -- what a server sent was made, where it writes anything
 abbrev pub WereMade : {M Q R : Type 0} → StoreLog Q R → ℕ → ℕ → ℕ → ShardState M Q R → Type 0

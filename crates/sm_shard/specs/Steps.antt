@@ -62,7 +62,7 @@ bases_of shard (Some ready) = basing_by shard ready.work
 abbrev pub step_sends : {M Q R : Type 0} → Result (ShardOutput Q R) ReplayFault → ShardServer M Q R → StoreLog Q R
 step_sends (Ok Sends) server = transactions_of server.me server.shard server.ready
 step_sends (Ok Bases) server = bases_of server.shard server.ready
-step_sends (Ok (Clears key)) server = transaction_of (Clearing key) ∷ []
+step_sends (Ok (Clears key)) server = transaction_of (Clearing (key ∷ [])) ∷ []
 step_sends _ server = []
 
 -- the length of the log when the server last sent, after a step at this length

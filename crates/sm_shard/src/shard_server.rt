@@ -77,8 +77,8 @@ impl<Q: Drop, R: Copy + Drop, M: StoreMachine<Q, R>> ShardServer<M, Q, R> {
     ghost use Rattle.std.specs.Prelude.{ℕ, length, map};
     ghost use Rattle.std.specs.List.{AllByRecursion};
     ghost use Rattle.sm_shard.specs.Bases.{Part, base_of, kept_from};
-    ghost use Rattle.sm_store.specs.Store.{record_key, stored_record};
-    ghost use Rattle.sm_store.specs.Deeds.{AreRight, Charter, Clearing, MaySend, WasFound, transaction_of};
+    ghost use Rattle.sm_store.specs.Store.{IsRising, record_key, stored_record};
+    ghost use Rattle.sm_store.specs.Deeds.{AreRight, Charter, MayClear, MaySend, WasFound};
     ghost use Rattle.sm_store.specs.System.{Ask, MayClaim};
     ghost use Rattle.sm_shard.specs.Decisions.{server_begins, server_behind, server_decision, server_read_decision};
     ghost use Rattle.sm_shard.specs.Decisions.{clients_kept, server_sends};
@@ -266,7 +266,7 @@ impl<Q: Drop, R: Copy + Drop, M: StoreMachine<Q, R>> ShardServer<M, Q, R> {
         ensures shard { self.new.shard ≡ self.old.shard }
         ensures count { self.new.count ≡ self.old.count }
         ensures limits { self.new.limits ≡ self.old.limits }
-        ensures known { (log : StoreLog Q R) → IsTrueOf M.service log self.old
+        ensures known { (log : StoreLog Q R) → IsRising log → IsTrueOf M.service log self.old
             → IfSome self.old.ready (λ ready. WereMade log self.old.me self.old.shard revision ready)
             → IsTrueOf M.service log self.new }
         ensures asked { (asked : List (Ask Q)) (since : ℕ) → AreAsked asked since self.old
@@ -277,7 +277,7 @@ impl<Q: Drop, R: Copy + Drop, M: StoreMachine<Q, R>> ShardServer<M, Q, R> {
             ≡ replies_of M.service ready.replica.machine ready.sent.items)) }
         ensures answered { IfOk result (λ answers. IfSome self.old.ready (λ ready. answers.read.items
             ≡ map (read_of M.service ready.replica.machine) ready.carried.items)) }
-        ensures told { IfOk result (λ answers. (system : StoreSystem Q R)
+        ensures told { IfOk result (λ answers. (system : StoreSystem Q R) → IsRising system.log
             → IsTrueOf M.service system.log self.old
             → IfSome self.old.ready (λ ready. WereMade system.log self.old.me self.old.shard revision ready)
             → AllByRecursion (MayClaim M.service system)
@@ -412,7 +412,7 @@ impl<Q: Drop, R: Copy + Drop, M: StoreMachine<Q, R>> ShardServer<M, Q, R> {
         ensures exact { result ≡ server_behind self.now.shard self.now.ready key.now }
         ensures may { IsTrue result → (charter : Charter Q (Part R)) (log : StoreLog Q R)
             → IsTrueOf M.service log self.now
-            → MaySend charter log (transaction_of (Clearing key.now)) }
+            → MayClear charter log key.now }
     {
         match &self.ready {
             Some(ready) => is_behind(self.shard, &ready.head, key),

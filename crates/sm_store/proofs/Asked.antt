@@ -2,13 +2,13 @@
 use Rattle.std.proofs.Common.{◌≡◌, ℕ, ◌≤◌, List, [], ◌∷◌, ◌++◌, length, refl, sym, ap, subst, ◌∙◌, arith}
 use Rattle.std.proofs.Common.{⊎_elim, inl, inr, length-append}
 use Rattle.std.specs.Prelude.{Option, Some, None, IfSome, ◌⊎◌, slice_get}
-use Rattle.std.specs.List.{AllByRecursion}
+use Rattle.std.specs.List.{AllByRecursion, list_any}
 use Rattle.std.proofs.lemmas.Bool.{cond_both}
 use Rattle.sm_store.specs.declared.item.Item.{Item}
-use Rattle.sm_store.specs.Store.{Transaction, Write, all_hold, made, made_by}
+use Rattle.sm_store.specs.Store.{Transaction, all_hold, made, made_at, made_by}
 use Rattle.sm_store.specs.System.{Ask, Event, Comes, Sends, Reaches, Claims, System}
 use Rattle.sm_store.specs.System.{SentTransaction, IsAmong, after_reaching}
-use Rattle.sm_store.specs.System.{extended, system_after}
+use Rattle.sm_store.specs.System.{extended, leaves_trace, system_after}
 use Rattle.sm_store.specs.Linear.{DidAsk, AreAskedFor, Operation, Update, Query, HasCome}
 use Rattle.sm_store.specs.lemmas.Logs.{all_map, at_place, asked_reached, asked_step}
 use Rattle.sm_store.proofs.Orders.{all_append, among_back, tails}
@@ -42,22 +42,23 @@ module _ {Q P : Type 0} where
   abbrev SentAsked : List (Ask Q) → SentTransaction Q P → Type 0
   SentAsked asked sent = (shard : ℕ) → AllByRecursion (ItemAsked asked shard) (made_by shard sent.txn.writes)
 
-  extended_asked : (asked : List (Ask Q)) (txn : Transaction Q P) (writes : List (Write Q P))
-      (log : List (Transaction Q P)) (shard : ℕ) → AllByRecursion (ItemAsked asked shard) (made_by shard txn.writes)
+  extended_asked : (asked : List (Ask Q)) (txn : Transaction Q P) (log : List (Transaction Q P)) (shard : ℕ)
+      → AllByRecursion (ItemAsked asked shard) (made_by shard txn.writes)
       → AllByRecursion (ItemAsked asked shard) (made shard log)
-      → AllByRecursion (ItemAsked asked shard) (made shard (extended txn writes log))
-  extended_asked asked txn [] log shard new old = old
-  extended_asked asked txn (write ∷ writes) log shard new old =
-      all_append (ItemAsked asked shard) (made shard log) (made_by shard txn.writes) old new
+      → AllByRecursion (ItemAsked asked shard) (made shard (extended txn log))
+  extended_asked asked txn log shard new old =
+      cond_both (list_any (leaves_trace log) txn.writes) (txn ∷ log) log
+      (λ (grown : List (Transaction Q P)). AllByRecursion (ItemAsked asked shard) (made shard grown))
+      (λ _. all_append (ItemAsked asked shard) (made shard log) (made_by shard txn.writes) old new) (λ _. old)
 
   -- a step of the store adds one transaction at most
   abbrev IsStep : List (Transaction Q P) → List (Transaction Q P) → Type 0
   IsStep new old = (new ≡ old) ⊎ ((txn : Transaction Q P) × (new ≡ txn ∷ old))
 
-  extended_step : (txn : Transaction Q P) (writes : List (Write Q P)) (log : List (Transaction Q P))
-      → IsStep (extended txn writes log) log
-  extended_step txn [] log = inl refl
-  extended_step txn (write ∷ writes) log = inr (txn, refl)
+  extended_step : (txn : Transaction Q P) (log : List (Transaction Q P)) → IsStep (extended txn log) log
+  extended_step txn log =
+      cond_both (list_any (leaves_trace log) txn.writes) (txn ∷ log) log
+      (λ (new : List (Transaction Q P)). IsStep new log) (λ _. inr (txn, refl)) (λ _. inl refl)
 
 module _ {Q P R : Type 0} where
   asked_later : (event : Event Q P R) (earlier : List (Event Q P R)) (shard client number : ℕ) (request : Q)
@@ -79,13 +80,13 @@ module _ {Q P R : Type 0} where
     pub sent : AllByRecursion (SentAsked system.asked) system.sent
     pub made_were : (shard : ℕ) → AllByRecursion (ItemAsked system.asked shard) (made shard system.log)
 
-  reached_asked : (system : System Q P R) (found : Option (SentTransaction Q P)) → AllAsked system
-      → IfSome found (SentAsked system.asked) → AllAsked (after_reaching system found)
-  reached_asked system None all one = all
-  reached_asked system (Some sent) all one =
+  reached_asked : (system : System Q P R) (revision : ℕ) (found : Option (SentTransaction Q P)) → AllAsked system
+      → IfSome found (SentAsked system.asked) → AllAsked (after_reaching system revision found)
+  reached_asked system revision None all one = all
+  reached_asked system revision (Some sent) all one =
       cond_both (all_hold system.log sent.txn.compares)
       (record {
-        log = extended sent.txn sent.txn.writes system.log;
+        log = extended (made_at revision sent.txn) system.log;
         asked = system.asked;
         sent = system.sent;
         held = record { txn = sent.txn; since = sent.since; moment = system.log } ∷ system.held;
@@ -95,7 +96,8 @@ module _ {Q P R : Type 0} where
       (λ _. record {
         sent = all.sent;
         made_were = λ shard.
-            extended_asked system.asked sent.txn sent.txn.writes system.log shard (one shard) (all.made_were shard);
+            extended_asked system.asked (made_at revision sent.txn) system.log shard (one shard)
+            (all.made_were shard);
       })
       (λ _. all)
 
@@ -121,29 +123,29 @@ module _ {Q P R : Type 0} where
   all_asked (Sends txn ∷ earlier) asked =
       let was = all_asked earlier asked.1 in
       record { sent = (asked.0, was.sent); made_were = was.made_were }
-  all_asked (Reaches which ∷ earlier) asked =
+  all_asked (Reaches which revision ∷ earlier) asked =
       let was = all_asked earlier asked in
       let system = system_after earlier in
-      reached_asked system (slice_get system.sent which) was
+      reached_asked system revision (slice_get system.sent which) was
       (at_place (SentAsked system.asked) system.sent which was.sent)
   all_asked (Claims claim ∷ earlier) asked =
       let was = all_asked earlier asked in
       record { sent = was.sent; made_were = was.made_were }
 
-  reached_step : (system : System Q P R) (found : Option (SentTransaction Q P))
-      → IsStep (after_reaching system found).log system.log
-  reached_step system None = inl refl
-  reached_step system (Some sent) =
+  reached_step : (system : System Q P R) (revision : ℕ) (found : Option (SentTransaction Q P))
+      → IsStep (after_reaching system revision found).log system.log
+  reached_step system revision None = inl refl
+  reached_step system revision (Some sent) =
       cond_both (all_hold system.log sent.txn.compares)
       (record {
-        log = extended sent.txn sent.txn.writes system.log;
+        log = extended (made_at revision sent.txn) system.log;
         asked = system.asked;
         sent = system.sent;
         held = record { txn = sent.txn; since = sent.since; moment = system.log } ∷ system.held;
         claims = system.claims;
       })
       system (λ (new : System Q P R). IsStep new.log system.log)
-      (λ _. extended_step sent.txn sent.txn.writes system.log) (λ _. inl refl)
+      (λ _. extended_step (made_at revision sent.txn) system.log) (λ _. inl refl)
 
   -- the moment at which the store was what was read
   pub record Moment (events : List (Event Q P R)) (past : List (Transaction Q P)) (ask : Ask Q) : Type 0 where
@@ -190,15 +192,15 @@ module _ {Q P R : Type 0} where
       moment_later (Sends sent) earlier past ask (moment_of earlier (txn ∷ later) past ask among is since)
   moment_of (Claims claim ∷ earlier) (txn ∷ later) past ask among is since =
       moment_later (Claims claim) earlier past ask (moment_of earlier (txn ∷ later) past ask among is since)
-  moment_of (Reaches which ∷ earlier) (txn ∷ later) past ask among is since =
+  moment_of (Reaches which revision ∷ earlier) (txn ∷ later) past ask among is since =
       let system = system_after earlier in
       let found = slice_get system.sent which in
       let was : IsAmong ask system.asked =
-      subst (λ (asked : List (Ask Q)). IsAmong ask asked) (asked_reached system found) among in
-      moment_later (Reaches which) earlier past ask
+      subst (λ (asked : List (Ask Q)). IsAmong ask asked) (asked_reached system revision found) among in
+      moment_later (Reaches which revision) earlier past ask
       (⊎_elim
-      (λ (same : (after_reaching system found).log ≡ system.log).
+      (λ (same : (after_reaching system revision found).log ≡ system.log).
       moment_of earlier (txn ∷ later) past ask was (sym same ∙ is) since)
-      (λ (one : (t : Transaction Q P) × ((after_reaching system found).log ≡ t ∷ system.log)).
+      (λ (one : (t : Transaction Q P) × ((after_reaching system revision found).log ≡ t ∷ system.log)).
       moment_of earlier later past ask was (tails one.0 txn system.log (later ++ past) (sym one.1 ∙ is)) since)
-      (reached_step system found))
+      (reached_step system revision found))

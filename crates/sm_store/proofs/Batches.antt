@@ -41,7 +41,7 @@ module _ {Q P : Type 0} where
   executed_step shard (Heads at head) writes = none_first (0 == shard) (executed_by shard writes)
   executed_step shard (Bases at number place part) writes = none_first (0 == shard) (executed_by shard writes)
   executed_step shard (Follows server revision) writes = none_first (0 == shard) (executed_by shard writes)
-  executed_step shard (Deletes key) writes = none_first (0 == shard) (executed_by shard writes)
+  executed_step shard (Deletes keys) writes = none_first (0 == shard) (executed_by shard writes)
   executed_step shard Elsewhere writes = none_first (0 == shard) (executed_by shard writes)
 
   -- what is made of a shard when its head is written too

@@ -28,7 +28,7 @@ module _ {Q P : Type 0} (charter : Charter Q P) where
       → stored_state server log ≢ Failed → stored_state server (transaction_of deed ∷ log) ≡ Failed
       → revision_of (server_key server) log ≡ 0
   absent_one log (Electing process) server right was now = absurd (was now)
-  absent_one log (Expiring key) server right was now = absurd (was now)
+  absent_one log (Expiring keys) server right was now = absurd (was now)
   absent_one log (Changing process shard change next elected placed) server right was now = absurd (was now)
   absent_one log (Restarting process at state elected placed) server right was now =
       absent_step log process at server state elected placed right was now
@@ -36,7 +36,7 @@ module _ {Q P : Type 0} (charter : Charter Q P) where
   absent_one log (Executing shard at items head stood logged) server right was now = absurd (was now)
   absent_one log (Basing shard number place part) server right was now = absurd (was now)
   absent_one log (Naming shard head number parts logged) server right was now = absurd (was now)
-  absent_one log (Clearing key) server right was now = absurd (was now)
+  absent_one log (Clearing keys) server right was now = absurd (was now)
   absent_one log (Following at revision) server right was now = absurd (was now)
   absent_one log (Checking compares) server right was now = absurd (was now)
   absent_one log Foreign server right was now = absurd (was now)

@@ -192,7 +192,7 @@ module _ {Q P : Type 0} (charter : Charter Q P) (ceiling : ℕ) where
       → length (with_deed deed earlier) ≤ ceiling → Agrees earlier (λ k. (stored_record k log).stand)
       → Agrees (with_deed deed earlier) (λ k. (stored_record k (transaction_of deed ∷ log)).stand)
   deed_step log (Electing process) earlier right room agrees = agrees
-  deed_step log (Expiring key) earlier right room agrees = agrees
+  deed_step log (Expiring keys) earlier right room agrees = agrees
   deed_step log (Changing process shard change next elected placed) earlier right room agrees =
       let state = stored_record shard log in
       let parts = and_parts (not state.admitted) (nat_lt state.generation charter.ceiling && is_some
@@ -213,7 +213,7 @@ module _ {Q P : Type 0} (charter : Charter Q P) (ceiling : ℕ) where
       right.accepted.accepted agrees
   deed_step log (Basing shard number place part) earlier right room agrees = agrees
   deed_step log (Naming shard head number parts logged) earlier right room agrees = agrees
-  deed_step log (Clearing key) earlier right room agrees = agrees
+  deed_step log (Clearing keys) earlier right room agrees = agrees
   deed_step log (Restarting process server state elected placed) earlier right room agrees = agrees
   deed_step log (Settling settings) earlier right room agrees = agrees
   deed_step log (Following server revision) earlier right room agrees = agrees
@@ -222,12 +222,12 @@ module _ {Q P : Type 0} (charter : Charter Q P) (ceiling : ℕ) where
 
   no_shorter : (deed : Deed Q P) (earlier : List (Entry Q)) → length earlier ≤ length (with_deed deed earlier)
   no_shorter (Electing process) earlier = omega arith
-  no_shorter (Expiring key) earlier = omega arith
+  no_shorter (Expiring keys) earlier = omega arith
   no_shorter (Changing process shard change next elected placed) earlier = omega arith
   no_shorter (Executing shard server items head stood logged) earlier = longer shard server items earlier
   no_shorter (Basing shard number place part) earlier = omega arith
   no_shorter (Naming shard head number parts logged) earlier = omega arith
-  no_shorter (Clearing key) earlier = omega arith
+  no_shorter (Clearing keys) earlier = omega arith
   no_shorter (Restarting process server state elected placed) earlier = omega arith
   no_shorter (Settling settings) earlier = omega arith
   no_shorter (Following server revision) earlier = omega arith

@@ -16,7 +16,7 @@ use Rattle.sm_store.specs.declared.item.Item.{Item}
 use Rattle.sm_store.specs.Deeds.{AreRight, Charter, Deed, Electing, Expiring, Changing, Executing, Basing, Naming}
 use Rattle.sm_store.specs.Deeds.{Clearing, Following, Restarting, Settling, Checking, Foreign, transaction_of}
 use Rattle.sm_store.specs.Histories.{history_of, with_requests, with_write}
-use Rattle.sm_store.specs.Store.{Transaction, head_key, left_by, made, made_by, stored_record, touches}
+use Rattle.sm_store.specs.Store.{Deletes, Transaction, head_key, left_by, made, made_by, stored_record, touches}
 use Rattle.sm_store.proofs.Histories.{agrees, with_deed}
 
 twice : {A : Type 0} (xs : List A) → reverse (reverse xs) ≡ xs
@@ -99,7 +99,8 @@ module _ {Q P : Type 0} (charter : Charter Q P) where
       → all_of (reverse (with_deed charter 0 deed earlier)) k
       ≡ all_of (reverse earlier) k ++ requests (made_by k (transaction_of deed).writes)
   requests_of_deed k (Electing process) earlier = sym (append-nil (all_of (reverse earlier) k))
-  requests_of_deed k (Expiring key) earlier = sym (append-nil (all_of (reverse earlier) k))
+  requests_of_deed k (Expiring keys) earlier =
+      nothing k earlier (touches {Q = Q} {P = P} (head_key k) (Deletes keys ∷ [])) [] refl
   requests_of_deed k (Changing process shard change next elected placed) earlier =
       no_request shard k change earlier ∙ sym (append-nil (all_of (reverse earlier) k))
   requests_of_deed k (Executing shard server items head stood logged) earlier =
@@ -110,7 +111,8 @@ module _ {Q P : Type 0} (charter : Charter Q P) where
   requests_of_deed k (Naming shard head number parts logged) earlier =
       nothing k earlier (touches (head_key k) (transaction_of {Q = Q} {P = P}
       (Naming shard head number parts logged)).writes) [] refl
-  requests_of_deed k (Clearing key) earlier = sym (append-nil (all_of (reverse earlier) k))
+  requests_of_deed k (Clearing keys) earlier =
+      nothing k earlier (touches {Q = Q} {P = P} (head_key k) (Deletes keys ∷ [])) [] refl
   requests_of_deed k (Restarting process server state elected placed) earlier =
       sym (append-nil (all_of (reverse earlier) k))
   requests_of_deed k (Settling settings) earlier = sym (append-nil (all_of (reverse earlier) k))

@@ -90,9 +90,9 @@ module _ {Q R S : Type 0} (P : Type 0) (service : Automaton S Q R) where
   places_of charter events later (Sends txn ∷ earlier) is might did reads within have =
       places_of charter events (later ++ Sends txn ∷ []) earlier
       (shift P service (Sends txn) events later earlier is) might did.1 reads within have
-  places_of charter events later (Reaches which ∷ earlier) is might did reads within have =
-      places_of charter events (later ++ Reaches which ∷ []) earlier
-      (shift P service (Reaches which) events later earlier is) might did.1 reads within have
+  places_of charter events later (Reaches which revision ∷ earlier) is might did reads within have =
+      places_of charter events (later ++ Reaches which revision ∷ []) earlier
+      (shift P service (Reaches which revision) events later earlier is) might did.1 reads within have
 
   -- the order keeps to time
   cut_at : (charter : Charter Q P) (events later moment : List (Event Q P R)) → events ≡ later ++ moment

@@ -11,18 +11,19 @@ use Rattle.sm_store.specs.declared.store_key.PassingKey.{PassingKey}
 use Rattle.sm_store.specs.declared.store_key.PassingKey.TheVariants.{Leader, Server, Batch, Part, Other}
 use Rattle.sm_store.specs.Store.{Transaction, all_hold, head_key, head_of, leader_key, leader_of, made, part_at}
 use Rattle.sm_store.specs.Store.{Placement, placement_key, placement_of, record_key, revision_of, settings_key}
-use Rattle.sm_store.specs.Store.{server_key, stored_settings, stored_record}
+use Rattle.sm_store.specs.Store.{IsRising, made_at, server_key, stored_settings, stored_record}
 use Rattle.sm_store.specs.Deeds.{Charter, Deed, Electing, Expiring, Changing, Executing, Basing, Naming, Clearing}
 use Rattle.sm_store.specs.Deeds.{Following, Restarting, Settling, Checking, Foreign, transaction_of, at, AreAccepted}
-use Rattle.sm_store.specs.Deeds.{absence_compares}
+use Rattle.sm_store.specs.Deeds.{absence_compares, done_at}
 use Rattle.sm_store.specs.Deeds.{IsChanged, ShardLog}
 use Rattle.sm_store.specs.Deeds.{shard_log, WasFound, MayDo, MayName, MayClear, IsHonest, IsBehind, IsRight}
 use Rattle.sm_store.specs.Deeds.{HasLed, IsRightBase, AreRight}
 use Rattle.sm_store.specs.lemmas.Heads.{read_until, risen}
 use Rattle.sm_store.specs.lemmas.Heart.{first_held, stands, stands_among, unwritten}
+use Rattle.sm_store.specs.lemmas.Logs.{all_map}
 use Rattle.sm_store.specs.lemmas.Parts.{part_is, part_stays}
 use Rattle.sm_store.specs.lemmas.Views.{IsOfDeed, deeds_of_right, head_view, leader_view, log_view, placement_view}
-use Rattle.sm_store.specs.lemmas.Views.{record_view, settings_view}
+use Rattle.sm_store.specs.lemmas.Views.{record_view, rising_of_right, settings_view}
 
 module _ {Q P : Type 0} (charter : Charter Q P) where
   head_behind : (log : List (Transaction Q P)) (shard : ℕ) (head : Head) (revision : ℕ) → AreRight charter log
@@ -69,22 +70,24 @@ module _ {Q P : Type 0} (charter : Charter Q P) where
   clear_right log (Server server) right may = may
   clear_right log Other right may = may
 
-  leads_still : (log : List (Transaction Q P)) (process elected : ℕ) → HasLed log process elected
+  leads_still : (log : List (Transaction Q P)) (process elected : ℕ) → IsRising log → HasLed log process elected
       → revision_of leader_key log ≡ elected → leader_of log ≡ process
-  leads_still log process elected led now =
-      stands leader_of leader_key leader_view log process elected (inr led.was_elected) led.leads now
+  leads_still log process elected rising led now =
+      stands leader_of leader_key leader_view log process elected rising (inr led.was_elected) led.leads now
 
   placement_stands : (log : List (Transaction Q P)) (read : Placement) (placed : ℕ) → AreRight charter log
       → WasFound placement_of placement_key log read placed → revision_of placement_key log ≡ placed
       → placement_of log ≡ read
   placement_stands log read placed right found now =
       stands_among IsOfDeed placement_of placement_key placement_view log read placed
-      (deeds_of_right charter log right) (inl refl) found now
+      (rising_of_right charter log right) (deeds_of_right charter log right) (inl refl) found now
 
-  never_settled : (log : List (Transaction Q P)) → revision_of settings_key log ≡ 0 → stored_settings log ≡ None
-  never_settled log now =
+  never_settled : (log : List (Transaction Q P)) → IsRising log → revision_of settings_key log ≡ 0
+      → stored_settings log ≡ None
+  never_settled log rising now =
       ap stored_settings (sym (append-nil log))
-      ∙ unwritten stored_settings settings_key settings_view log [] (inl refl)
+      ∙ unwritten stored_settings settings_key settings_view log [] (subst IsRising (sym (append-nil log)) rising)
+      (inl refl)
       (ap (revision_of settings_key) (append-nil log) ∙ now)
 
   absent_then : (log : List (Transaction Q P)) (server : ℕ)
@@ -94,14 +97,14 @@ module _ {Q P : Type 0} (charter : Charter Q P) where
   right_one : (log : List (Transaction Q P)) (deed : Deed Q P) → AreRight charter log
       → all_hold log (transaction_of deed).compares ≡ true → MayDo charter log deed → IsRight charter log deed
   right_one log (Electing process) right held may = tt
-  right_one log (Expiring key) right held may = may
+  right_one log (Expiring keys) right held may = may
   right_one log (Changing process shard change next elected placed) right held may =
       let first = first_held log leader_key elected (at placement_key placed ∷ []) held in
       let second = first_held log placement_key placed [] first.1 in
       let now = placement_stands log may.read placed right may.placement_was second.0 in
       record {
         within = may.within;
-        leads = leads_still log process elected may.led first.0;
+        leads = leads_still log process elected (rising_of_right charter log right) may.led first.0;
         allowed = subst (λ (p : Placement). IsTrue (charter.allows_change p shard change)) (sym now) may.allowed;
         changed = subst (λ (p : Placement). IsChanged charter.ceiling (p.records shard) change next) (sym now)
             may.changed;
@@ -109,12 +112,13 @@ module _ {Q P : Type 0} (charter : Charter Q P) where
   right_one log (Executing shard server items head stood logged) right held may =
       let first = first_held log (record_key shard) stood (at (head_key shard) logged ∷ []) held in
       let second = first_held log (head_key shard) logged [] first.1 in
+      let rising = rising_of_right charter log right in
       let now : stored_record shard log ≡ may.state =
       stands (stored_record shard) (record_key shard) (record_view shard) log may.state stood
-      (inl refl) may.record_was first.0 in
+      rising (inl refl) may.record_was first.0 in
       let whole : shard_log shard log ≡ record { head = head; items = may.before } =
       stands (shard_log shard) (head_key shard) (log_view shard) log
-      (record { head = head; items = may.before }) logged (inl refl) may.log_was second.0 in
+      (record { head = head; items = may.before }) logged rising (inl refl) may.log_was second.0 in
       let items_are : made shard log ≡ may.before = ap (λ (l : ShardLog Q). l.items) whole in
       record {
         within = may.within;
@@ -133,21 +137,23 @@ module _ {Q P : Type 0} (charter : Charter Q P) where
   right_one log (Naming shard head number parts logged) right held may =
       let first = first_held log (head_key shard) logged [] held in
       base_right log shard head number parts logged right
-      (stands (head_of shard) (head_key shard) (head_view shard) log head logged (inl refl) may.head_was first.0) may
-  right_one log (Clearing key) right held may = clear_right log key right may
+      (stands (head_of shard) (head_key shard) (head_view shard) log head logged (rising_of_right charter log right)
+      (inl refl) may.head_was first.0) may
+  right_one log (Clearing keys) right held may =
+      all_map (MayClear charter log) (IsBehind charter log) (λ key one. clear_right log key right one) keys may
   right_one log (Restarting process server state elected placed) right held may =
       let absences = absence_compares server state in
       let first = first_held log leader_key elected (at placement_key placed ∷ absences) held in
       let second = first_held log placement_key placed absences first.1 in
       let now = placement_stands log may.read placed right may.placement_was second.0 in
       record {
-        leads = leads_still log process elected may.led first.0;
+        leads = leads_still log process elected (rising_of_right charter log right) may.led first.0;
         allowed = subst (λ (p : Placement). IsTrue (charter.allows_state p server state)) (sym now) may.allowed;
         absent = λ is. absent_then log server (subst (λ (s : ServerState).
             all_hold log (absence_compares server s) ≡ true) is second.1);
       }
   right_one log (Settling settings) right held may =
-      never_settled log (first_held log settings_key 0 [] held).0
+      never_settled log (rising_of_right charter log right) (first_held log settings_key 0 [] held).0
   right_one log (Following server revision) right held may = tt
   right_one log (Checking compares) right held may = tt
   right_one log Foreign right held may = tt
@@ -155,13 +161,12 @@ module _ {Q P : Type 0} (charter : Charter Q P) where
   pub honest_is_right : (log : List (Transaction Q P)) → IsHonest charter log → AreRight charter log
   honest_is_right [] honest = tt
   honest_is_right (txn ∷ earlier) honest =
-      let right = honest_is_right earlier honest.2 in
-      let held : all_hold earlier (transaction_of honest.1.deed).compares ≡ true =
-      subst (λ (t : Transaction Q P). all_hold earlier t.compares ≡ true) honest.1.is honest.0 in (
-        record {
-          deed = honest.1.deed;
-          is = honest.1.is;
-          right = right_one earlier honest.1.deed right held honest.1.may;
-        },
+      let right = honest_is_right earlier honest.1 in
+      let one = honest.0 in
+      let deed = one.may.deed in
+      let is : txn ≡ done_at txn.revision deed = one.is ∙ ap (made_at txn.revision) one.may.is in
+      let held : all_hold earlier (transaction_of deed).compares ≡ true =
+      subst (λ (t : Transaction Q P). all_hold earlier t.compares ≡ true) is one.held in (
+        record { above = one.above; deed = deed; is = is; right = right_one earlier deed right held one.may.may },
         right,
       )

@@ -1,24 +1,24 @@
 -- Every run is lawful.
-use Rattle.std.proofs.Common.{◌≡◌, ◌≤◌, ℕ, true, false, List, [], ◌∷◌, ◌++◌, length, refl, sym, ap, subst, ◌∙◌, arith}
-use Rattle.std.proofs.Common.{⊎_elim, inl, append_assoc, length-append}
+use Rattle.std.proofs.Common.{◌≡◌, ◌<◌, ◌≤◌, ℕ, true, false, List, [], ◌∷◌, ◌++◌, length, refl, sym, ap, subst, ◌∙◌}
+use Rattle.std.proofs.Common.{arith, ⊎_elim, inl, append_assoc, length-append}
 use Rattle.std.specs.Prelude.{Option, Some, None, IfSome, ◌==◌, slice_get}
-use Rattle.std.specs.List.{AllByRecursion}
-use Rattle.std.proofs.lemmas.Bool.{and_parts, cases_Bool, cond-true, cond-false, eqb-true}
+use Rattle.std.specs.List.{AllByRecursion, list_any}
+use Rattle.std.proofs.lemmas.Bool.{and_parts, cases_Bool, cond_both, cond-true, cond-false, eqb-true}
 use Rattle.sm_store.specs.declared.compare.Compare.{Compare}
 use Rattle.sm_store.specs.declared.item.Item.{Item}
 use Rattle.sm_store.specs.Clients.{Automaton, state_after, times}
-use Rattle.sm_store.specs.Store.{Transaction, Write, all_hold, head_key, made, revision_of}
-use Rattle.sm_store.specs.Deeds.{AreRight, Charter, IsHonest, MaySend, at}
+use Rattle.sm_store.specs.Store.{Transaction, all_hold, head_key, last_revision, made, made_at, revision_of}
+use Rattle.sm_store.specs.Deeds.{AreRight, Charter, IsHonest, MaySend, WasHonest, at}
 use Rattle.sm_store.specs.System.{Ask, Claim, Replies, Overtaken, Reads, Event, Comes, Sends, Reaches, Claims, Carried}
 use Rattle.sm_store.specs.System.{SentTransaction, System, IsLawful, IsReadSince, IsSo, May, MayClaim, MayRead}
 use Rattle.sm_store.specs.System.{MightHappen}
-use Rattle.sm_store.specs.System.{StaysOvertaken, extended, happens, after_reaching, system_after}
+use Rattle.sm_store.specs.System.{StaysOvertaken, extended, happens, leaves_trace, after_reaching, system_after}
 use Rattle.sm_store.specs.lemmas.Growth.{made_next, send_grows, so_asked, so_grows}
 use Rattle.sm_store.specs.lemmas.Logs.{GoesOnFrom, all_among, all_map, at_place, log_step}
 use Rattle.sm_store.specs.lemmas.Heart.{stood_then}
 use Rattle.sm_store.proofs.Once.{once, overtaken_grows}
 use Rattle.sm_store.proofs.Right.{honest_is_right}
-use Rattle.sm_store.specs.lemmas.Views.{made_view}
+use Rattle.sm_store.specs.lemmas.Views.{made_view, rising_of_right}
 use Rattle.sm_store.specs.lemmas.Whole.{whole}
 
 module _ {Q P : Type 0} where
@@ -59,13 +59,13 @@ module _ {Q P : Type 0} where
     holds = was.holds;
   }
 
-  extended_grows : (charter : Charter Q P) (txn : Transaction Q P) (writes : List (Write Q P))
-      (log : List (Transaction Q P))
-      → all_hold log txn.compares ≡ true → MaySend charter log txn → IsHonest charter log
-      → (more : List (Transaction Q P)) × (extended txn writes log ≡ more ++ log)
-      × IsHonest charter (extended txn writes log)
-  extended_grows charter txn [] log held may honest = ([], refl, honest)
-  extended_grows charter txn (write ∷ writes) log held may honest = (txn ∷ [], refl, (held, may, honest))
+  extended_grows : (charter : Charter Q P) (txn : Transaction Q P) (log : List (Transaction Q P))
+      → WasHonest charter log txn → IsHonest charter log
+      → (more : List (Transaction Q P)) × (extended txn log ≡ more ++ log) × IsHonest charter (extended txn log)
+  extended_grows charter txn log one honest =
+      cond_both (list_any (leaves_trace log) txn.writes) (txn ∷ log) log
+      (λ (new : List (Transaction Q P)). (more : List (Transaction Q P)) × (new ≡ more ++ log) × IsHonest charter new)
+      (λ _. (txn ∷ [], refl, (one, honest))) (λ _. ([], refl, honest))
 
 module _ {Q P R S : Type 0} (service : Automaton S Q R) (charter : Charter Q P) where
   pub record IsSoundSystem (system : System Q P R) : Type 0 where
@@ -100,12 +100,14 @@ module _ {Q P R S : Type 0} (service : Automaton S Q R) (charter : Charter Q P) 
         system.claims sound.claims;
   }
 
-  reached_sound : (system : System Q P R) (found : Option (SentTransaction Q P)) → IsSoundSystem system
-      → IfSome found (IsSendable charter system.log) → IsSoundSystem (after_reaching system found)
-  reached_sound system None sound may = sound
-  reached_sound system (Some sent) sound may =
+  reached_sound : (system : System Q P R) (revision : ℕ) (found : Option (SentTransaction Q P))
+      → IsSoundSystem system → last_revision system.log < revision
+      → IfSome found (IsSendable charter system.log) → IsSoundSystem (after_reaching system revision found)
+  reached_sound system revision None sound above may = sound
+  reached_sound system revision (Some sent) sound above may =
+      let txn = made_at revision sent.txn in
       let made_one : System Q P R = record {
-        log = extended sent.txn sent.txn.writes system.log;
+        log = extended txn system.log;
         asked = system.asked;
         sent = system.sent;
         held = record { txn = sent.txn; since = sent.since; moment = system.log } ∷ system.held;
@@ -113,8 +115,15 @@ module _ {Q P R S : Type 0} (service : Automaton S Q R) (charter : Charter Q P) 
       } in
       ⊎_elim
       (λ (yes : all_hold system.log sent.txn.compares ≡ true).
-      let goes = extended_grows charter sent.txn sent.txn.writes system.log yes may.may sound.honest in
-      let old = grown system (extended sent.txn sent.txn.writes system.log) goes.0 goes.1 goes.2 sound in
+      let one : WasHonest charter system.log txn = record {
+        above = above;
+        held = yes;
+        sent = sent.txn;
+        is = refl;
+        may = may.may;
+      } in
+      let goes = extended_grows charter txn system.log one sound.honest in
+      let old = grown system (extended txn system.log) goes.0 goes.1 goes.2 sound in
       let now : IsSoundSystem made_one = record {
         honest = goes.2;
         sent = old.sent;
@@ -140,7 +149,8 @@ module _ {Q P R S : Type 0} (service : Automaton S Q R) (charter : Charter Q P) 
       (compare_held may.held.moment may.held.txn.compares did.holds) may.compared in
       let items_are : made shard may.held.moment ≡ may.items =
       stood_then (made shard) (head_key shard) (made_view shard) system.log may.items may.revision
-      (inl refl) may.items_were did.later may.held.moment did.is now in
+      (rising_of_right charter system.log (honest_is_right charter system.log sound.honest)) (inl refl) may.items_were
+      did.later may.held.moment did.is now in
       record {
         ask = may.ask;
         was_asked = may.was_asked;
@@ -188,8 +198,8 @@ module _ {Q P R S : Type 0} (service : Automaton S Q R) (charter : Charter Q P) 
             sound.held;
         claims = sound.claims;
       }
-  sound_step system (Reaches which) sound may =
-      reached_sound system (slice_get system.sent which) sound
+  sound_step system (Reaches which revision) sound may =
+      reached_sound system revision (slice_get system.sent which) sound may
       (at_place (IsSendable charter system.log) system.sent which sound.sent)
   sound_step system (Claims claim) sound may =
       record {

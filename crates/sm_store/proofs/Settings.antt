@@ -9,14 +9,14 @@ module _ {Q P : Type 0} (charter : Charter Q P) where
   stays_one : (log : List (Transaction Q P)) (deed : Deed Q P) (settings : List ℕ) → IsRight charter log deed
       → stored_settings log ≡ Some settings → stored_settings (transaction_of deed ∷ log) ≡ Some settings
   stays_one log (Electing process) settings right has = has
-  stays_one log (Expiring key) settings right has = has
+  stays_one log (Expiring keys) settings right has = has
   stays_one log (Changing process shard change next elected placed) settings right has = has
   stays_one log (Restarting process server state elected placed) settings right has = has
   stays_one log (Settling others) settings right has = absurd (none-some settings (sym right ∙ has))
   stays_one log (Executing shard server items head stood logged) settings right has = has
   stays_one log (Basing shard number place part) settings right has = has
   stays_one log (Naming shard head number parts logged) settings right has = has
-  stays_one log (Clearing key) settings right has = has
+  stays_one log (Clearing keys) settings right has = has
   stays_one log (Following server revision) settings right has = has
   stays_one log (Checking compares) settings right has = has
   stays_one log Foreign settings right has = has

@@ -56,7 +56,7 @@ module _ {Q R S : Type 0} (P : Type 0) (service : Automaton S Q R) where
   HaveReads reads (Claims claim ∷ earlier) = HasRead reads (length earlier) claim × HaveReads reads earlier
   HaveReads reads (Comes at client number request ∷ earlier) = HaveReads reads earlier
   HaveReads reads (Sends txn ∷ earlier) = HaveReads reads earlier
-  HaveReads reads (Reaches which ∷ earlier) = HaveReads reads earlier
+  HaveReads reads (Reaches which revision ∷ earlier) = HaveReads reads earlier
 
   read_more : (one : Told) (reads : List Told) (told : ℕ) (claim : Claim Q R) → HasRead reads told claim
       → HasRead (one ∷ reads) told claim
@@ -71,7 +71,7 @@ module _ {Q R S : Type 0} (P : Type 0) (service : Automaton S Q R) where
       (read_more one reads (length earlier) claim has.0, reads_more one reads earlier has.1)
   reads_more one reads (Comes at client number request ∷ earlier) has = reads_more one reads earlier has
   reads_more one reads (Sends txn ∷ earlier) has = reads_more one reads earlier has
-  reads_more one reads (Reaches which ∷ earlier) has = reads_more one reads earlier has
+  reads_more one reads (Reaches which revision ∷ earlier) has = reads_more one reads earlier has
 
   pub record AllReads (events : List (Event Q P R)) : Type 0 where
     pub reads : List Told
@@ -152,5 +152,5 @@ module _ {Q R S : Type 0} (P : Type 0) (service : Automaton S Q R) where
       same_reads (Comes at client number request) earlier (λ reads have. have) (all_reads charter earlier might.1)
   all_reads charter (Sends txn ∷ earlier) might =
       same_reads (Sends txn) earlier (λ reads have. have) (all_reads charter earlier might.1)
-  all_reads charter (Reaches which ∷ earlier) might =
-      same_reads (Reaches which) earlier (λ reads have. have) (all_reads charter earlier might.1)
+  all_reads charter (Reaches which revision ∷ earlier) might =
+      same_reads (Reaches which revision) earlier (λ reads have. have) (all_reads charter earlier might.1)

@@ -206,7 +206,7 @@ module _ {Q R S : Type 0} (P : Type 0) (service : Automaton S Q R) where
       → AreAskedFor earlier
   asked_before (Comes at client number request) earlier asked = asked
   asked_before (Sends txn) earlier asked = asked.1
-  asked_before (Reaches which) earlier asked = asked
+  asked_before (Reaches which revision) earlier asked = asked
   asked_before (Claims claim) earlier asked = asked
 
   pub asked_then : (later moment : List (Event Q P R)) → AreAskedFor (later ++ moment) → AreAskedFor moment

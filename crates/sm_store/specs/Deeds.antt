@@ -21,6 +21,7 @@ use Rattle.sm_store.specs.Store.{Transaction, Leads, Stands, Heads, Executes, Ba
 use Rattle.sm_store.specs.Store.{Enters, Commands, Settles, Placement, leader_key, record_key, head_key, part_key}
 use Rattle.sm_store.specs.Store.{placement_key, settings_key, revision_of, all_hold, leader_of, stored_record}
 use Rattle.sm_store.specs.Store.{placement_of, server_key, stored_settings, head_of, part_at, made, made_until}
+use Rattle.sm_store.specs.Store.{last_revision, made_at, unmade}
 
 -- what all processes go by: how many shards there are, the greatest generation of a record, which changes and states
 -- the control allows by the records and states as they are, and the parts of a base that stands for requests
@@ -35,8 +36,8 @@ pub record Charter (Q P : Type 0) : Type 0 where
 pub data Deed (Q P : Type 0) : Type 0 where
   -- a process is elected
   Electing : (process : ℕ) → Deed Q P
-  -- a lease ends, and its key goes
-  Expiring : (key : PassingKey) → Deed Q P
+  -- a lease ends, and its keys go
+  Expiring : (keys : List PassingKey) → Deed Q P
   -- a process that leads changes a shard's record; it read its election at the first revision, and all records and
   -- states at the second
   Changing : (process shard : ℕ) (change : Change) (next : Record) (elected placed : ℕ) → Deed Q P
@@ -50,8 +51,8 @@ pub data Deed (Q P : Type 0) : Type 0 where
   Basing : (shard number place : ℕ) (part : P) → Deed Q P
   -- a head that was read at this revision comes to name the base of so many batches, in so many parts
   Naming : (shard : ℕ) (head : Head) (number parts logged : ℕ) → Deed Q P
-  -- what lies behind the base is deleted
-  Clearing : (key : PassingKey) → Deed Q P
+  -- what lies behind bases is deleted
+  Clearing : (keys : List PassingKey) → Deed Q P
   -- a server says up to which revision it has read
   Following : (server revision : ℕ) → Deed Q P
   -- compares alone
@@ -75,35 +76,30 @@ absence_compares server _ = []
 
 -- the transaction of a deed
 abbrev pub transaction_of : {Q P : Type 0} → Deed Q P → Transaction Q P
-transaction_of (Electing process) = record { compares = []; writes = Leads process ∷ [] }
-transaction_of (Expiring key) = record { compares = []; writes = Deletes key ∷ [] }
+transaction_of (Electing process) = unmade [] (Leads process ∷ [])
+transaction_of (Expiring keys) = unmade [] (Deletes keys ∷ [])
 transaction_of (Changing process shard change next elected placed) =
-    record {
-      compares = command_compares elected placed;
-      writes = Stands process shard change next ∷ Commands process ∷ [];
-    }
+    unmade (command_compares elected placed) (Stands process shard change next ∷ Commands process ∷ [])
 transaction_of (Restarting process server state elected placed) =
-    record {
-      compares = command_compares elected placed ++ absence_compares server state;
-      writes = Enters process server state ∷ Commands process ∷ [];
-    }
-transaction_of (Settling settings) = record { compares = at settings_key 0 ∷ []; writes = Settles settings ∷ [] }
+    unmade (command_compares elected placed ++ absence_compares server state)
+    (Enters process server state ∷ Commands process ∷ [])
+transaction_of (Settling settings) = unmade (at settings_key 0 ∷ []) (Settles settings ∷ [])
 transaction_of (Executing shard server items head stood logged) =
-    record {
-      compares = at (record_key shard) stood ∷ at (head_key shard) logged ∷ [];
-      writes = Heads shard (record { batches = head.batches + 1; base = head.base; parts = head.parts })
-          ∷ Executes shard (head.batches + 1) server items ∷ [];
-    }
-transaction_of (Basing shard number place part) = record { compares = []; writes = Bases shard number place part ∷ [] }
+    unmade (at (record_key shard) stood ∷ at (head_key shard) logged ∷ [])
+    (Heads shard (record { batches = head.batches + 1; base = head.base; parts = head.parts })
+    ∷ Executes shard (head.batches + 1) server items ∷ [])
+transaction_of (Basing shard number place part) = unmade [] (Bases shard number place part ∷ [])
 transaction_of (Naming shard head number parts logged) =
-    record {
-      compares = at (head_key shard) logged ∷ [];
-      writes = Heads shard (record { batches = head.batches; base = number; parts = parts }) ∷ [];
-    }
-transaction_of (Clearing key) = record { compares = []; writes = Deletes key ∷ [] }
-transaction_of (Following server revision) = record { compares = []; writes = Follows server revision ∷ [] }
-transaction_of (Checking compares) = record { compares = compares; writes = [] }
-transaction_of Foreign = record { compares = []; writes = Elsewhere ∷ [] }
+    unmade (at (head_key shard) logged ∷ [])
+    (Heads shard (record { batches = head.batches; base = number; parts = parts }) ∷ [])
+transaction_of (Clearing keys) = unmade [] (Deletes keys ∷ [])
+transaction_of (Following server revision) = unmade [] (Follows server revision ∷ [])
+transaction_of (Checking compares) = unmade compares []
+transaction_of Foreign = unmade [] (Elsewhere ∷ [])
+
+-- the deed's transaction, as the store makes it at this revision
+abbrev pub done_at : {Q P : Type 0} → ℕ → Deed Q P → Transaction Q P
+done_at revision deed = made_at revision (transaction_of deed)
 
 -- at some moment the view had this value, and its key was last written at this revision
 pub record WasFound {Q P A : Type 0} (view : List (Transaction Q P) → A) (key : StoreKey)
@@ -213,7 +209,7 @@ MayClear charter log _ = ⊥
 
 -- a process may do this; who is elected, when a lease ends, and what is written elsewhere, is left to others
 abbrev pub MayDo : {Q P : Type 0} → Charter Q P → List (Transaction Q P) → Deed Q P → Type 0
-MayDo charter log (Expiring key) = IsTrue (is_leased key)
+MayDo charter log (Expiring keys) = AllByRecursion (λ key. IsTrue (is_leased key)) keys
 MayDo charter log (Changing process shard change next elected placed) =
     MayChange charter log process shard change next elected placed
 MayDo charter log (Restarting process server state elected placed) =
@@ -222,21 +218,29 @@ MayDo charter log (Executing shard server items head stood logged) =
     MayExecute charter log shard server items head stood logged
 MayDo charter log (Basing shard number place part) = MayBase charter log shard number place part
 MayDo charter log (Naming shard head number parts logged) = MayName charter log shard head number parts logged
-MayDo charter log (Clearing key) = MayClear charter log key
+MayDo charter log (Clearing keys) = AllByRecursion (MayClear charter log) keys
 MayDo charter log _ = Unit {0}
 
--- the transaction is that of a deed that a process may do
+-- what is sent is the transaction of a deed that the process may do
 pub record MaySend {Q P : Type 0} (charter : Charter Q P) (log : List (Transaction Q P))
     (txn : Transaction Q P) : Type 0 where
   pub deed : Deed Q P
   pub is : txn ≡ transaction_of deed
   pub may : MayDo charter log deed
 
--- each transaction was one that might be sent, and was made as its compares held
+-- the transaction was one that might be sent, and was made as its compares held, at a revision above those before it
+pub record WasHonest {Q P : Type 0} (charter : Charter Q P) (log : List (Transaction Q P))
+    (txn : Transaction Q P) : Type 0 where
+  pub above : last_revision log < txn.revision
+  pub held : IsTrue (all_hold log txn.compares)
+  pub sent : Transaction Q P
+  pub is : txn ≡ made_at txn.revision sent
+  pub may : MaySend charter log sent
+
+-- each transaction was honest at the store before it
 abbrev pub IsHonest : {Q P : Type 0} → Charter Q P → List (Transaction Q P) → Type 0
 IsHonest charter [] = Unit {0}
-IsHonest charter (txn ∷ earlier) = IsTrue (all_hold earlier txn.compares) × MaySend charter earlier txn
-    × IsHonest charter earlier
+IsHonest charter (txn ∷ earlier) = WasHonest charter earlier txn × IsHonest charter earlier
 
 -- below, `log` is the store before the deed
 
@@ -290,7 +294,7 @@ IsBehind charter log _ = ⊥
 
 -- the deed is right for the store as it is
 abbrev pub IsRight : {Q P : Type 0} → Charter Q P → List (Transaction Q P) → Deed Q P → Type 0
-IsRight charter log (Expiring key) = IsTrue (is_leased key)
+IsRight charter log (Expiring keys) = AllByRecursion (λ key. IsTrue (is_leased key)) keys
 IsRight charter log (Changing process shard change next elected placed) =
     IsRightChange charter log process shard change next
 IsRight charter log (Restarting process server state elected placed) = IsRightRestart charter log process server state
@@ -298,14 +302,15 @@ IsRight charter log (Settling settings) = stored_settings log ≡ None
 IsRight charter log (Executing shard server items head stood logged) = IsRightBatch charter log shard server items head
 IsRight charter log (Basing shard number place part) = IsRightPart charter log shard number place part
 IsRight charter log (Naming shard head number parts logged) = IsRightBase charter log shard head number parts
-IsRight charter log (Clearing key) = IsBehind charter log key
+IsRight charter log (Clearing keys) = AllByRecursion (IsBehind charter log) keys
 IsRight charter log _ = Unit {0}
 
--- the transaction is that of a deed that is right
+-- the transaction is that of a deed that is right, at a revision above those before it
 pub record WasRight {Q P : Type 0} (charter : Charter Q P) (log : List (Transaction Q P))
     (txn : Transaction Q P) : Type 0 where
+  pub above : last_revision log < txn.revision
   pub deed : Deed Q P
-  pub is : txn ≡ transaction_of deed
+  pub is : txn ≡ done_at txn.revision deed
   pub right : IsRight charter log deed
 
 -- each transaction was right for the store before it

@@ -1,7 +1,7 @@
--- The store: its transactions, the latest first, and what they leave. A transaction's revision is its place in this
--- order.
-use Rattle.std.specs.Prelude.{ℕ, Bool, true, false, Option, Some, None, nat_lt, ◌==◌, ◌&&◌, ◌+◌, List, [], ◌∷◌, ◌++◌}
-use Rattle.std.specs.Prelude.{length, if◌then◌else◌}
+-- The store: its transactions, the latest first, and what they leave. Each has its own revision, and revisions rise
+-- along the log.
+use Rattle.std.specs.Prelude.{ℕ, Bool, true, false, Option, Some, None, nat_lt, ◌==◌, ◌&&◌, ◌<◌, List, [], ◌∷◌, ◌++◌}
+use Rattle.std.specs.Prelude.{if◌then◌else◌}
 use Rattle.std.specs.List.{list_all, list_any}
 use Rattle.sm_ownership.specs.declared.change.Change.{Change}
 use Rattle.sm_ownership.specs.declared.record.Record.{Record}
@@ -20,7 +20,7 @@ use Rattle.sm_store.specs.declared.store_key.PassingKey.TheVariants.{Leader, Ser
 use Rattle.sm_store.specs.declared.store_key.StoreKey.{StoreKey}
 use Rattle.sm_store.specs.declared.store_key.StoreKey.TheVariants.{Lasting, Passing}
 
--- what a transaction writes to one key
+-- what a transaction writes to one key, or which keys it deletes
 pub data Write (Q P : Type 0) : Type 0 where
   -- a process leads
   Leads : (process : ℕ) → Write Q P
@@ -40,15 +40,35 @@ pub data Write (Q P : Type 0) : Type 0 where
   Bases : (shard number place : ℕ) (part : P) → Write Q P
   -- a server is there, and has read the store up to this revision
   Follows : (server revision : ℕ) → Write Q P
-  -- the key is deleted
-  Deletes : (key : PassingKey) → Write Q P
+  -- these keys are deleted
+  Deletes : (keys : List PassingKey) → Write Q P
   -- something else is written
   Elsewhere : Write Q P
 
--- it is made as a whole, if each compare holds, and else not at all
+-- it is made as a whole, if each compare holds, and else not at all; the store gives it its revision then, 0 before
 pub record Transaction (Q P : Type 0) : Type 0 where
+  pub revision : ℕ
   pub compares : List Compare
   pub writes : List (Write Q P)
+
+-- one that the store hasn't made
+abbrev pub unmade : {Q P : Type 0} → List Compare → List (Write Q P) → Transaction Q P
+unmade compares writes = record { revision = 0; compares = compares; writes = writes }
+
+-- the same, as the store makes it at this revision
+abbrev pub made_at : {Q P : Type 0} → ℕ → Transaction Q P → Transaction Q P
+made_at revision txn = record { revision = revision; compares = txn.compares; writes = txn.writes }
+
+-- the revision of the latest transaction, 0 where there is none
+abbrev pub last_revision : {Q P : Type 0} → List (Transaction Q P) → ℕ
+last_revision [] = 0
+last_revision (txn ∷ earlier) = txn.revision
+
+-- each transaction has a revision above that of the one before it: above, and not the next one, because the store's
+-- revision also rises by what isn't in this log
+abbrev pub IsRising : {Q P : Type 0} → List (Transaction Q P) → Type 0
+IsRising [] = Unit {0}
+IsRising (txn ∷ earlier) = (last_revision earlier < txn.revision) × IsRising earlier
 
 -- the key of who leads
 abbrev pub leader_key : StoreKey
@@ -86,25 +106,6 @@ batch_key shard number = Passing (Batch shard number)
 abbrev pub part_key : ℕ → ℕ → ℕ → StoreKey
 part_key shard number place = Passing (Part shard number place)
 
--- the key that is written
-abbrev pub written_key : {Q P : Type 0} → Write Q P → StoreKey
-written_key (Leads process) = leader_key
-written_key (Stands process shard change next) = record_key shard
-written_key (Enters process server state) = state_key server
-written_key (Commands process) = placement_key
-written_key (Settles settings) = settings_key
-written_key (Heads shard head) = head_key shard
-written_key (Executes shard number server items) = batch_key shard number
-written_key (Bases shard number place part) = part_key shard number place
-written_key (Follows server revision) = server_key server
-written_key (Deletes key) = Passing key
-written_key Elsewhere = Passing Other
-
--- the write deletes its key
-abbrev pub is_deletion : {Q P : Type 0} → Write Q P → Bool
-is_deletion (Deletes key) = true
-is_deletion _ = false
-
 -- two keys that are never deleted are the same
 abbrev pub same_lasting : LastingKey → LastingKey → Bool
 same_lasting (RecordKey a) (RecordKey b) = a == b
@@ -129,6 +130,29 @@ same_store_key (Lasting a) (Lasting b) = same_lasting a b
 same_store_key (Passing a) (Passing b) = same_passing a b
 same_store_key _ _ = false
 
+-- the write is one of this key
+abbrev pub is_write_of : {Q P : Type 0} → StoreKey → Write Q P → Bool
+is_write_of key (Leads process) = same_store_key leader_key key
+is_write_of key (Stands process shard change next) = same_store_key (record_key shard) key
+is_write_of key (Enters process server state) = same_store_key (state_key server) key
+is_write_of key (Commands process) = same_store_key placement_key key
+is_write_of key (Settles settings) = same_store_key settings_key key
+is_write_of key (Heads shard head) = same_store_key (head_key shard) key
+is_write_of key (Executes shard number server items) = same_store_key (batch_key shard number) key
+is_write_of key (Bases shard number place part) = same_store_key (part_key shard number place) key
+is_write_of key (Follows server revision) = same_store_key (server_key server) key
+is_write_of key (Deletes keys) = list_any (λ one. same_store_key (Passing one) key) keys
+is_write_of key Elsewhere = same_store_key (Passing Other) key
+
+-- the write deletes its keys
+abbrev pub is_deletion : {Q P : Type 0} → Write Q P → Bool
+is_deletion (Deletes keys) = true
+is_deletion _ = false
+
+-- a deletion of these keys is one of this key
+abbrev pub deletes_key : List PassingKey → PassingKey → Bool
+deletes_key keys key = list_any (λ one. same_passing one key) keys
+
 -- the writes leave this of a value, one after the other
 abbrev pub left_by : {A W : Type 0} → (A → W → A) → A → List W → A
 left_by one before [] = before
@@ -137,12 +161,12 @@ left_by one before (write ∷ writes) = left_by one (one before write) writes
 -- a write of the key leaves it at this revision, or at none where it is deleted
 abbrev pub revised : {Q P : Type 0} → StoreKey → ℕ → ℕ → Write Q P → ℕ
 revised key now before write =
-    if same_store_key (written_key write) key then (if is_deletion write then 0 else now) else before
+    if is_write_of key write then (if is_deletion write then 0 else now) else before
 
 -- the revision at which the key was last written, 0 where it isn't there
 abbrev pub revision_of : {Q P : Type 0} → StoreKey → List (Transaction Q P) → ℕ
 revision_of key [] = 0
-revision_of key (txn ∷ earlier) = left_by (revised key (length earlier + 1)) (revision_of key earlier) txn.writes
+revision_of key (txn ∷ earlier) = left_by (revised key txn.revision) (revision_of key earlier) txn.writes
 
 -- each compare holds
 abbrev pub all_hold : {Q P : Type 0} → List (Transaction Q P) → List Compare → Bool
@@ -156,7 +180,7 @@ view_from one start (txn ∷ earlier) = left_by one (view_from one start earlier
 -- who leads after a write, 0 where nobody does
 abbrev pub led : {Q P : Type 0} → ℕ → Write Q P → ℕ
 led before (Leads process) = process
-led before (Deletes key) = if same_passing key Leader then 0 else before
+led before (Deletes keys) = if deletes_key keys Leader then 0 else before
 led before _ = before
 
 -- who leads, 0 where nobody does
@@ -212,7 +236,7 @@ head_of shard log = view_from (headed shard) (record { batches = 0; base = 0; pa
 -- the batch at a number after a write
 abbrev pub batched : {Q P : Type 0} → ℕ → ℕ → Option (List (Item Q)) → Write Q P → Option (List (Item Q))
 batched shard number before (Executes at n server items) = if at == shard && n == number then Some items else before
-batched shard number before (Deletes key) = if same_passing key (Batch shard number) then None else before
+batched shard number before (Deletes keys) = if deletes_key keys (Batch shard number) then None else before
 batched shard number before _ = before
 
 -- the batch that stands at a number
@@ -223,7 +247,7 @@ batch_at shard number log = view_from (batched shard number) None log
 abbrev pub based_on : {Q P : Type 0} → ℕ → ℕ → ℕ → Option P → Write Q P → Option P
 based_on shard number place before (Bases at n i part) =
     if at == shard && (n == number && i == place) then Some part else before
-based_on shard number place before (Deletes key) = if same_passing key (Part shard number place) then None else before
+based_on shard number place before (Deletes keys) = if deletes_key keys (Part shard number place) then None else before
 based_on shard number place before _ = before
 
 -- the part of a base that stands at a place
@@ -232,7 +256,7 @@ part_at shard number place log = view_from (based_on shard number place) None lo
 
 -- a write of this key is among these
 abbrev pub touches : {Q P : Type 0} → StoreKey → List (Write Q P) → Bool
-touches key writes = list_any (λ write. same_store_key (written_key write) key) writes
+touches key writes = list_any (λ write. is_write_of key write) writes
 
 -- the requests of a shard in the batches among these writes
 abbrev pub executed_by : {Q P : Type 0} → ℕ → List (Write Q P) → List (Item Q)

@@ -1,12 +1,14 @@
 -- All processes and the store, over every order of events. Messages come late, twice, or never, and in any order: what
 -- was once sent to the store may reach it at any later moment, any number of times. Processes stop, forget and start at
 -- any moment: nothing here rests on what they remember, but only on what they send and claim.
-use Rattle.std.specs.Prelude.{ℕ, Option, Some, None, IsTrue, ◌≡◌, ◌≤◌, ◌⊎◌, List, [], ◌∷◌, ◌++◌, length, slice_get}
-use Rattle.std.specs.Prelude.{if◌then◌else◌}
-use Rattle.std.specs.List.{AllByRecursion}
+use Rattle.std.specs.Prelude.{ℕ, Option, Some, None, IsTrue, ◌≡◌, ◌<◌, ◌≤◌, ◌⊎◌, List, [], ◌∷◌, ◌++◌, length, slice_get}
+use Rattle.std.specs.Prelude.{Bool, true, not, ◌==◌, if◌then◌else◌}
+use Rattle.std.specs.List.{AllByRecursion, list_any}
 use Rattle.sm_store.specs.declared.item.Item.{Item}
 use Rattle.sm_store.specs.Clients.{Automaton, IsOver, reply_in, state_after, times}
-use Rattle.sm_store.specs.Store.{Transaction, Write, all_hold, head_key, made}
+use Rattle.sm_store.specs.declared.store_key.StoreKey.TheVariants.{Passing}
+use Rattle.sm_store.specs.Store.{Transaction, Write, Deletes, all_hold, head_key, last_revision, made, made_at}
+use Rattle.sm_store.specs.Store.{revision_of}
 use Rattle.sm_store.specs.Deeds.{AreRight, Charter, MaySend, WasFound, at}
 use Rattle.sm_store.specs.Whole.{IsLogWhole}
 
@@ -52,24 +54,27 @@ pub data Event (Q P R : Type 0) : Type 0 where
   Comes : (shard client number : ℕ) (request : Q) → Event Q P R
   -- a process sends a transaction
   Sends : (txn : Transaction Q P) → Event Q P R
-  -- one that was sent, or a copy of it, reaches the store
-  Reaches : (which : ℕ) → Event Q P R
+  -- one that was sent, or a copy of it, reaches the store, which makes it at this revision, where its compares hold
+  Reaches : (which revision : ℕ) → Event Q P R
   -- a process claims something to a client
   Claims : (claim : Claim Q R) → Event Q P R
 
--- the log with a transaction that is made; one that writes nothing leaves no trace
-abbrev pub extended : {Q P : Type 0} → Transaction Q P → List (Write Q P) → List (Transaction Q P)
-    → List (Transaction Q P)
-extended txn [] log = log
-extended txn (write ∷ writes) log = txn ∷ log
+-- the write changes the store: a deletion does only where one of its keys is there
+abbrev pub leaves_trace : {Q P : Type 0} → List (Transaction Q P) → Write Q P → Bool
+leaves_trace log (Deletes keys) = list_any (λ key. not (revision_of (Passing key) log == 0)) keys
+leaves_trace log _ = true
 
--- the store makes a transaction that reaches it, where its compares hold
-abbrev pub after_reaching : {Q P R : Type 0} → System Q P R → Option (SentTransaction Q P) → System Q P R
-after_reaching system None = system
-after_reaching system (Some sent) =
+-- the log with a transaction that is made; one that changes nothing leaves no trace
+abbrev pub extended : {Q P : Type 0} → Transaction Q P → List (Transaction Q P) → List (Transaction Q P)
+extended txn log = if list_any (leaves_trace log) txn.writes then txn ∷ log else log
+
+-- the store makes a transaction that reaches it, at this revision, where its compares hold
+abbrev pub after_reaching : {Q P R : Type 0} → System Q P R → ℕ → Option (SentTransaction Q P) → System Q P R
+after_reaching system revision None = system
+after_reaching system revision (Some sent) =
     if all_hold system.log sent.txn.compares
     then record system {
-      log = extended sent.txn sent.txn.writes system.log;
+      log = extended (made_at revision sent.txn) system.log;
       held = record { txn = sent.txn; since = sent.since; moment = system.log } ∷ system.held;
     }
     else system
@@ -128,11 +133,12 @@ abbrev pub MayClaim : {Q P R S : Type 0} → Automaton S Q R → System Q P R �
 MayClaim service system (Reads shard client number answer) = MayRead service system shard client number answer
 MayClaim service system claim = IsSo service system.asked system.log claim
 
--- what may happen: a process sends what it may, and claims what it knows
+-- what may happen: a process sends what it may, and claims what it knows; the store's revision rises, by one or by more
 abbrev pub May : {Q P R S : Type 0} → Automaton S Q R → Charter Q P → System Q P R → Event Q P R → Type 0
 May service charter system (Sends txn) = MaySend charter system.log txn
 May service charter system (Claims claim) = MayClaim service system claim
-May service charter system _ = Unit {0}
+May service charter system (Reaches which revision) = last_revision system.log < revision
+May service charter system (Comes shard client number request) = Unit {0}
 
 -- the system after an event
 abbrev pub happens : {Q P R : Type 0} → System Q P R → Event Q P R → System Q P R
@@ -143,7 +149,7 @@ happens system (Comes shard client number request) =
     }
 happens system (Sends txn) =
     record system { sent = record { txn = txn; since = length system.log } ∷ system.sent }
-happens system (Reaches which) = after_reaching system (slice_get system.sent which)
+happens system (Reaches which revision) = after_reaching system revision (slice_get system.sent which)
 happens system (Claims claim) = record system { claims = claim ∷ system.claims }
 
 -- the system after these events, the latest first

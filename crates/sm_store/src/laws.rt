@@ -10,22 +10,23 @@ ghost use Rattle.sm_store.specs.Clients.{Automaton, ReadsLeave};
 ghost use Rattle.sm_store.specs.Histories.{history_of};
 ghost use Rattle.sm_store.specs.Linear.{AreAskedFor, AreFresh, Cut, HasCome, IsLinear, IsOwn, IsTold, Operation};
 ghost use Rattle.sm_store.specs.Linear.{StandsBefore};
-ghost use Rattle.sm_store.specs.Store.{Transaction, made, head_key, leader_key, leader_of, record_key, revision_of};
+ghost use Rattle.sm_store.specs.Store.{IsRising, Transaction, made, head_key, leader_key, leader_of, record_key};
+ghost use Rattle.sm_store.specs.Store.{revision_of};
 ghost use Rattle.sm_store.specs.Store.{stored_record, stored_settings};
 ghost use Rattle.sm_store.specs.Store.{server_key, stored_state};
 ghost use Rattle.sm_store.specs.Deeds.{AreRight, Charter, IsHonest, ShardLog, WasFound, shard_log};
 ghost use Rattle.sm_store.specs.System.{Event, IsAmong, IsLawful, MightHappen, StaysOvertaken, system_after};
 ghost use Rattle.sm_store.specs.Whole.{IsLogWhole};
 
-/// What was read stands, where its key's revision is still the one that was read.
+/// What was read stands, where its key's revision is still the one that was read, since revisions rise along the log.
 pub fn read_stands<Q, P>()
-    ensures leader { (log : List (Transaction Q P)) (process revision : ℕ) → 0 < revision
+    ensures leader { (log : List (Transaction Q P)) (process revision : ℕ) → IsRising log → 0 < revision
         → WasFound leader_of leader_key log process revision
         → revision_of leader_key log ≡ revision → leader_of log ≡ process }
-    ensures record_of { (log : List (Transaction Q P)) (shard : ℕ) (state : Record) (revision : ℕ)
+    ensures record_of { (log : List (Transaction Q P)) (shard : ℕ) (state : Record) (revision : ℕ) → IsRising log
         → WasFound (stored_record shard) (record_key shard) log state revision
         → revision_of (record_key shard) log ≡ revision → stored_record shard log ≡ state }
-    ensures log { (log : List (Transaction Q P)) (shard : ℕ) (read : ShardLog Q) (revision : ℕ)
+    ensures log { (log : List (Transaction Q P)) (shard : ℕ) (read : ShardLog Q) (revision : ℕ) → IsRising log
         → WasFound (shard_log shard) (head_key shard) log read revision
         → revision_of (head_key shard) log ≡ revision → shard_log shard log ≡ read }
 {}
@@ -33,8 +34,8 @@ pub fn read_stands<Q, P>()
 /// Each transaction of an honest store, to which all sent only what they might, was right for the store before
 /// it: a change of a record or a state was made by who led then, and the rule allowed it by all records and states as
 /// they were, of a server that failed while its key wasn't there; a batch by the server that the record accepts, with
-/// requests that come next; a head names a base that lies there whole; settings were the first; and what was deleted
-/// lay behind the base, or was a lease.
+/// requests that come next; a head names a base that lies there whole; settings were the first; what was deleted lay
+/// behind the base, or was a lease; and revisions rise.
 pub fn honest_is_right<Q, P>()
     ensures { (charter : Charter Q P) (log : List (Transaction Q P)) → IsHonest charter log → AreRight charter log }
 {}

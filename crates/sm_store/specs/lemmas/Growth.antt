@@ -8,12 +8,13 @@ use Rattle.sm_store.specs.declared.store_key.PassingKey.{PassingKey}
 use Rattle.sm_store.specs.declared.store_key.PassingKey.TheVariants.{Leader, Server, Batch, Part, Other}
 use Rattle.sm_store.specs.declared.store_key.StoreKey.{StoreKey}
 use Rattle.sm_store.specs.Clients.{Automaton, AreNext, reply_in}
-use Rattle.sm_store.specs.Store.{Transaction, head_key, made, made_by, touches}
+use Rattle.sm_store.specs.Store.{Deletes, Transaction, head_key, made, made_by, touches}
 use Rattle.sm_store.specs.Deeds.{AreRight, Charter, Deed, Electing, Expiring, Changing, Executing, Basing, Naming}
 use Rattle.sm_store.specs.Deeds.{Clearing, Following, Restarting, Settling, Checking, Foreign, HasLed, HasRequests}
 use Rattle.sm_store.specs.Deeds.{IsRight, MayClear, MayDo, MaySend}
 use Rattle.sm_store.specs.Deeds.{WasFound, transaction_of}
 use Rattle.sm_store.specs.System.{Ask, Claim, Replies, Overtaken, Reads, IsSo, WasAsked}
+use Rattle.sm_store.specs.lemmas.Logs.{all_map}
 use Rattle.sm_store.specs.lemmas.Numbers.{next-append, over_grows, reply-append}
 
 next_none : {Q : Type 0} (before : List (Item Q)) (b : Bool) (items : List (Item Q)) → items ≡ []
@@ -77,7 +78,7 @@ module _ {Q P : Type 0} (charter : Charter Q P) where
   may_grow : (more log : List (Transaction Q P)) (deed : Deed Q P) → MayDo charter log deed
       → MayDo charter (more ++ log) deed
   may_grow more log (Electing process) may = tt
-  may_grow more log (Expiring key) may = may
+  may_grow more log (Expiring keys) may = may
   may_grow more log (Changing process shard change next elected placed) may = record {
     within = may.within;
     led = led_grows more log process elected may.led;
@@ -108,7 +109,8 @@ module _ {Q P : Type 0} (charter : Charter Q P) where
     all = may.all;
     there = λ place below. let one = may.there place below in (one.0, one.1, found_grows _ _ more log _ _ one.2);
   }
-  may_grow more log (Clearing key) may = clear_grows more log key may
+  may_grow more log (Clearing keys) may =
+      all_map (MayClear charter log) (MayClear charter (more ++ log)) (clear_grows more log) keys may
   may_grow more log (Restarting process server state elected placed) may = record {
     led = led_grows more log process elected may.led;
     read = may.read;
@@ -128,7 +130,8 @@ module _ {Q P : Type 0} (charter : Charter Q P) where
   added_next : (shard : ℕ) (log : List (Transaction Q P)) (deed : Deed Q P) → IsRight charter log deed
       → AreNext (made shard log) (made_by shard (transaction_of deed).writes)
   added_next shard log (Electing process) right = tt
-  added_next shard log (Expiring key) right = tt
+  added_next shard log (Expiring keys) right =
+      next_none (made shard log) (touches {Q = Q} {P = P} (head_key shard) (Deletes keys ∷ [])) [] refl
   added_next shard log (Changing process at change next elected placed) right = tt
   added_next shard log (Executing at server items head stood logged) right =
       ⊎_elim
@@ -142,7 +145,8 @@ module _ {Q P : Type 0} (charter : Charter Q P) where
   added_next shard log (Naming at head number parts logged) right =
       next_none (made shard log) (touches (head_key shard) (transaction_of {Q = Q} {P = P}
       (Naming at head number parts logged)).writes) [] refl
-  added_next shard log (Clearing key) right = tt
+  added_next shard log (Clearing keys) right =
+      next_none (made shard log) (touches {Q = Q} {P = P} (head_key shard) (Deletes keys ∷ [])) [] refl
   added_next shard log (Restarting process server state elected placed) right = tt
   added_next shard log (Settling settings) right = tt
   added_next shard log (Following server revision) right = tt

@@ -36,7 +36,7 @@ module _ {Q P : Type 0} (charter : Charter Q P) (shard : ℕ) where
   risen_one : (log : List (Transaction Q P)) (deed : Deed Q P) → IsRight charter log deed
       → IsRisen (before log) (since log deed)
   risen_one log (Electing process) right = risen_same (before log)
-  risen_one log (Expiring key) right = risen_same (before log)
+  risen_one log (Expiring keys) right = risen_same (before log)
   risen_one log (Changing process at change next elected placed) right = risen_same (before log)
   risen_one log (Executing at server items head stood logged) right =
       cond_both (at == shard) (record { batches = head.batches + 1; base = head.base; parts = head.parts }) (before log)
@@ -57,7 +57,7 @@ module _ {Q P : Type 0} (charter : Charter Q P) (shard : ℕ) where
       subst (λ (h : Head). IsRisen h (record { batches = head.batches; base = number; parts = parts })) (sym is)
       (record { batches = omega arith; base = omega arith }))
       (λ apart. risen_same (before log))
-  risen_one log (Clearing key) right = risen_same (before log)
+  risen_one log (Clearing keys) right = risen_same (before log)
   risen_one log (Restarting process server state elected placed) right = risen_same (before log)
   risen_one log (Settling settings) right = risen_same (before log)
   risen_one log (Following server revision) right = risen_same (before log)
@@ -89,7 +89,7 @@ module _ {Q P : Type 0} (charter : Charter Q P) (shard : ℕ) where
   goes_one : (log : List (Transaction Q P)) (deed : Deed Q P) → IsRight charter log deed
       → GoesOn (before log) (since log deed) (made_by shard (transaction_of deed).writes)
   goes_one log (Electing process) right = inl (no_made (transaction_of {Q = Q} {P = P} (Electing process)).writes refl)
-  goes_one log (Expiring key) right = inl (no_made (transaction_of {Q = Q} {P = P} (Expiring key)).writes refl)
+  goes_one log (Expiring keys) right = inl (no_made (transaction_of {Q = Q} {P = P} (Expiring keys)).writes refl)
   goes_one log (Changing process at change next elected placed) right =
       inl (no_made (transaction_of {Q = Q} {P = P} (Changing process at change next elected placed)).writes refl)
   goes_one log (Executing at server items head stood logged) right =
@@ -110,7 +110,7 @@ module _ {Q P : Type 0} (charter : Charter Q P) (shard : ℕ) where
       (transaction_of {Q = Q} {P = P} (Basing at number place part)).writes refl)
   goes_one log (Naming at head number parts logged) right = inl
       (no_made (transaction_of {Q = Q} {P = P} (Naming at head number parts logged)).writes refl)
-  goes_one log (Clearing key) right = inl (no_made (transaction_of {Q = Q} {P = P} (Clearing key)).writes refl)
+  goes_one log (Clearing keys) right = inl (no_made (transaction_of {Q = Q} {P = P} (Clearing keys)).writes refl)
   goes_one log (Restarting process server state elected placed) right = inl (no_made
       (transaction_of {Q = Q} {P = P} (Restarting process server state elected placed)).writes refl)
   goes_one log (Settling settings) right = inl (no_made

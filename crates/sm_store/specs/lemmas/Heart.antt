@@ -1,8 +1,8 @@
 -- A compare that holds means that what was read is what stands.
-use Rattle.std.proofs.Common.{◌≡◌, ℕ, ◌+◌, ◌<◌, ◌≤◌, Bool, true, false, List, [], ◌∷◌, ◌++◌, length, refl, sym, ap}
-use Rattle.std.proofs.Common.{subst, ◌∙◌, arith, ⊎_elim, inl, inr, length-append}
+use Rattle.std.proofs.Common.{◌≡◌, ℕ, ◌<◌, ◌≤◌, Bool, true, false, List, [], ◌∷◌, ◌++◌, refl, sym, ap}
+use Rattle.std.proofs.Common.{subst, ◌∙◌, arith, ⊎_elim, inl, inr}
 use Rattle.std.specs.Prelude.{◌==◌, ◌||◌, ◌⊎◌, if◌then◌else◌}
-use Rattle.std.specs.List.{AllByRecursion}
+use Rattle.std.specs.List.{AllByRecursion, list_any}
 use Rattle.std.proofs.lemmas.Bool.{true≢false, and_parts, eqb-true, or_cases, cond-true, cond-false, cases_Bool}
 use Rattle.sm_store.specs.declared.compare.Compare.{Compare}
 use Rattle.sm_store.specs.declared.store_key.PassingKey.{PassingKey}
@@ -10,8 +10,8 @@ use Rattle.sm_store.specs.declared.store_key.StoreKey.{StoreKey}
 use Rattle.sm_store.specs.declared.store_key.StoreKey.TheVariants.{Lasting, Passing}
 use Rattle.sm_store.specs.Store.{Transaction, Write, Leads, Stands, Heads, Executes, Bases, Enters, Commands, Settles}
 use Rattle.sm_store.specs.Store.{Follows, Deletes, Elsewhere}
-use Rattle.sm_store.specs.Store.{all_hold, same_store_key, written_key, is_deletion, left_by, revised, revision_of}
-use Rattle.sm_store.specs.Store.{touches}
+use Rattle.sm_store.specs.Store.{all_hold, same_store_key, is_write_of, is_deletion, left_by, revised, revision_of}
+use Rattle.sm_store.specs.Store.{IsRising, last_revision, touches}
 use Rattle.sm_store.specs.Deeds.{WasFound, at}
 
 -- the key is never deleted
@@ -35,10 +35,12 @@ IsTelling key revision = (is_lasting key ≡ true) ⊎ (0 < revision)
 abbrev pub IsRevised : StoreKey → ℕ → ℕ → Type 0
 IsRevised key now left = (left ≡ now) ⊎ ((left ≡ 0) × (is_lasting key ≡ false))
 
-passing_apart : (passing : PassingKey) (key : StoreKey) → same_store_key (Passing passing) key ≡ true
-    → is_lasting key ≡ false
-passing_apart passing (Lasting key) same = absurd (true≢false (sym same))
-passing_apart passing (Passing key) same = refl
+-- a key that is deleted may be
+deleted_apart : (keys : List PassingKey) (key : StoreKey)
+    → list_any (λ one. same_store_key (Passing one) key) keys ≡ true → is_lasting key ≡ false
+deleted_apart [] key same = absurd (true≢false (sym same))
+deleted_apart (one ∷ keys) (Lasting key) same = deleted_apart keys (Lasting key) same
+deleted_apart (one ∷ keys) (Passing key) same = refl
 
 module _ {Q P : Type 0} where
   -- no write of another key changes the view
@@ -55,10 +57,10 @@ module _ {Q P : Type 0} where
 
   pub apart_writes : (key : StoreKey) (write : Write Q P) (writes : List (Write Q P)) → touches key (write ∷ writes)
       ≡ false
-      → (same_store_key (written_key write) key ≡ false) × (touches key writes ≡ false)
-  apart_writes key write writes apart = or_neither (same_store_key (written_key write) key) (touches key writes) apart
+      → (is_write_of key write ≡ false) × (touches key writes ≡ false)
+  apart_writes key write writes apart = or_neither (is_write_of key write) (touches key writes) apart
 
-  revised_one : (key : StoreKey) (now before : ℕ) (write : Write Q P) → same_store_key (written_key write) key ≡ true
+  revised_one : (key : StoreKey) (now before : ℕ) (write : Write Q P) → is_write_of key write ≡ true
       → IsRevised key now (revised key now before write)
   revised_one key now before (Leads process) same = inl (cond-true _ now before same)
   revised_one key now before (Stands process shard change next) same = inl (cond-true _ now before same)
@@ -69,8 +71,9 @@ module _ {Q P : Type 0} where
   revised_one key now before (Commands process) same = inl (cond-true _ now before same)
   revised_one key now before (Settles settings) same = inl (cond-true _ now before same)
   revised_one key now before (Follows server revision) same = inl (cond-true _ now before same)
-  revised_one key now before (Deletes passing) same =
-      inr (cond-true (same_store_key (Passing passing) key) 0 before same, passing_apart passing key same)
+  revised_one key now before (Deletes keys) same =
+      let deleted = list_any (λ (one : PassingKey). same_store_key (Passing one) key) keys in
+      inr (cond-true deleted 0 before same, deleted_apart keys key same)
   revised_one key now before Elsewhere same = inl (cond-true _ now before same)
 
   revised_alone : (key : StoreKey) (now before : ℕ) (writes : List (Write Q P)) → touches key writes ≡ false
@@ -79,7 +82,7 @@ module _ {Q P : Type 0} where
   revised_alone key now before (write ∷ writes) apart =
       let parts = apart_writes key write writes apart in
       revised_alone key now (revised key now before write) writes parts.1
-      ∙ cond-false (same_store_key (written_key write) key) (if is_deletion write then 0 else now) before parts.0
+      ∙ cond-false (is_write_of key write) (if is_deletion write then 0 else now) before parts.0
 
   revised_by : (key : StoreKey) (now before : ℕ) (writes : List (Write Q P)) → touches key writes ≡ true
       → IsRevised key now (left_by (revised key now) before writes)
@@ -88,55 +91,66 @@ module _ {Q P : Type 0} where
       ⊎_elim
       (λ (yes : touches key writes ≡ true). revised_by key now (revised key now before write) writes yes)
       (λ (no : touches key writes ≡ false).
-      let here : same_store_key (written_key write) key ≡ true = ⊎_elim
-      (λ (same : same_store_key (written_key write) key ≡ true). same)
+      let here : is_write_of key write ≡ true = ⊎_elim
+      (λ (same : is_write_of key write ≡ true). same)
       (λ (rest : touches key writes ≡ true). absurd (true≢false (sym rest ∙ no)))
-      (or_cases (same_store_key (written_key write) key) (touches key writes) touched) in
+      (or_cases (is_write_of key write) (touches key writes) touched) in
       subst (IsRevised key now) (sym (revised_alone key now (revised key now before write) writes no))
       (revised_one key now before write here))
       (cases_Bool (touches key writes))
 
-  pub revision_within : (key : StoreKey) (log : List (Transaction Q P)) → revision_of key log ≤ length log
-  revision_within key [] = omega arith
-  revision_within key (txn ∷ earlier) =
-      let before = revision_within key earlier in
+  revision_within : (key : StoreKey) (log : List (Transaction Q P)) → IsRising log
+      → revision_of key log ≤ last_revision log
+  revision_within key [] rising = omega arith
+  revision_within key (txn ∷ earlier) rising =
+      let before = revision_within key earlier rising.1 in
+      let above = rising.0 in
       ⊎_elim
       (λ (yes : touches key txn.writes ≡ true).
       ⊎_elim
-      (λ (now : revision_of key (txn ∷ earlier) ≡ length earlier + 1). omega arith)
+      (λ (now : revision_of key (txn ∷ earlier) ≡ txn.revision). omega arith)
       (λ (gone : (revision_of key (txn ∷ earlier) ≡ 0) × (is_lasting key ≡ false)). let zero = gone.0 in omega arith)
-      (revised_by key (length earlier + 1) (revision_of key earlier) txn.writes yes))
+      (revised_by key txn.revision (revision_of key earlier) txn.writes yes))
       (λ (no : touches key txn.writes ≡ false).
-      let same = revised_alone key (length earlier + 1) (revision_of key earlier) txn.writes no in omega arith)
+      let same = revised_alone key txn.revision (revision_of key earlier) txn.writes no in omega arith)
       (cases_Bool (touches key txn.writes))
 
-  longer : (later past : List (Transaction Q P)) → length past ≤ length (later ++ past)
-  longer later past = omega (arith, length-append later past)
+  -- revisions rose until any moment, and from then on
+  rising_past : (later past : List (Transaction Q P)) → IsRising (later ++ past) → IsRising past
+  rising_past [] past rising = rising
+  rising_past (txn ∷ later) past rising = rising_past later past rising.1
+
+  rises : (later past : List (Transaction Q P)) → IsRising (later ++ past)
+      → last_revision past ≤ last_revision (later ++ past)
+  rises [] past rising = omega arith
+  rises (txn ∷ later) past rising =
+      let before = rises later past rising.1 in let above = rising.0 in omega arith
 
   -- a key whose revision is the same at two moments was not written between them
   pub unwritten_among : {A : Type 0} (IsSuch : Transaction Q P → Type 0) (view : List (Transaction Q P) → A)
       (key : StoreKey) → IsViewAmong IsSuch view key → (later past : List (Transaction Q P))
-      → AllByRecursion IsSuch later → IsTelling key (revision_of key past)
+      → IsRising (later ++ past) → AllByRecursion IsSuch later → IsTelling key (revision_of key past)
       → revision_of key (later ++ past) ≡ revision_of key past → view (later ++ past) ≡ view past
-  unwritten_among IsSuch view key local [] past all telling same = refl
-  unwritten_among IsSuch view key local (txn ∷ later) past all telling same =
+  unwritten_among IsSuch view key local [] past rising all telling same = refl
+  unwritten_among IsSuch view key local (txn ∷ later) past rising all telling same =
       ⊎_elim
       (λ (yes : touches key txn.writes ≡ true).
       ⊎_elim
-      (λ (now : revision_of key (txn ∷ later ++ past) ≡ length (later ++ past) + 1).
-      let within = revision_within key past in
-      let more = longer later past in
+      (λ (now : revision_of key (txn ∷ later ++ past) ≡ txn.revision).
+      let within = revision_within key past (rising_past later past rising.1) in
+      let more = rises later past rising.1 in
+      let above = rising.0 in
       absurd (omega arith))
       (λ (gone : (revision_of key (txn ∷ later ++ past) ≡ 0) × (is_lasting key ≡ false)).
       ⊎_elim
       (λ (lasts : is_lasting key ≡ true). absurd (true≢false (sym lasts ∙ gone.1)))
       (λ (there : 0 < revision_of key past). let zero = gone.0 in absurd (omega arith))
       telling)
-      (revised_by key (length (later ++ past) + 1) (revision_of key (later ++ past)) txn.writes yes))
+      (revised_by key txn.revision (revision_of key (later ++ past)) txn.writes yes))
       (λ (no : touches key txn.writes ≡ false).
-      let alone = revised_alone key (length (later ++ past) + 1) (revision_of key (later ++ past)) txn.writes no in
+      let alone = revised_alone key txn.revision (revision_of key (later ++ past)) txn.writes no in
       local txn (later ++ past) all.0 no
-      ∙ unwritten_among IsSuch view key local later past all.1 telling (sym alone ∙ same))
+      ∙ unwritten_among IsSuch view key local later past rising.1 all.1 telling (sym alone ∙ same))
       (cases_Bool (touches key txn.writes))
 
   such : (log : List (Transaction Q P)) → AllByRecursion (λ (txn : Transaction Q P). Unit {0}) log
@@ -144,11 +158,11 @@ module _ {Q P : Type 0} where
   such (txn ∷ log) = (tt, such log)
 
   pub unwritten : {A : Type 0} (view : List (Transaction Q P) → A) (key : StoreKey) → IsViewOf view key
-      → (later past : List (Transaction Q P)) → IsTelling key (revision_of key past)
+      → (later past : List (Transaction Q P)) → IsRising (later ++ past) → IsTelling key (revision_of key past)
       → revision_of key (later ++ past) ≡ revision_of key past → view (later ++ past) ≡ view past
-  unwritten view key local later past telling same =
+  unwritten view key local later past rising telling same =
       unwritten_among (λ (txn : Transaction Q P). Unit {0}) view key (λ txn earlier any apart. local txn earlier apart)
-      later past (such later) telling same
+      later past rising (such later) telling same
 
   all_front : (IsSuch : Transaction Q P → Type 0) (later past : List (Transaction Q P))
       → AllByRecursion IsSuch (later ++ past) → AllByRecursion IsSuch later
@@ -158,26 +172,27 @@ module _ {Q P : Type 0} where
   -- what was read stands, where all transactions are such, and its key's revision is the one that was read
   pub stands_among : {A : Type 0} (IsSuch : Transaction Q P → Type 0) (view : List (Transaction Q P) → A)
       (key : StoreKey) → IsViewAmong IsSuch view key → (log : List (Transaction Q P)) (value : A) (revision : ℕ)
-      → AllByRecursion IsSuch log → IsTelling key revision → WasFound view key log value revision
+      → IsRising log → AllByRecursion IsSuch log → IsTelling key revision → WasFound view key log value revision
       → revision_of key log ≡ revision → view log ≡ value
-  stands_among IsSuch view key local log value revision all telling found now =
+  stands_among IsSuch view key local log value revision rising all telling found now =
       let same : revision_of key (found.later ++ found.past) ≡ revision_of key found.past =
       ap (revision_of key) (sym found.is) ∙ now ∙ sym found.at in
       ap view found.is
-      ∙ unwritten_among IsSuch view key local found.later found.past
+      ∙ unwritten_among IsSuch view key local found.later found.past (subst IsRising found.is rising)
       (all_front IsSuch found.later found.past (subst (AllByRecursion IsSuch) found.is all))
       (subst (IsTelling key) (sym found.at) telling) same
       ∙ found.was
 
   -- what was read stands, where its key's revision is the one that was read
   pub stands : {A : Type 0} (view : List (Transaction Q P) → A) (key : StoreKey) → IsViewOf view key
-      → (log : List (Transaction Q P)) (value : A) (revision : ℕ) → IsTelling key revision
+      → (log : List (Transaction Q P)) (value : A) (revision : ℕ) → IsRising log → IsTelling key revision
       → WasFound view key log value revision → revision_of key log ≡ revision → view log ≡ value
-  stands view key local log value revision telling found now =
+  stands view key local log value revision rising telling found now =
       let same : revision_of key (found.later ++ found.past) ≡ revision_of key found.past =
       ap (revision_of key) (sym found.is) ∙ now ∙ sym found.at in
       ap view found.is
-      ∙ unwritten view key local found.later found.past (subst (IsTelling key) (sym found.at) telling) same
+      ∙ unwritten view key local found.later found.past (subst IsRising found.is rising)
+      (subst (IsTelling key) (sym found.at) telling) same
       ∙ found.was
 
   -- of two ends of one list, one is an end of the other
@@ -197,10 +212,10 @@ module _ {Q P : Type 0} where
   pub stood_among :
       {A : Type 0} (IsSuch : Transaction Q P → Type 0) (view : List (Transaction Q P) → A) (key : StoreKey)
       → IsViewAmong IsSuch view key → (log : List (Transaction Q P)) (value : A) (revision : ℕ)
-      → AllByRecursion IsSuch log → IsTelling key revision
+      → IsRising log → AllByRecursion IsSuch log → IsTelling key revision
       → WasFound view key log value revision → (later past : List (Transaction Q P)) → log ≡ later ++ past
       → revision_of key past ≡ revision → view past ≡ value
-  stood_among IsSuch view key local log value revision all telling found later past is at =
+  stood_among IsSuch view key local log value revision rising all telling found later past is at =
       ⊎_elim
       (λ (longer : (more : List (Transaction Q P)) × (found.past ≡ more ++ past)).
       let same : revision_of key (longer.0 ++ past) ≡ revision_of key past =
@@ -208,7 +223,9 @@ module _ {Q P : Type 0} where
       let such_more : AllByRecursion IsSuch longer.0 =
       all_front IsSuch longer.0 past (subst (AllByRecursion IsSuch) longer.1
       (all_back IsSuch found.later found.past (subst (AllByRecursion IsSuch) found.is all))) in
-      sym (unwritten_among IsSuch view key local longer.0 past such_more
+      let rose : IsRising (longer.0 ++ past) =
+      subst IsRising longer.1 (rising_past found.later found.past (subst IsRising found.is rising)) in
+      sym (unwritten_among IsSuch view key local longer.0 past rose such_more
       (subst (IsTelling key) (sym at) telling) same)
       ∙ ap view (sym longer.1) ∙ found.was)
       (λ (shorter : (more : List (Transaction Q P)) × (past ≡ more ++ found.past)).
@@ -217,19 +234,21 @@ module _ {Q P : Type 0} where
       let such_more : AllByRecursion IsSuch shorter.0 =
       all_front IsSuch shorter.0 found.past (subst (AllByRecursion IsSuch) shorter.1
       (all_back IsSuch later past (subst (AllByRecursion IsSuch) is all))) in
+      let rose : IsRising (shorter.0 ++ found.past) =
+      subst IsRising shorter.1 (rising_past later past (subst IsRising is rising)) in
       ap view shorter.1
-      ∙ unwritten_among IsSuch view key local shorter.0 found.past such_more
+      ∙ unwritten_among IsSuch view key local shorter.0 found.past rose such_more
       (subst (IsTelling key) (sym found.at) telling) same
       ∙ found.was)
       (ends found.later later found.past past (sym found.is ∙ is))
 
   pub stood_then : {A : Type 0} (view : List (Transaction Q P) → A) (key : StoreKey) → IsViewOf view key
-      → (log : List (Transaction Q P)) (value : A) (revision : ℕ) → IsTelling key revision
+      → (log : List (Transaction Q P)) (value : A) (revision : ℕ) → IsRising log → IsTelling key revision
       → WasFound view key log value revision → (later past : List (Transaction Q P)) → log ≡ later ++ past
       → revision_of key past ≡ revision → view past ≡ value
-  stood_then view key local log value revision telling found later past is at =
+  stood_then view key local log value revision rising telling found later past is at =
       stood_among (λ (txn : Transaction Q P). Unit {0}) view key (λ txn earlier any apart. local txn earlier apart)
-      log value revision (such log) telling found later past is at
+      log value revision rising (such log) telling found later past is at
 
   -- one compare of a transaction held, or both
   pub first_held : (log : List (Transaction Q P)) (a : StoreKey) (m : ℕ) (rest : List Compare)

@@ -1,13 +1,14 @@
 -- The parts of a base are what they should be, and stay while no newer base is named.
 use Rattle.std.proofs.Common.{◌≡◌, ℕ, ◌<◌, ◌≤◌, Bool, true, false, List, [], ◌∷◌, ◌++◌, Option, Some, None, refl, sym}
 use Rattle.std.proofs.Common.{ap, subst, ◌∙◌, arith, ⊎_elim, inl, inr}
-use Rattle.std.specs.Prelude.{◌==◌, ◌&&◌, ◌⊎◌, slice_get, unwrap_or, if◌then◌else◌}
+use Rattle.std.specs.Prelude.{IsTrue, ◌==◌, ◌&&◌, ◌⊎◌, slice_get, unwrap_or, if◌then◌else◌}
+use Rattle.std.specs.List.{AllByRecursion}
 use Rattle.std.proofs.lemmas.Bool.{true≢false, and_parts, eqb-true, cases_Bool, cond-true, cond-false}
 use Rattle.std.proofs.lemmas.Option.{none-some}
 use Rattle.sm_store.specs.declared.item.Item.{Item}
 use Rattle.sm_store.specs.declared.store_key.PassingKey.{PassingKey}
 use Rattle.sm_store.specs.declared.store_key.PassingKey.TheVariants.{Leader, Server, Batch, Part, Other}
-use Rattle.sm_store.specs.Store.{Transaction, head_of, made_until, part_at, same_passing, Deletes}
+use Rattle.sm_store.specs.Store.{Transaction, head_of, made_until, part_at, deletes_key, same_passing, Deletes, unmade}
 use Rattle.sm_store.specs.Deeds.{Charter, Deed, Electing, Expiring, Changing, Executing, Basing, Naming, Clearing}
 use Rattle.sm_store.specs.Deeds.{Following, Restarting, Settling, Checking, Foreign, transaction_of, is_leased}
 use Rattle.sm_store.specs.Deeds.{IsBehind, IsRight, AreRight}
@@ -22,6 +23,13 @@ pub none_or : {A : Type 0} (b : Bool) (y : A) (o : Option A) → (if b then None
 none_or true y o is = absurd (none-some _ is)
 none_or false y o is = is
 
+-- a key isn't one of these, if each is another
+pub has_none : (key : PassingKey) (IsSuch : PassingKey → Type 0)
+    → ((one : PassingKey) → IsSuch one → same_passing one key ≡ false) → (keys : List PassingKey)
+    → AllByRecursion IsSuch keys → deletes_key keys key ≡ false
+has_none key IsSuch apart [] all = refl
+has_none key IsSuch apart (one ∷ keys) all = rw (apart one all.0) (has_none key IsSuch apart keys all.1)
+
 module _ {Q P : Type 0} (charter : Charter Q P) (shard number place : ℕ) where
   -- the part is the base's, of batches that are there
   pub record IsPartOf (log : List (Transaction Q P)) (part : P) : Type 0 where
@@ -33,7 +41,7 @@ module _ {Q P : Type 0} (charter : Charter Q P) (shard number place : ℕ) where
       → part_at shard number place (transaction_of deed ∷ log) ≡ Some part
       → (part_at shard number place log ≡ Some part) ⊎ IsPartOf log part
   written log (Electing process) part right is = inl is
-  written log (Expiring key) part right is = inl (none_or (same_passing key (Part shard number place)) part _ is)
+  written log (Expiring keys) part right is = inl (none_or (deletes_key keys (Part shard number place)) part _ is)
   written log (Changing process at change next elected placed) part right is = inl is
   written log (Executing at server items head stood logged) part right is = inl is
   written log (Basing at n i one) part right is =
@@ -55,7 +63,7 @@ module _ {Q P : Type 0} (charter : Charter Q P) (shard number place : ℕ) where
       (λ (before : part_at shard number place log ≡ Some part). inl before)
       (some_or (at == shard && (n == number && i == place)) one part (part_at shard number place log) is)
   written log (Naming at head n parts logged) part right is = inl is
-  written log (Clearing key) part right is = inl (none_or (same_passing key (Part shard number place)) part _ is)
+  written log (Clearing keys) part right is = inl (none_or (deletes_key keys (Part shard number place)) part _ is)
   written log (Restarting process server state elected placed) part right is = inl is
   written log (Settling settings) part right is = inl is
   written log (Following server revision) part right is = inl is
@@ -88,11 +96,11 @@ module _ {Q P : Type 0} (charter : Charter Q P) (shard number place : ℕ) where
   abbrev pub HasPart : List (Transaction Q P) → Type 0
   HasPart log = (part : P) × (part_at shard number place log ≡ Some part)
 
-  kept : (log : List (Transaction Q P)) (key : PassingKey) → same_passing key (Part shard number place) ≡ false
-      → HasPart log → HasPart (record { compares = []; writes = Deletes key ∷ [] } ∷ log)
-  kept log key apart has = (
+  kept : (log : List (Transaction Q P)) (keys : List PassingKey) → deletes_key keys (Part shard number place) ≡ false
+      → HasPart log → HasPart (unmade [] (Deletes keys ∷ []) ∷ log)
+  kept log keys apart has = (
     has.0,
-    cond-false (same_passing key (Part shard number place)) None (part_at shard number place log) apart
+    cond-false (deletes_key keys (Part shard number place)) None (part_at shard number place log) apart
         ∙ has.1,
   )
 
@@ -124,7 +132,8 @@ module _ {Q P : Type 0} (charter : Charter Q P) (shard number place : ℕ) where
   stays_one : (log : List (Transaction Q P)) (deed : Deed Q P) → IsRight charter log deed
       → (head_of shard log).base ≤ number → HasPart log → HasPart (transaction_of deed ∷ log)
   stays_one log (Electing process) right newest has = has
-  stays_one log (Expiring key) right newest has = kept log key (leased_apart key right) has
+  stays_one log (Expiring keys) right newest has =
+      kept log keys (has_none (Part shard number place) (λ key. IsTrue (is_leased key)) leased_apart keys right) has
   stays_one log (Changing process at change next elected placed) right newest has = has
   stays_one log (Executing at server items head stood logged) right newest has = has
   stays_one log (Basing at n i one) right newest has =
@@ -134,7 +143,9 @@ module _ {Q P : Type 0} (charter : Charter Q P) (shard number place : ℕ) where
       (λ (no : here ≡ false). (has.0, cond-false here (Some one) (part_at shard number place log) no ∙ has.1))
       (cases_Bool here)
   stays_one log (Naming at head n parts logged) right newest has = has
-  stays_one log (Clearing key) right newest has = kept log key (behind_apart log key right newest) has
+  stays_one log (Clearing keys) right newest has =
+      kept log keys (has_none (Part shard number place) (IsBehind charter log)
+      (λ key behind. behind_apart log key behind newest) keys right) has
   stays_one log (Restarting process server state elected placed) right newest has = has
   stays_one log (Settling settings) right newest has = has
   stays_one log (Following server revision) right newest has = has

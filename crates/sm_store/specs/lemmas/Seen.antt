@@ -10,10 +10,10 @@ use Rattle.sm_store.specs.declared.item.Item.{Item}
 use Rattle.sm_store.specs.declared.store_key.PassingKey.TheVariants.{Batch}
 use Rattle.sm_store.specs.Clients.{AreNext}
 use Rattle.sm_store.specs.Store.{Transaction, batch_at, head_key, head_of, made, made_by, made_until, part_at}
-use Rattle.sm_store.specs.Store.{same_passing}
+use Rattle.sm_store.specs.Store.{deletes_key, last_revision}
 use Rattle.sm_store.specs.Deeds.{Charter, Deed, Electing, Expiring, Changing, Executing, Basing, Naming, Clearing}
 use Rattle.sm_store.specs.Deeds.{Following, Restarting, Settling, Checking, Foreign, transaction_of, IsRight, AreRight}
-use Rattle.sm_store.specs.Deeds.{WasFound, shard_log}
+use Rattle.sm_store.specs.Deeds.{WasFound, done_at, shard_log}
 use Rattle.sm_store.specs.Whole.{AreBatches, AreParts, WasSeen, all_items, base_parts}
 use Rattle.sm_store.specs.lemmas.Growth.{made_next}
 use Rattle.sm_store.specs.lemmas.Heads.{right_past, risen, until_all, until_stays, until_there}
@@ -53,15 +53,15 @@ module _ {Q P : Type 0} (charter : Charter Q P) (shard : ℕ) where
     pub next : made_until shard (number + 1) log ≡ made_until shard number log ++ items
 
   -- a batch that is there after a deed was there before it, or is written by it
-  written : (log : List (Transaction Q P)) (deed : Deed Q P) (number : ℕ) (items : List (Item Q))
-      → IsRight charter log deed → AreRight charter log
-      → batch_at shard (number + 1) (transaction_of deed ∷ log) ≡ Some items
-      → (batch_at shard (number + 1) log ≡ Some items) ⊎ IsNextBatch (transaction_of deed ∷ log) number items
-  written log (Electing process) number items right rights is = inl is
-  written log (Expiring key) number items right rights is =
-      inl (none_or (same_passing key (Batch shard (number + 1))) items _ is)
-  written log (Changing process at change next stood elected) number items right rights is = inl is
-  written log (Executing at server added head stood logged) number items right rights is =
+  written : (log : List (Transaction Q P)) (revision : ℕ) (deed : Deed Q P) (number : ℕ) (items : List (Item Q))
+      → last_revision log < revision → IsRight charter log deed → AreRight charter log
+      → batch_at shard (number + 1) (done_at revision deed ∷ log) ≡ Some items
+      → (batch_at shard (number + 1) log ≡ Some items) ⊎ IsNextBatch (done_at revision deed ∷ log) number items
+  written log revision (Electing process) number items above right rights is = inl is
+  written log revision (Expiring keys) number items above right rights is =
+      inl (none_or (deletes_key keys (Batch shard (number + 1))) items _ is)
+  written log revision (Changing process at change next stood elected) number items above right rights is = inl is
+  written log revision (Executing at server added head stood logged) number items above right rights is =
       ⊎_elim
       (λ (here : ((at == shard && head.batches + 1 == number + 1) ≡ true) × (added ≡ items)).
       let two = and_parts (at == shard) (head.batches + 1 == number + 1) here.0 in
@@ -70,32 +70,32 @@ module _ {Q P : Type 0} (charter : Charter Q P) (shard : ℕ) where
       let deed : Deed Q P = Executing at server added head stood logged in
       let was : head_of shard log ≡ head = subst (λ (n : ℕ). head_of n log ≡ head) a right.head_is in
       let many : (head_of shard log).batches ≡ head.batches = ap (λ (h : Head). h.batches) was in
-      let now : (head_of shard (transaction_of deed ∷ log)).batches ≡ head.batches + 1 =
+      let now : (head_of shard (done_at revision deed ∷ log)).batches ≡ head.batches + 1 =
       ap (λ (h : Head). h.batches) (cond-true (at == shard)
       (record { batches = head.batches + 1; base = head.base; parts = head.parts }) (head_of shard log) two.0) in
       let by : made_by shard (transaction_of deed).writes ≡ items =
       rw two.0 (append-nil added) ∙ here.1 in
-      let all_right : AreRight charter (transaction_of deed ∷ log) =
-      (record { deed = deed; is = refl; right = right }, rights) in
+      let all_right : AreRight charter (done_at revision deed ∷ log) =
+      (record { above = above; deed = deed; is = refl; right = right }, rights) in
       inr (record {
         within = omega arith;
-        next = until_all charter shard (number + 1) (transaction_of deed ∷ log) all_right (omega arith)
+        next = until_all charter shard (number + 1) (done_at revision deed ∷ log) all_right (omega arith)
             ∙ ap (λ (more : List (Item Q)). made shard log ++ more) by
             ∙ sym (ap (λ (first : List (Item Q)). first ++ items)
-            (until_there charter shard number (transaction_of deed) log (omega arith)
+            (until_there charter shard number (done_at revision deed) log (omega arith)
             ∙ until_all charter shard number log rights (omega arith)));
       }))
       (λ (before : batch_at shard (number + 1) log ≡ Some items). inl before)
       (some_or (at == shard && head.batches + 1 == number + 1) added items (batch_at shard (number + 1) log) is)
-  written log (Basing at n i one) number items right rights is = inl is
-  written log (Naming at head n parts logged) number items right rights is = inl is
-  written log (Clearing key) number items right rights is =
-      inl (none_or (same_passing key (Batch shard (number + 1))) items _ is)
-  written log (Following server revision) number items right rights is = inl is
-  written log (Restarting process server state elected placed) number items right rights is = inl is
-  written log (Settling settings) number items right rights is = inl is
-  written log (Checking compares) number items right rights is = inl is
-  written log Foreign number items right rights is = inl is
+  written log revision (Basing at n i one) number items above right rights is = inl is
+  written log revision (Naming at head n parts logged) number items above right rights is = inl is
+  written log revision (Clearing keys) number items above right rights is =
+      inl (none_or (deletes_key keys (Batch shard (number + 1))) items _ is)
+  written log revision (Following server seen) number items above right rights is = inl is
+  written log revision (Restarting process server state elected placed) number items above right rights is = inl is
+  written log revision (Settling settings) number items above right rights is = inl is
+  written log revision (Checking compares) number items above right rights is = inl is
+  written log revision Foreign number items above right rights is = inl is
 
   next_later : (later past : List (Transaction Q P)) (number : ℕ) (items : List (Item Q))
       → AreRight charter (later ++ past) → IsNextBatch past number items → IsNextBatch (later ++ past) number items
@@ -117,9 +117,9 @@ module _ {Q P : Type 0} (charter : Charter Q P) (shard : ℕ) where
       ⊎_elim
       (λ (before : batch_at shard (number + 1) earlier ≡ Some items).
       next_later (txn ∷ []) earlier number items right (batch_is earlier number items right.1 before))
-      (λ (now : IsNextBatch (transaction_of right.0.deed ∷ earlier) number items).
+      (λ (now : IsNextBatch (done_at txn.revision right.0.deed ∷ earlier) number items).
       subst (λ (t : Transaction Q P). IsNextBatch (t ∷ earlier) number items) (sym right.0.is) now)
-      (written earlier right.0.deed number items right.0.right right.1
+      (written earlier txn.revision right.0.deed number items right.0.above right.0.right right.1
       (subst (λ (t : Transaction Q P). batch_at shard (number + 1) (t ∷ earlier) ≡ Some items) right.0.is is))
 
   batch_was : (log : List (Transaction Q P)) (number : ℕ) (items : List (Item Q)) → AreRight charter log

@@ -9,20 +9,21 @@ use Rattle.sm_store.specs.declared.store_key.PassingKey.TheVariants.{Leader, Bat
 use Rattle.sm_store.specs.declared.store_key.StoreKey.{StoreKey}
 use Rattle.sm_store.specs.Store.{Write, Leads, Stands, Heads, Executes, Bases, Enters, Commands, Settles, Follows}
 use Rattle.sm_store.specs.Store.{Deletes, Elsewhere, leader_key}
-use Rattle.sm_store.specs.Store.{record_key, head_key, batch_key, part_key, same_store_key, same_passing, written_key}
+use Rattle.sm_store.specs.Store.{record_key, head_key, batch_key, part_key, deletes_key, is_write_of}
 use Rattle.sm_store.specs.Store.{left_by, view_from, touches, led, leader_of, stood, stored_record, headed, head_of}
 use Rattle.sm_store.specs.Store.{batched, batch_at, based_on, part_at, executed_by, made}
 use Rattle.sm_store.specs.Store.{placement_key, placement_of, settings_key, stored_settings, settled}
-use Rattle.sm_store.specs.Store.{Transaction}
+use Rattle.sm_store.specs.Store.{IsRising, Transaction}
 use Rattle.sm_store.specs.Deeds.{AreRight, Charter, Deed, Electing, Expiring, Changing, Restarting, Settling, Executing}
-use Rattle.sm_store.specs.Deeds.{Basing, Naming, Clearing, Following, Checking, Foreign, shard_log, transaction_of}
+use Rattle.sm_store.specs.Deeds.{Basing, Naming, Clearing, Following, Checking, Foreign, done_at, shard_log}
+use Rattle.sm_store.specs.Deeds.{transaction_of}
 use Rattle.sm_store.specs.lemmas.Heart.{IsViewAmong, IsViewOf, apart_writes}
 
 module _ {Q P : Type 0} where
   -- a write of another key leaves the value
   abbrev IsLocal : {A : Type 0} → (A → Write Q P → A) → StoreKey → Type 0
   IsLocal {A} one key =
-      (before : A) (write : Write Q P) → same_store_key (written_key write) key ≡ false → one before write
+      (before : A) (write : Write Q P) → is_write_of key write ≡ false → one before write
       ≡ before
 
   left_alone : {A : Type 0} (one : A → Write Q P → A) (key : StoreKey) → IsLocal one key
@@ -47,7 +48,7 @@ module _ {Q P : Type 0} where
   led_local before (Commands process) apart = refl
   led_local before (Settles settings) apart = refl
   led_local before (Follows server revision) apart = refl
-  led_local before (Deletes key) apart = cond-false (same_passing key Leader) 0 before apart
+  led_local before (Deletes keys) apart = cond-false (deletes_key keys Leader) 0 before apart
   led_local before Elsewhere apart = refl
 
   stood_local : (shard : ℕ) → IsLocal (stood shard) (record_key shard)
@@ -60,7 +61,7 @@ module _ {Q P : Type 0} where
   stood_local shard before (Commands process) apart = refl
   stood_local shard before (Settles settings) apart = refl
   stood_local shard before (Follows server revision) apart = refl
-  stood_local shard before (Deletes key) apart = refl
+  stood_local shard before (Deletes keys) apart = refl
   stood_local shard before Elsewhere apart = refl
 
   headed_local : (shard : ℕ) → IsLocal (headed shard) (head_key shard)
@@ -73,7 +74,7 @@ module _ {Q P : Type 0} where
   headed_local shard before (Commands process) apart = refl
   headed_local shard before (Settles settings) apart = refl
   headed_local shard before (Follows server revision) apart = refl
-  headed_local shard before (Deletes key) apart = refl
+  headed_local shard before (Deletes keys) apart = refl
   headed_local shard before Elsewhere apart = refl
 
   batched_local : (shard number : ℕ) → IsLocal (batched shard number) (batch_key shard number)
@@ -87,8 +88,8 @@ module _ {Q P : Type 0} where
   batched_local shard number before (Commands process) apart = refl
   batched_local shard number before (Settles settings) apart = refl
   batched_local shard number before (Follows server revision) apart = refl
-  batched_local shard number before (Deletes key) apart = cond-false
-      (same_passing key (Batch shard number)) None before apart
+  batched_local shard number before (Deletes keys) apart = cond-false
+      (deletes_key keys (Batch shard number)) None before apart
   batched_local shard number before Elsewhere apart = refl
 
   based_local : (shard number place : ℕ) → IsLocal (based_on shard number place) (part_key shard number place)
@@ -102,8 +103,8 @@ module _ {Q P : Type 0} where
   based_local shard number place before (Commands process) apart = refl
   based_local shard number place before (Settles settings) apart = refl
   based_local shard number place before (Follows server revision) apart = refl
-  based_local shard number place before (Deletes key) apart =
-      cond-false (same_passing key (Part shard number place)) None before apart
+  based_local shard number place before (Deletes keys) apart =
+      cond-false (deletes_key keys (Part shard number place)) None before apart
   based_local shard number place before Elsewhere apart = refl
 
   pub leader_view : IsViewOf (leader_of {Q = Q} {P = P}) leader_key
@@ -146,7 +147,7 @@ module _ {Q P : Type 0} where
   settled_local before (Executes at number server items) apart = refl
   settled_local before (Bases at number place part) apart = refl
   settled_local before (Follows server revision) apart = refl
-  settled_local before (Deletes key) apart = refl
+  settled_local before (Deletes keys) apart = refl
   settled_local before Elsewhere apart = refl
 
   pub settings_view : IsViewOf (stored_settings {Q = Q} {P = P}) settings_key
@@ -154,7 +155,7 @@ module _ {Q P : Type 0} where
 
   -- the transaction is that of a deed
   abbrev pub IsOfDeed : Transaction Q P → Type 0
-  IsOfDeed txn = (deed : Deed Q P) × (txn ≡ transaction_of deed)
+  IsOfDeed txn = (deed : Deed Q P) × (txn ≡ done_at txn.revision deed)
 
   pub deeds_of_right : (charter : Charter Q P) (log : List (Transaction Q P)) → AreRight charter log
       → AllByRecursion IsOfDeed log
@@ -164,18 +165,23 @@ module _ {Q P : Type 0} where
     deeds_of_right charter earlier right.1,
   )
 
+  -- revisions rise along a log whose transactions were right
+  pub rising_of_right : (charter : Charter Q P) (log : List (Transaction Q P)) → AreRight charter log → IsRising log
+  rising_of_right charter [] right = tt
+  rising_of_right charter (txn ∷ earlier) right = (right.0.above, rising_of_right charter earlier right.1)
+
   placed_apart : (deed : Deed Q P) (earlier : List (Transaction Q P))
       → touches placement_key (transaction_of deed).writes ≡ false
       → placement_of (transaction_of deed ∷ earlier) ≡ placement_of earlier
   placed_apart (Electing process) earlier apart = refl
-  placed_apart (Expiring key) earlier apart = refl
+  placed_apart (Expiring keys) earlier apart = refl
   placed_apart (Changing process shard change next elected placed) earlier apart = absurd (true≢false apart)
   placed_apart (Restarting process server state elected placed) earlier apart = absurd (true≢false apart)
   placed_apart (Settling settings) earlier apart = refl
   placed_apart (Executing shard server items head stood logged) earlier apart = refl
   placed_apart (Basing shard number place part) earlier apart = refl
   placed_apart (Naming shard head number parts logged) earlier apart = refl
-  placed_apart (Clearing key) earlier apart = refl
+  placed_apart (Clearing keys) earlier apart = refl
   placed_apart (Following server revision) earlier apart = refl
   placed_apart (Checking compares) earlier apart = refl
   placed_apart Foreign earlier apart = refl

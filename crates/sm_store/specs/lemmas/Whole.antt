@@ -1,7 +1,7 @@
 -- What lies at a shard's keys is all that is made.
 use Rattle.std.proofs.Common.{◌≡◌, ◌≢◌, ℕ, ◌+◌, ◌<◌, ◌≤◌, Bool, true, false, List, [], ◌∷◌, ◌++◌, Some, None, length}
 use Rattle.std.proofs.Common.{refl, sym, ap, subst, ◌∙◌, arith, ⊎_elim, inl, inr, append-nil, zero, suc}
-use Rattle.std.specs.Prelude.{◌==◌, ◌&&◌, ◌⊎◌, nat_lt, slice_get}
+use Rattle.std.specs.Prelude.{IsTrue, ◌==◌, ◌&&◌, ◌⊎◌, nat_lt, slice_get}
 use Rattle.std.proofs.lemmas.Bool.{true≢false, and_parts, and_from, eqb-true, eq-eqb, ne_eqb, cases_Bool, cases_eq}
 use Rattle.std.proofs.lemmas.Bool.{cond_both, cond-true, cond-false, le-ltb}
 use Rattle.sm_store.specs.declared.head.Head.{Head}
@@ -9,12 +9,13 @@ use Rattle.sm_store.specs.declared.item.Item.{Item}
 use Rattle.sm_store.specs.declared.store_key.PassingKey.{PassingKey}
 use Rattle.sm_store.specs.declared.store_key.PassingKey.TheVariants.{Leader, Server, Batch, Part, Other}
 use Rattle.sm_store.specs.Store.{Transaction, batch_at, head_of, made, made_by, made_until, same_passing, Deletes}
+use Rattle.sm_store.specs.Store.{deletes_key, last_revision, unmade}
 use Rattle.sm_store.specs.Deeds.{Charter, Deed, Electing, Expiring, Changing, Executing, Basing, Naming, Clearing}
 use Rattle.sm_store.specs.Deeds.{Following, Restarting, Settling, Checking, Foreign, transaction_of, is_leased}
-use Rattle.sm_store.specs.Deeds.{IsBehind, IsRight, AreRight}
+use Rattle.sm_store.specs.Deeds.{IsBehind, IsRight, AreRight, done_at}
 use Rattle.sm_store.specs.Whole.{AreThere, IsBased, IsBatchThere, IsLogWhole, base_parts}
 use Rattle.sm_store.specs.lemmas.Heads.{until_all, until_there}
-use Rattle.sm_store.specs.lemmas.Parts.{part_is, part_stays_one}
+use Rattle.sm_store.specs.lemmas.Parts.{has_none, part_is, part_stays_one}
 
 below_next : (a b : ℕ) → a < b + 1 → (a < b) ⊎ (a ≡ b)
 below_next a b below =
@@ -58,76 +59,6 @@ module _ {Q P : Type 0} (charter : Charter Q P) (shard : ℕ) where
             now.1 ∙ sym (part_is charter shard head.base place (txn ∷ log) now.0 right now.1).is;
       }
 
-  -- where the head stays, its base does
-  based_same : (log : List (Transaction Q P)) (deed : Deed Q P) → IsRight charter log deed → AreRight charter log
-      → IsBased charter shard log (head_of shard log) → IsBased charter shard (transaction_of deed ∷ log)
-      (head_of shard log)
-  based_same log deed right rights was =
-      based_grows (transaction_of deed) log (head_of shard log) (
-        record { deed = deed; is = refl; right = right },
-        rights,
-      )
-      was.within (omega arith) was
-
-  based_one : (log : List (Transaction Q P)) (deed : Deed Q P) → IsRight charter log deed → AreRight charter log
-      → IsBased charter shard log (head_of shard log)
-      → IsBased charter shard (transaction_of deed ∷ log) (head_of shard (transaction_of deed ∷ log))
-  based_one log (Electing process) right rights was = based_same log (Electing process) right rights was
-  based_one log (Expiring key) right rights was = based_same log (Expiring key) right rights was
-  based_one log (Changing process at change next elected placed) right rights was =
-      based_same log (Changing process at change next elected placed) right rights was
-  based_one log (Executing at server items head stood logged) right rights was =
-      let deed : Deed Q P = Executing at server items head stood logged in
-      let same = based_same log deed right rights was in
-      cond_both (at == shard) (record { batches = head.batches + 1; base = head.base; parts = head.parts })
-      (head_of shard log)
-      (IsBased charter shard (transaction_of deed ∷ log))
-      (λ here. let k = eqb-true at shard here in
-      let is : head_of shard log ≡ head = subst (λ (n : ℕ). head_of n log ≡ head) k right.head_is in
-      let so : IsBased charter shard (transaction_of deed ∷ log) head =
-      subst (IsBased charter shard (transaction_of deed ∷ log)) is same in
-      let within = so.within in
-      record { within = omega arith; all = so.all; there = so.there })
-      (λ apart. same)
-  based_one log (Basing at number place part) right rights was =
-      based_same log (Basing at number place part) right rights was
-  based_one log (Naming at head number parts logged) right rights was =
-      let deed : Deed Q P = Naming at head number parts logged in
-      cond_both (at == shard) (record { batches = head.batches; base = number; parts = parts }) (head_of shard log)
-      (IsBased charter shard (transaction_of deed ∷ log))
-      (λ here. let k = eqb-true at shard here in
-      let mine : IsRight charter log (Naming shard head number parts logged) =
-      subst (λ (n : ℕ). IsRight charter log (Naming n head number parts logged)) k right in
-      let is = mine.head_is in
-      let newer = mine.newer in
-      let within = mine.within in
-      based_grows (transaction_of deed) log (record { batches = head.batches; base = number; parts = parts })
-      (record { deed = deed; is = refl; right = right }, rights)
-      (subst (λ (h : Head). number ≤ h.batches) (sym is) within)
-      (subst (λ (h : Head). h.base ≤ number) (sym is) (omega arith))
-      (record { within = mine.within; all = λ _. mine.all; there = λ _. mine.there }))
-      (λ apart. based_same log deed right rights was)
-  based_one log (Clearing key) right rights was = based_same log (Clearing key) right rights was
-  based_one log (Restarting process server state elected placed) right rights was =
-      based_same log (Restarting process server state elected placed) right rights was
-  based_one log (Settling settings) right rights was =
-      based_same log (Settling settings) right rights was
-  based_one log (Following server revision) right rights was =
-      based_same log (Following server revision) right rights was
-  based_one log (Checking compares) right rights was = based_same log (Checking compares) right rights was
-  based_one log Foreign right rights was = based_same log Foreign right rights was
-
-  pub based : (log : List (Transaction Q P)) → AreRight charter log → IsBased charter shard log (head_of shard log)
-  based [] right = record {
-    within = omega arith;
-    all = λ some. absurd (omega arith);
-    there =
-        λ some place below. absurd (omega arith);
-  }
-  based (txn ∷ log) right =
-      subst (λ (t : Transaction Q P). IsBased charter shard (t ∷ log) (head_of shard (t ∷ log))) (sym right.0.is)
-      (based_one log right.0.deed right.0.right right.1 (based log right.1))
-
   -- a batch stays where it is
   there_grows : (txn : Transaction Q P) (log : List (Transaction Q P)) (number : ℕ)
       → number < (head_of shard log).batches
@@ -140,17 +71,6 @@ module _ {Q P : Type 0} (charter : Charter Q P) (shard : ℕ) where
         ∙ sym (ap (λ (items : List (Item Q)). items ++ was.items) (until_there charter shard number txn log
         (omega arith)));
   }
-
-  abbrev StayThere : List (Transaction Q P) → Deed Q P → Type 0
-  StayThere log deed =
-      (number : ℕ) → (head_of shard log).base ≤ number → number < (head_of shard log).batches
-      → batch_at shard (number + 1) (transaction_of deed ∷ log) ≡ batch_at shard (number + 1) log
-
-  there_same : (log : List (Transaction Q P)) (deed : Deed Q P) → StayThere log deed
-      → AreThere shard log (head_of shard log)
-      → AreThere shard (transaction_of deed ∷ log) (head_of shard log)
-  there_same log deed stay was number newest below =
-      there_grows (transaction_of deed) log number below (stay number newest below) (was number newest below)
 
   behind_apart : (log : List (Transaction Q P)) (key : PassingKey) (number : ℕ) → IsBehind charter log key
       → (head_of shard log).base ≤ number → same_passing key (Batch shard (number + 1)) ≡ false
@@ -169,36 +89,111 @@ module _ {Q P : Type 0} (charter : Charter Q P) (shard : ℕ) where
   behind_apart log (Server server) number behind newest = refl
   behind_apart log Other number behind newest = refl
 
-  deleted_stay : (log : List (Transaction Q P)) (key : PassingKey) (number : ℕ)
-      → same_passing key (Batch shard (number + 1)) ≡ false
-      → batch_at shard (number + 1) (record { compares = []; writes = Deletes key ∷ [] } ∷ log)
-      ≡ batch_at shard (number + 1) log
-  deleted_stay log key number apart =
-      cond-false (same_passing key (Batch shard (number + 1))) None (batch_at shard (number + 1) log) apart
+  deleted_stay : (log : List (Transaction Q P)) (keys : List PassingKey) (number : ℕ)
+      → deletes_key keys (Batch shard (number + 1)) ≡ false
+      → batch_at shard (number + 1) (unmade [] (Deletes keys ∷ []) ∷ log) ≡ batch_at shard (number + 1) log
+  deleted_stay log keys number apart =
+      cond-false (deletes_key keys (Batch shard (number + 1))) None (batch_at shard (number + 1) log) apart
+
+module _ {Q P : Type 0} (charter : Charter Q P) (shard revision : ℕ) where
+  -- where the head stays, its base does
+  based_same : (log : List (Transaction Q P)) (deed : Deed Q P) → last_revision log < revision
+      → IsRight charter log deed → AreRight charter log
+      → IsBased charter shard log (head_of shard log) → IsBased charter shard (done_at revision deed ∷ log)
+      (head_of shard log)
+  based_same log deed above right rights was =
+      based_grows charter shard (done_at revision deed) log (head_of shard log) (
+        record { above = above; deed = deed; is = refl; right = right },
+        rights,
+      )
+      was.within (omega arith) was
+
+  based_one : (log : List (Transaction Q P)) (deed : Deed Q P) → last_revision log < revision
+      → IsRight charter log deed → AreRight charter log
+      → IsBased charter shard log (head_of shard log)
+      → IsBased charter shard (done_at revision deed ∷ log) (head_of shard (done_at revision deed ∷ log))
+  based_one log (Electing process) above right rights was = based_same log (Electing process) above right rights was
+  based_one log (Expiring keys) above right rights was = based_same log (Expiring keys) above right rights was
+  based_one log (Changing process at change next elected placed) above right rights was =
+      based_same log (Changing process at change next elected placed) above right rights was
+  based_one log (Executing at server items head stood logged) above right rights was =
+      let deed : Deed Q P = Executing at server items head stood logged in
+      let same = based_same log deed above right rights was in
+      cond_both (at == shard) (record { batches = head.batches + 1; base = head.base; parts = head.parts })
+      (head_of shard log)
+      (IsBased charter shard (done_at revision deed ∷ log))
+      (λ here. let k = eqb-true at shard here in
+      let is : head_of shard log ≡ head = subst (λ (n : ℕ). head_of n log ≡ head) k right.head_is in
+      let so : IsBased charter shard (done_at revision deed ∷ log) head =
+      subst (IsBased charter shard (done_at revision deed ∷ log)) is same in
+      let within = so.within in
+      record { within = omega arith; all = so.all; there = so.there })
+      (λ apart. same)
+  based_one log (Basing at number place part) above right rights was =
+      based_same log (Basing at number place part) above right rights was
+  based_one log (Naming at head number parts logged) above right rights was =
+      let deed : Deed Q P = Naming at head number parts logged in
+      cond_both (at == shard) (record { batches = head.batches; base = number; parts = parts }) (head_of shard log)
+      (IsBased charter shard (done_at revision deed ∷ log))
+      (λ here. let k = eqb-true at shard here in
+      let mine : IsRight charter log (Naming shard head number parts logged) =
+      subst (λ (n : ℕ). IsRight charter log (Naming n head number parts logged)) k right in
+      let is = mine.head_is in
+      let newer = mine.newer in
+      let within = mine.within in
+      based_grows charter shard (done_at revision deed) log
+      (record { batches = head.batches; base = number; parts = parts })
+      (record { above = above; deed = deed; is = refl; right = right }, rights)
+      (subst (λ (h : Head). number ≤ h.batches) (sym is) within)
+      (subst (λ (h : Head). h.base ≤ number) (sym is) (omega arith))
+      (record { within = mine.within; all = λ _. mine.all; there = λ _. mine.there }))
+      (λ apart. based_same log deed above right rights was)
+  based_one log (Clearing keys) above right rights was = based_same log (Clearing keys) above right rights was
+  based_one log (Restarting process server state elected placed) above right rights was =
+      based_same log (Restarting process server state elected placed) above right rights was
+  based_one log (Settling settings) above right rights was =
+      based_same log (Settling settings) above right rights was
+  based_one log (Following server revision) above right rights was =
+      based_same log (Following server revision) above right rights was
+  based_one log (Checking compares) above right rights was = based_same log (Checking compares) above right rights was
+  based_one log Foreign above right rights was = based_same log Foreign above right rights was
+
+  abbrev StayThere : List (Transaction Q P) → Deed Q P → Type 0
+  StayThere log deed =
+      (number : ℕ) → (head_of shard log).base ≤ number → number < (head_of shard log).batches
+      → batch_at shard (number + 1) (done_at revision deed ∷ log) ≡ batch_at shard (number + 1) log
+
+  there_same : (log : List (Transaction Q P)) (deed : Deed Q P) → StayThere log deed
+      → AreThere shard log (head_of shard log)
+      → AreThere shard (done_at revision deed ∷ log) (head_of shard log)
+  there_same log deed stay was number newest below =
+      there_grows charter shard (done_at revision deed) log number below (stay number newest below)
+      (was number newest below)
 
   -- the batch that a server adds comes next
   executed_there : (log : List (Transaction Q P)) (server : ℕ) (items : List (Item Q)) (head : Head) (stood logged : ℕ)
-      → IsRight charter log (Executing shard server items head stood logged) → AreRight charter log
+      → last_revision log < revision → IsRight charter log (Executing shard server items head stood logged)
+      → AreRight charter log
       → AreThere shard log (head_of shard log)
-      → AreThere shard (transaction_of (Executing shard server items head stood logged) ∷ log)
+      → AreThere shard (done_at revision (Executing shard server items head stood logged) ∷ log)
       (record { batches = head.batches + 1; base = head.base; parts = head.parts })
-  executed_there log server items head stood logged right rights was number newest below =
+  executed_there log server items head stood logged above right rights was number newest below =
       let deed : Deed Q P = Executing shard server items head stood logged in
       let next : Head = record { batches = head.batches + 1; base = head.base; parts = head.parts } in
       let is = right.head_is in
       let itself : (shard == shard) ≡ true = eq-eqb shard shard refl in
       let many : (head_of shard log).batches ≡ head.batches = ap (λ (h : Head). h.batches) is in
       let old : (head_of shard log).base ≡ head.base = ap (λ (h : Head). h.base) is in
-      let now : head_of shard (transaction_of deed ∷ log) ≡ next =
+      let now : head_of shard (done_at revision deed ∷ log) ≡ next =
       cond-true (shard == shard) next (head_of shard log) itself in
-      let now_many : (head_of shard (transaction_of deed ∷ log)).batches ≡ head.batches + 1 =
+      let now_many : (head_of shard (done_at revision deed ∷ log)).batches ≡ head.batches + 1 =
       ap (λ (h : Head). h.batches) now in
-      let all_right : AreRight charter (transaction_of deed ∷ log) =
-      (record { deed = deed; is = refl; right = right }, rights) in
+      let all_right : AreRight charter (done_at revision deed ∷ log) =
+      (record { above = above; deed = deed; is = refl; right = right }, rights) in
       let here : ℕ → Bool = λ n. shard == shard && head.batches + 1 == n + 1 in
       ⊎_elim
       (λ (earlier : number < head.batches).
-      there_grows (transaction_of deed) log number (omega arith)
+      there_grows charter shard (done_at revision deed) log number (omega arith)
       (cond-false (here number) (Some items) (batch_at shard (number + 1) log)
       (rw itself (ne_eqb (head.batches + 1) (number + 1) (λ same. absurd (omega arith)))))
       (was number (omega arith) (omega arith)))
@@ -209,41 +204,44 @@ module _ {Q P : Type 0} (charter : Charter Q P) (shard : ℕ) where
         stands = cond-true (here number) (Some items) (batch_at shard (number + 1) log)
             (and_from (shard == shard) (head.batches + 1 == number + 1) itself
             (eq-eqb (head.batches + 1) (number + 1) (omega arith)));
-        next = until_all charter shard (number + 1) (transaction_of deed ∷ log) all_right (omega arith)
+        next = until_all charter shard (number + 1) (done_at revision deed ∷ log) all_right (omega arith)
             ∙ ap (λ (more : List (Item Q)). made shard log ++ more) added
             ∙ sym (ap (λ (first : List (Item Q)). first ++ items)
-            (until_there charter shard number (transaction_of deed) log (omega arith)
+            (until_there charter shard number (done_at revision deed) log (omega arith)
             ∙ until_all charter shard number log rights (omega arith)));
       })
       (below_next number head.batches below)
 
-  there_one : (log : List (Transaction Q P)) (deed : Deed Q P) → IsRight charter log deed → AreRight charter log
+  there_one : (log : List (Transaction Q P)) (deed : Deed Q P) → last_revision log < revision
+      → IsRight charter log deed → AreRight charter log
       → AreThere shard log (head_of shard log)
-      → AreThere shard (transaction_of deed ∷ log) (head_of shard (transaction_of deed ∷ log))
-  there_one log (Electing process) right rights was = there_same log (Electing process)
+      → AreThere shard (done_at revision deed ∷ log) (head_of shard (done_at revision deed ∷ log))
+  there_one log (Electing process) above right rights was = there_same log (Electing process)
       (λ number newest below. refl) was
-  there_one log (Expiring key) right rights was =
-      there_same log (Expiring key)
-      (λ number newest below. deleted_stay log key number (leased_apart shard (number + 1) key right)) was
-  there_one log (Changing process at change next elected placed) right rights was =
+  there_one log (Expiring keys) above right rights was =
+      there_same log (Expiring keys)
+      (λ number newest below. deleted_stay charter shard log keys number
+      (has_none (Batch shard (number + 1)) (λ key. IsTrue (is_leased key)) (leased_apart shard (number + 1)) keys
+      right)) was
+  there_one log (Changing process at change next elected placed) above right rights was =
       there_same log (Changing process at change next elected placed) (λ number newest below. refl) was
-  there_one log (Executing at server items head stood logged) right rights was =
+  there_one log (Executing at server items head stood logged) above right rights was =
       let deed : Deed Q P = Executing at server items head stood logged in
       let next : Head = record { batches = head.batches + 1; base = head.base; parts = head.parts } in
-      cond_both (at == shard) next (head_of shard log) (AreThere shard (transaction_of deed ∷ log))
+      cond_both (at == shard) next (head_of shard log) (AreThere shard (done_at revision deed ∷ log))
       (λ here. let k = eqb-true at shard here in
-      subst (λ (n : ℕ). AreThere shard (transaction_of {Q = Q} {P = P}
+      subst (λ (n : ℕ). AreThere shard (done_at {Q = Q} {P = P} revision
       (Executing n server items head stood logged) ∷ log) next) (sym k)
-      (executed_there log server items head stood logged
+      (executed_there log server items head stood logged above
       (subst (λ (n : ℕ). IsRight charter log (Executing n server items head stood logged)) k right) rights was))
       (λ apart. there_same log deed (λ number newest below. rw apart refl) was)
-  there_one log (Basing at number place part) right rights was =
+  there_one log (Basing at number place part) above right rights was =
       there_same log (Basing at number place part) (λ number newest below. refl) was
-  there_one log (Naming at head number parts logged) right rights was =
+  there_one log (Naming at head number parts logged) above right rights was =
       let deed : Deed Q P = Naming at head number parts logged in
       let same = there_same log deed (λ number newest below. refl) was in
       cond_both (at == shard) (record { batches = head.batches; base = number; parts = parts }) (head_of shard log)
-      (AreThere shard (transaction_of deed ∷ log))
+      (AreThere shard (done_at revision deed ∷ log))
       (λ here n newest below. let k = eqb-true at shard here in
       let is : head_of shard log ≡ head = subst (λ (m : ℕ). head_of m log ≡ head) k right.head_is in
       let newer = right.newer in
@@ -251,24 +249,38 @@ module _ {Q P : Type 0} (charter : Charter Q P) (shard : ℕ) where
       let old : (head_of shard log).base ≡ head.base = ap (λ (h : Head). h.base) is in
       same n (omega arith) (omega arith))
       (λ apart. same)
-  there_one log (Clearing key) right rights was =
-      there_same log (Clearing key)
-      (λ number newest below. deleted_stay log key number (behind_apart log key number right newest)) was
-  there_one log (Restarting process server state elected placed) right rights was =
+  there_one log (Clearing keys) above right rights was =
+      there_same log (Clearing keys)
+      (λ number newest below. deleted_stay charter shard log keys number
+      (has_none (Batch shard (number + 1)) (IsBehind charter log)
+      (λ key behind. behind_apart charter shard log key number behind newest) keys right)) was
+  there_one log (Restarting process server state elected placed) above right rights was =
       there_same log (Restarting process server state elected placed) (λ number newest below. refl) was
-  there_one log (Settling settings) right rights was =
+  there_one log (Settling settings) above right rights was =
       there_same log (Settling settings) (λ number newest below. refl) was
-  there_one log (Following server revision) right rights was =
+  there_one log (Following server revision) above right rights was =
       there_same log (Following server revision) (λ number newest below. refl) was
-  there_one log (Checking compares) right rights was = there_same log (Checking compares)
+  there_one log (Checking compares) above right rights was = there_same log (Checking compares)
       (λ number newest below. refl) was
-  there_one log Foreign right rights was = there_same log Foreign (λ number newest below. refl) was
+  there_one log Foreign above right rights was = there_same log Foreign (λ number newest below. refl) was
+
+module _ {Q P : Type 0} (charter : Charter Q P) (shard : ℕ) where
+  pub based : (log : List (Transaction Q P)) → AreRight charter log → IsBased charter shard log (head_of shard log)
+  based [] right = record {
+    within = omega arith;
+    all = λ some. absurd (omega arith);
+    there =
+        λ some place below. absurd (omega arith);
+  }
+  based (txn ∷ log) right =
+      subst (λ (t : Transaction Q P). IsBased charter shard (t ∷ log) (head_of shard (t ∷ log))) (sym right.0.is)
+      (based_one charter shard txn.revision log right.0.deed right.0.above right.0.right right.1 (based log right.1))
 
   pub there : (log : List (Transaction Q P)) → AreRight charter log → AreThere shard log (head_of shard log)
   there [] right = λ number newest below. absurd (omega arith)
   there (txn ∷ log) right =
       subst (λ (t : Transaction Q P). AreThere shard (t ∷ log) (head_of shard (t ∷ log))) (sym right.0.is)
-      (there_one log right.0.deed right.0.right right.1 (there log right.1))
+      (there_one charter shard txn.revision log right.0.deed right.0.above right.0.right right.1 (there log right.1))
 
   pub none : (log : List (Transaction Q P)) → made_until shard 0 log ≡ []
   none [] = refl

@@ -1,7 +1,9 @@
-use Rattle.std.proofs.Common.{rules, Ok, ◌≡◌, ◌<◌, ◌≢◌, ◌++◌, map, refl, sym, subst}
+use Rattle.std.proofs.Common.{rules, Ok, ◌≡◌, ◌<◌, ◌≢◌, ◌∷◌, ◌++◌, [], map, refl, sym, subst}
 use Rattle.std.specs.List.{AllByRecursion}
 use Rattle.sm_shard.specs.Replicas.{read_of, replies_of}
+use Rattle.sm_store.specs.Deeds.{Clearing}
 use Rattle.sm_store.specs.System.{MayClaim}
+use Rattle.sm_store.specs.lemmas.Views.{rising_of_right}
 use Rattle.sm_shard.specs.declared.steps.ShardInput.{ShardInput}
 use Rattle.sm_shard.specs.declared.steps.ShardOutput.{ShardOutput}
 use Rattle.sm_shard.specs.declared.steps.ShardOutput.TheVariants.{Nothing, Answers, Sends, Bases, Clears, Decides}
@@ -35,6 +37,7 @@ returns-in_ok-on_made-in-Made-clause-call g c = λ charter system since count pa
     let made = subst (λ (i : ShardInput g.row.Q.Denot g.row.R.Denot). IsInput g.M.StoreMachine.service system since
     c.args.server.now i) c.in-Made.is input in
     let done = c.in_ok-on_made-in-Made.ensures in
+    let rising = rising_of_right charter system.log right in
     let shard = c.args.server.now.shard in
     let answers = c.in_ok-on_made-in-Made.field-0 in
     let both = both_of c.args.server.now.ready
@@ -43,7 +46,7 @@ returns-in_ok-on_made-in-Made-clause-call g c = λ charter system since count pa
     (λ (ready : ShardState g.row.M.Denot g.row.Q.Denot g.row.R.Denot). WereMade system.log c.args.server.now.me shard
     c.in-Made.revision ready) made in
     record {
-      known = done.known system.log known both.1;
+      known = done.known system.log rising known both.1;
       asked = done.asked system.asked since asked;
       may = tt;
       claims = subst (λ (i : ShardInput g.row.Q.Denot g.row.R.Denot). AllByRecursion
@@ -51,7 +54,24 @@ returns-in_ok-on_made-in-Made-clause-call g c = λ charter system since count pa
           (step_claims shard i (Ok (Answers answers)))) (sym c.in-Made.is)
           (all-append (MayClaim g.M.StoreMachine.service system)
           (claimed_all shard answers.made.items) (claimed_reads shard answers.read.items)
-          (done.told system known both.1) (done.read system since known asked both.0));
+          (done.told system rising known both.1) (done.read system since known asked both.0));
+    }
+
+pub returns-in_err-on_made-in-Made-clause-call : goal.returns-in_err-on_made-in-Made-clause-call
+returns-in_err-on_made-in-Made-clause-call g c = λ charter system since count parts right past known asked input.
+    let made = subst (λ (i : ShardInput g.row.Q.Denot g.row.R.Denot). IsInput g.M.StoreMachine.service system since
+    c.args.server.now i) c.in-Made.is input in
+    let done = c.in_err-on_made-in-Made.ensures in
+    let both = both_of c.args.server.now.ready
+    (λ (ready : ShardState g.row.M.Denot g.row.Q.Denot g.row.R.Denot). DidHold system.held since
+    (sent_transaction c.args.server.now.me c.args.server.now.shard ready))
+    (λ (ready : ShardState g.row.M.Denot g.row.Q.Denot g.row.R.Denot). WereMade system.log c.args.server.now.me
+    c.args.server.now.shard c.in-Made.revision ready) made in
+    record {
+      known = done.known system.log (rising_of_right charter system.log right) known both.1;
+      asked = search rules;
+      may = search rules;
+      claims = search rules;
     }
 
 pub returns-in_ok-on_read-in-Read-clause-call : goal.returns-in_ok-on_read-in-Read-clause-call
@@ -99,7 +119,14 @@ returns-then-is_behind-clause-call g c = λ charter system since count parts rig
     record {
       known = known;
       asked = asked;
-      may = (c.is_behind.ensures.may c.if-is_behind.true charter system.log known, tt);
+      may = (
+        record {
+          deed = Clearing (c.in-Clear.key ∷ []);
+          is = refl;
+          may = (c.is_behind.ensures.may c.if-is_behind.true charter system.log known, tt);
+        },
+        tt,
+      );
       claims = let out : ShardOutput g.row.Q.Denot g.row.R.Denot = Clears c.in-Clear.key in
           subst (λ (i : ShardInput g.row.Q.Denot g.row.R.Denot). AllByRecursion
           (MayClaim g.M.StoreMachine.service system)

@@ -7,10 +7,11 @@ use Rattle.sm_store.proofs.laws.read_stands.Goals as goal
 
 pub returns : goal.returns
 returns g c = record {
-  leader = λ log process revision there found now.
-      stands leader_of leader_key leader_view log process revision (inr there) found now;
-  record_of = λ log shard state revision found now.
-      stands (stored_record shard) (record_key shard) (record_view shard) log state revision (inl refl) found now;
-  log = λ log shard read revision found now.
-      stands (shard_log shard) (head_key shard) (log_view shard) log read revision (inl refl) found now;
+  leader = λ log process revision rising there found now.
+      stands leader_of leader_key leader_view log process revision rising (inr there) found now;
+  record_of = λ log shard state revision rising found now.
+      stands (stored_record shard) (record_key shard) (record_view shard) log state revision rising (inl refl) found
+      now;
+  log = λ log shard read revision rising found now.
+      stands (shard_log shard) (head_key shard) (log_view shard) log read revision rising (inl refl) found now;
 }

@@ -19,7 +19,7 @@ returns-clause-read g c = λ system since known asked held.
     held c.deref.result.now c.deref.ensures.value c.in_ok-read.read.items c.in_ok-read.ensures
 
 pub returns-clause-known : goal.returns-clause-known
-returns-clause-known g c = λ log known made.
+returns-clause-known g c = λ log rising known made.
     let service = g.M.StoreMachine.service in
     let me = c.args.self.now.me in
     let shard = c.args.self.now.shard in
@@ -32,13 +32,13 @@ returns-clause-known g c = λ log known made.
     let some : old.sent.items ≢ [] = some_by_length old.sent.items old.sent.len old.sent.ok.0
     (sym c.is_empty.ensures ∙ c.if-is_empty.false) in
     let done = c.in_ok-made.ensures in
-    knows_made service log me shard c.args.revision old c.commit.new.ready knows some were_made done.state
-    done.stood
+    knows_made service log me shard c.args.revision old c.commit.new.ready rising knows some were_made
+    done.state done.stood
     (head_by_fields c.commit.new.ready.head (old.head.batches + 1) old.head.base old.head.parts done.batches done.base
     done.parts) done.logged done.sent done.waiting (done.replica knows.before knows.is.replica).0 done.work
 
 pub returns-clause-told : goal.returns-clause-told
-returns-clause-told g c = λ system known made.
+returns-clause-told g c = λ system rising known made.
     let service = g.M.StoreMachine.service in
     let me = c.args.self.now.me in
     let shard = c.args.self.now.shard in
@@ -50,7 +50,7 @@ returns-clause-told g c = λ system known made.
     c.args.revision r) c.args.self.now.ready old is made in
     let some : old.sent.items ≢ [] = some_by_length old.sent.items old.sent.len old.sent.ok.0
     (sym c.is_empty.ensures ∙ c.if-is_empty.false) in
-    told_made service system me shard c.args.revision old c.in_ok-made.made.items knows some were_made
+    told_made service system me shard c.args.revision old c.in_ok-made.made.items rising knows some were_made
     c.in_ok-made.ensures.answers
 
 pub returns-then-is_empty-clause-made : goal.returns-then-is_empty-clause-made
@@ -62,7 +62,7 @@ returns-then-is_empty-clause-made g c =
     (search rules)
 
 pub returns-then-is_empty-clause-known : goal.returns-then-is_empty-clause-known
-returns-then-is_empty-clause-known g c = λ log known made.
+returns-then-is_empty-clause-known g c = λ log rising known made.
     let service = g.M.StoreMachine.service in
     let me = c.args.self.now.me in
     let shard = c.args.self.now.shard in
@@ -75,7 +75,7 @@ returns-then-is_empty-clause-known g c = λ log known made.
     let none : old.sent.items ≡ [] = none_by_length old.sent.items old.sent.len old.sent.ok.0
     (sym c.is_empty.ensures ∙ c.if-is_empty.true) in
     subst (HasRead service log me shard) (sym c.name_base.ensures)
-    (knows_settled service log me shard c.args.revision old _ knows none were_made)
+    (knows_settled service log me shard c.args.revision old _ rising knows none were_made)
 
 pub returns-then-is_empty-clause-asked : goal.returns-then-is_empty-clause-asked
 returns-then-is_empty-clause-asked g c = λ asked since was.
