@@ -13,7 +13,6 @@ import http.client
 import json
 import os
 import pathlib
-import random
 import shutil
 import signal
 import socket
@@ -27,8 +26,7 @@ import served
 
 HOST = "127.0.0.1"
 # How long a process may take until it answers, and until it ends.
-SECONDS = 30
-PORTS = (12_000, 32_000)
+SECONDS = 90
 # Of a log, where a process ended too soon.
 LINES = 12
 # prctl's: a process ends by this signal with the one that started it, whatever ended that.
@@ -37,16 +35,6 @@ PARENT_DEATH = 1
 
 class NotBegun(Exception):
     """Something isn't installed, a port is taken, or a process ended before it answered; the text says what to do."""
-
-
-def free_ports(count):
-    """As many ports that nobody listens at, of those that the system gives to no connection of its own."""
-    found = []
-    while len(found) < count:
-        port = random.randrange(*PORTS)
-        if port not in found and is_free(port):
-            found.append(port)
-    return found
 
 
 def is_free(port):
@@ -201,7 +189,7 @@ class Fleet:
         stands before a port, and `etcd` is another program of it."""
         self.folder, self.program, port = pathlib.Path(folder), program, how.get("port", 0)
         self.options, self.count, self.env = how.get("options", ()), servers, how.get("env", lambda number: {})
-        ports = iter(free_ports(2 * members + 2 * servers))
+        ports = iter(served.free_ports(2 * members + 2 * servers))
         self.client_ports = [port + it if port else next(ports) for it in range(servers)]
         self.peer_ports = [next(ports) for _ in range(servers)]
         self.members = [

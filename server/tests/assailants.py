@@ -1,6 +1,6 @@
 #!/usr/bin/env python3
 """Clients that begin TLS and mean no good, until they are told to end by the end of their input: assailants.py PORT HOW
-COUNT [FILE]. So many threads connect again and again, and do this:
+COUNT [FILE]. It says when they begin. So many threads connect again and again, and do this:
 
     chain    a handshake in which they show the certificates of FILE, with its key
     bare     a handshake in which they show none
@@ -85,6 +85,7 @@ def main():
 
     for number in range(count):
         threading.Thread(target=again, args=(number,), daemon=True).start()
+    print("begun", flush=True)
     sys.stdin.read()
 
 

@@ -23,21 +23,23 @@ sys.dont_write_bytecode = True
 import durable
 import scans
 import served
-from served import Refused, eventually, free_ports, main
+from served import Missed, Refused, again, caught, eventually, free_ports, main, within
 
 # Has a program see its machine as one that was suspended.
 SUSPENDED = pathlib.Path(__file__).resolve().parents[2] / "tools/suspended.c"
 SHARDS = 12
 SERVERS = 3
-LEASE = 2
+# For how long a process may stand still, where a test is of what comes then, and where none is.
+LEASE, LASTING = 6, 30
 # How long after a lease's end shards are answered for elsewhere; on a busy machine it takes longer.
 RECOVERY = 2
 # What a machine with other work may take besides.
 SLOW = 6
-PATIENCE = 20
+PATIENCE = served.SECONDS
 # How soon it is told that a process isn't reached: connecting in vain takes longer.
 SOON = 1.8
-WAIT = 10_000
+# Where etcd's data lies: in memory, if there is such a folder, so that no disk is waited for.
+ROOM = next((it for it in ("/dev/shm",) if os.access(it, os.W_OK)), None)
 
 
 class Etcd:
@@ -106,15 +108,16 @@ def command(program, cluster, server, options=()):
     return [
         program, "--port", "0", "--http-port", "0", "--log-format", "json", "--etcd", cluster.etcd.urls,
         "--name", str(server), "--listen", "127.0.0.1:0", "--servers", str(SERVERS), "--shards", str(SHARDS),
-        "--lease", str(LEASE), "--wait", str(WAIT), "--threads", "2", *map(str, options),
+        "--lease", str(cluster.lease), "--wait", str(served.WAIT), "--threads", "2", *map(str, options),
     ]
 
 
 class Cluster:
     """Processes over members of etcd, by the numbers of their servers."""
 
-    def __init__(self, program, etcd, options, env):
-        self.program, self.etcd, self.options, self.env, self.processes = program, etcd, options, env, {}
+    def __init__(self, program, etcd, options, lease, env):
+        self.program, self.etcd, self.options, self.lease, self.env = program, etcd, options, lease, env
+        self.processes = {}
 
     def begin(self, server, *options):
         self.processes[server] = Process(self.program, self, server, (*self.options, *options))
@@ -147,12 +150,12 @@ class Cluster:
 
 
 @contextlib.contextmanager
-def cluster(program, *options, members=1, env=None):
-    with tempfile.TemporaryDirectory(prefix="sm-cluster-") as room:
+def cluster(program, *options, lease=LASTING, members=1, env=None):
+    with tempfile.TemporaryDirectory(prefix="sm-cluster-", dir=ROOM) as room:
         etcd = Etcd(members, room)
         try:
             etcd.wait_until_up()
-            found = Cluster(program, etcd, options, env)
+            found = Cluster(program, etcd, options, lease, env)
             try:
                 for server in range(1, SERVERS + 1):
                     found.begin(server)
@@ -185,8 +188,8 @@ def is_settled(client, without=None):
 
 
 def any_process_answers_any_key(program):
-    with contextlib.ExitStack() as stack:
-        several, memory = (stack.enter_context(it(program)) for it in (cluster, served.served))
+    # Whoever begins as one that runs waits for a lease to learn it.
+    with cluster(program, lease=LEASE) as several, served.served(program) as memory, contextlib.ExitStack() as stack:
         one = stack.enter_context(memory.client())
         clients = [stack.enter_context(several.client(it)) for it in several.processes]
         for words in durable.random_lines(random.Random(5), 500):
@@ -209,7 +212,7 @@ def any_process_answers_any_key(program):
 
 
 def any_process_scans_all_keys(program):
-    with cluster(program, "--log-batches", 50) as several:
+    with cluster(program, "--log-batches", 50, lease=LEASE) as several:
         ones = {it: scans.of(process) for it, process in several.processes.items()}
         scans.written(ones[1])
         for server, one in ones.items():
@@ -324,7 +327,7 @@ def at(process, key):
 
 
 def a_process_past_its_lease_tells_what_others_wrote(program):
-    with cluster(program, "--reads", "lease") as several:
+    with cluster(program, "--reads", "lease", lease=LEASE) as several:
         return told_past_its_lease(several, lambda process, seconds: None)
 
 
@@ -341,7 +344,7 @@ def a_machine_that_was_suspended_tells_what_others_wrote(program):
             with open(f"{room}/{process.pid}", "r+b") as behind:
                 behind.write(int(seconds * 1e9).to_bytes(8, sys.byteorder))
 
-        with cluster(program, "--reads", "lease", env=env) as several:
+        with cluster(program, "--reads", "lease", lease=LEASE, env=env) as several:
             return told_past_its_lease(several, suspend)
 
 
@@ -355,9 +358,8 @@ def told_past_its_lease(several, wake):
         owned = {it for it, (_, owner) in enumerate(shards(writer)) if owner == str(gone)}
         keys = sorted((f"key:{it}" for it in range(60)), key=lambda it: writer.ask("SM", "KEY", it) not in owned)
         client.piped([("SET", it, "old") for it in keys])
-        assert client.piped([("GET", it) for it in keys]) == [b"old"] * len(keys)
-        before = reads_by_lease(several.processes[gone])
-        assert owned and before > 0
+        assert owned and client.piped([("GET", it) for it in keys]) == [b"old"] * len(keys)
+        eventually(lambda: client.ask("GET", keys[0]) and reads_by_lease(several.processes[gone]) > 0)
         began = time.monotonic()
         process.send_signal(signal.SIGSTOP)
         several.settled(without=gone)
@@ -403,10 +405,7 @@ def who_ends_within_a_handshake_holds_no_thread(program):
             took = served.slowest_beside(clients, port, how, 8)
             told.append(f"{how} {took * 1000:.1f} ms")
             eventually(lambda: not process.threads("from"))
-        used = process.processor_seconds()
-        time.sleep(1)
-        used = process.processor_seconds() - used
-        assert used < 0.5, f"{used} processor seconds in one"
+        eventually(lambda: process.used_in_a_second() < 0.5)
         return f"one of a hundred took {', '.join(told)}"
 
 
@@ -559,8 +558,9 @@ def shards_spread_over_servers_again(program):
         return f"{load.checked(client)} additions"
 
 
+@again
 def kills_of_a_process_lose_nothing(program):
-    with cluster(program) as several:
+    with cluster(program, lease=LEASE) as several:
         leader = several.leader()
         killed = next(it for it in several.processes if it != leader)
         with Load(several, 6) as load:
@@ -575,7 +575,7 @@ def kills_of_a_process_lose_nothing(program):
         assert not wrong, wrong[:3]
         with several.any() as client:
             total = load.checked(client)
-        assert took < LEASE + RECOVERY + SLOW, f"it took {took:.1f} s"
+        within(took, LEASE + RECOVERY + SLOW)
         several.begin(killed)
         with several.any() as client:
             eventually(lambda: rows(client)[killed - 1][1] == "up")
@@ -584,9 +584,10 @@ def kills_of_a_process_lose_nothing(program):
     return f"{total} additions, answered elsewhere after {took:.1f} s, longest {load.longest:.1f} s"
 
 
+@again
 def who_does_not_wait_is_told(program):
     """A process that is stopped, and one that is gone: what it was asked may be made, what it isn't asked is not."""
-    with cluster(program, "--wait", 150) as several:
+    with cluster(program, "--wait", 150, lease=LEASE) as several:
         gone = next(it for it in several.processes if it != several.leader())
         with Load(several, 18) as load:
             time.sleep(0.3)
@@ -596,13 +597,16 @@ def who_does_not_wait_is_told(program):
             with several.any() as client:
                 eventually(lambda: rows(client)[gone - 1][1] == "up")
                 for shard in range(0, SHARDS, 2):
-                    client.ask("SM", "MIGRATE", shard, gone)
+                    with contextlib.suppress(Refused):
+                        client.ask("SM", "MIGRATE", shard, gone)
             several.processes[gone].kill()
             del several.processes[gone]
             time.sleep(LEASE + 1)
         names = {it.split()[0] for it in load.errors}
         known = {"UNKNOWN", "PEERDOWN", "SHARDPAUSED", "SERVERDOWN", "SHARDBUSY", "STOREDOWN", "LOADING"}
-        assert {"UNKNOWN", "PEERDOWN"} <= names <= known, names
+        assert names <= known, names
+        if lacking := {"UNKNOWN", "PEERDOWN"} - names:
+            raise Missed(lacking)
         with several.any() as client:
             total = load.checked(client)
     return f"{total} additions, {', '.join(sorted(names))}"
@@ -663,9 +667,10 @@ def one_process_knows_a_command_more(program):
         return f"{total} additions meanwhile"
 
 
+@again
 def who_takes_the_place_of_a_process_is_asked(program):
     """The process before it was stopped, so that connections to it stay; strangers take what places they get."""
-    with cluster(program) as several, contextlib.ExitStack() as stack:
+    with cluster(program, lease=LEASE) as several, contextlib.ExitStack() as stack:
         gone = next(it for it in several.processes if it != several.leader())
         client = stack.enter_context(several.client(next(it for it in several.processes if it != gone)))
         keys = [f"key:{it}" for it in range(60)]
@@ -683,7 +688,7 @@ def who_takes_the_place_of_a_process_is_asked(program):
         began = time.monotonic()
         assert client.ask("INCR", keys[0]) == 2
         took = time.monotonic() - began
-        assert took < SOON, f"it took {took:.1f} s"
+        within(took, SOON)
         assert client.piped([("INCR", it) for it in keys[1:]]) == [2] * len(keys[1:])
         errors_of_the_control_are_counted(several.processes[gone], port)
         return f"{took:.1f} s"
@@ -705,6 +710,7 @@ def errors_of_the_control_are_counted(process, port):
     assert len(counted) == 1 and counted[0].endswith(" 1"), counted
 
 
+@again
 def who_is_not_reached_is_told_in_time(program):
     """A machine that answers no connection doesn't have others wait for longer than they like."""
     with cluster(program, "--wait", 500) as several, contextlib.ExitStack() as stack:
@@ -721,9 +727,9 @@ def who_is_not_reached_is_told_in_time(program):
             with durable.served_refusal("PEERDOWN"):
                 client.ask("INCR", "key")
             times.append(time.monotonic() - began)
-        assert min(times) < SOON, times
+        within(min(times), SOON)
         with several.client(silent) as there:
-            assert there.ask("GET", "key") is None
+            eventually(lambda: served_answer(there, ("GET", "key")) is None)
         return f"{min(times):.1f} s"
 
 
@@ -737,15 +743,16 @@ def full_place(stack):
     return f"127.0.0.1:{place.getsockname()[1]}"
 
 
+@again
 def kills_of_the_leader_let_migrations_go_on(program):
-    with cluster(program, "--pace", 150) as several:
+    with cluster(program, "--pace", 300, lease=LEASE) as several:
         leader = several.leader()
         others = [it for it in several.processes if it != leader]
         with Load(several, 6) as load, several.client(others[0]) as client:
             shard = next(it for it, (_, owner) in enumerate(shards(client)) if int(owner) == others[0])
             with several.client(others[1]) as asking:
                 asking.send("SM", "MIGRATE", shard, others[1])
-                eventually(lambda: shards(client)[shard][0] != "Serving")
+                caught(lambda: shards(client)[shard][0] != "Serving")
                 several.processes[leader].kill()
                 del several.processes[leader]
                 several.settled(without=leader)
@@ -757,13 +764,14 @@ def kills_of_the_leader_let_migrations_go_on(program):
             return f"{load.checked(client)} additions"
 
 
+@again
 def kills_of_the_leader_let_drains_go_on(program):
-    with cluster(program, "--pace", 30) as several:
+    with cluster(program, "--pace", 100, lease=LEASE) as several:
         leader = several.leader()
         drained, other = (it for it in several.processes if it != leader)
         with several.client(other) as client, several.client(drained) as asking:
             asking.send("SM", "DRAIN", drained)
-            eventually(lambda: any(stand != "Serving" for stand, _ in shards(client)))
+            caught(lambda: any(stand != "Serving" for stand, _ in shards(client)))
             left = sum(owner == str(drained) for _, owner in shards(client))
             several.processes[leader].kill()
             del several.processes[leader]
@@ -823,8 +831,9 @@ def restarts_are_told_when_a_process_may_end(program):
         return f"{load.checked(client)} additions, {len(load.errors)} of unknown outcome"
 
 
+@again
 def restarts_wait_for_no_process_that_has_failed(program):
-    with cluster(program) as several:
+    with cluster(program, lease=LEASE) as several:
         killed, server = (it for it in several.processes if it != several.leader())
         with several.client(server) as client:
             told = str(served_answer(client, ("SM", "FAIL", killed)))
@@ -838,7 +847,8 @@ def restarts_wait_for_no_process_that_has_failed(program):
             told = str(served_answer(client, ("SM", "RESTART", server)))
             took = time.monotonic() - began
             assert told.startswith("REFUSED GlobalCap: ") and f"server {killed} has failed" in told, told
-            assert took < SOON and rows(client)[server - 1][1] == "up", (took, rows(client))
+            assert rows(client)[server - 1][1] == "up", rows(client)
+            within(took, SOON)
             several.begin(killed)
             eventually(lambda: rows(client)[killed - 1][1] == "up")
             told = client.ask("SM", "RESTART", server)

@@ -12,7 +12,7 @@ import time
 
 import redis
 import scans
-from served import SECONDS, Client, Refused, free_port, main, served
+from served import SECONDS, Client, Refused, eventually, free_port, main, served
 
 SM = pathlib.Path(__file__).resolve().parents[2] / "sm"
 
@@ -318,13 +318,18 @@ def redis_served():
         command = ["redis-server", "--port", str(port), "--save", "", "--appendonly", "no", "--dir", room]
         with subprocess.Popen(command, stdout=subprocess.DEVNULL) as process:
             try:
-                for _ in range(100):
-                    with contextlib.suppress(OSError), Client(port):
-                        break
-                    time.sleep(0.05)
+                eventually(lambda: process.poll() is not None or is_served(port))
+                assert process.poll() is None, f"redis-server ended with {process.returncode}"
                 yield port
             finally:
                 process.terminate()
+
+
+def is_served(port):
+    """Whether somebody listens at this port."""
+    with contextlib.suppress(OSError), Client(port):
+        return True
+    return False
 
 
 def by_hello(client, version):
@@ -420,7 +425,9 @@ def keys_are_listed_and_flushed(program):
     for options in scans.OPTIONS:
         with served(program, *options) as server:
             scans.keys_are_listed_and_flushed(server)
-    with served(program, "--shards", 8, "--wait", 100) as server:
+    with served(program, "--shards", 8) as server:
+        scans.a_flush_waits(server)
+    with served(program, "--shards", 8, "--wait", 300) as server:
         scans.a_flush_that_stops_is_told(server, 8)
 
 
@@ -444,7 +451,7 @@ def texts_for_people_are_told_as_by_redis(program):
 def who_quits_is_answered_and_cut_off(program):
     with redis_served() as other, served(program) as server:
         for port, lines in itertools.product((other, server.port), (b"QUIT\r\n", b"MULTI\r\nPING\r\nQUIT\r\n")):
-            with socket.create_connection(("127.0.0.1", port), 10) as one:
+            with socket.create_connection(("127.0.0.1", port), SECONDS) as one:
                 one.sendall(lines)
                 told = one.makefile("rb").read()
             wanted = b"+OK\r\n+QUEUED\r\n+OK\r\n" if b"MULTI" in lines else b"+OK\r\n"
@@ -545,7 +552,7 @@ def redis_cli_speaks_with_it(program):
 
         def said(*words, given=None):
             command = ["redis-cli", "-p", str(server.port), *words]
-            ran = subprocess.run(command, input=given, capture_output=True, text=True, timeout=20)
+            ran = subprocess.run(command, input=given, capture_output=True, text=True, timeout=SECONDS)
             assert ran.returncode == 0, ran.stderr
             return ran.stdout
 
@@ -606,11 +613,11 @@ def the_shell_speaks_with_it(program):
     with served(program) as server:
         command = [SM, "shell", "--connect", str(server.port)]
         given = "".join(f"{line}\n" for line, _ in pairs) + "quit\n"
-        ran = subprocess.run(command, input=given, capture_output=True, text=True, timeout=20)
+        ran = subprocess.run(command, input=given, capture_output=True, text=True, timeout=SECONDS)
         assert ran.returncode == 0, ran.stderr
         found = ran.stdout.splitlines()
         assert len(found) == len(wanted) and all(map(str.startswith, found, wanted)), found
-    ran = subprocess.run(command, input=given, capture_output=True, text=True, timeout=20)
+    ran = subprocess.run(command, input=given, capture_output=True, text=True, timeout=SECONDS)
     assert ran.returncode == 1 and "does ./sm serve run there?" in ran.stderr, ran
 
 

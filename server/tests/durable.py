@@ -25,7 +25,7 @@ import time
 sys.dont_write_bytecode = True
 import scans
 import served
-from served import Refused, eventually, main
+from served import Refused, again, caught, main
 
 SETTINGS = pathlib.Path(__file__).resolve().parents[2] / "tools/settings"
 SHARDS = 16
@@ -51,18 +51,6 @@ def stands(client):
     return [it[:6] for it in client.rows("SHARDS")]
 
 
-def told_at_last(client, commands):
-    """The answers to these, once none is refused: on a crowded machine a shard may not be read within a short wait."""
-    told = []
-
-    def are_told():
-        told[:] = client.piped(commands)
-        return not [it for it in told if isinstance(it, Refused)]
-
-    eventually(are_told)
-    return told
-
-
 def restarts_keep_all(program):
     lines = [("SET", f"key:{it}", f"value {it}") for it in range(200)]
     lines += [("SET", "count", 7), ("INCR", "count"), ("APPEND", "count", "x"), ("SET", "n", 12), ("APPEND", "n", 3)]
@@ -78,11 +66,11 @@ def restarts_keep_all(program):
             client.ask("SM", "PAUSE", 5)
             stood = stands(client)
         for sync in ("always", "second", "no"):
-            with over(program, data, "--sync", sync, "--wait", 50) as server, server.client() as client:
+            with over(program, data, "--sync", sync) as server, server.client() as client:
                 after = stands(client)
                 assert after == stood, f"{stood} became {after}"
                 client.ask("SM", "RESUME", 5)
-                assert told_at_last(client, reads) == held
+                assert client.piped(reads) == held
                 client.ask("SM", "PAUSE", 5)
                 stood = stands(client)
 
@@ -146,8 +134,8 @@ def answers_have_a_bound(program):
 
 
 def a_refusal_of_one_key_hides_no_write_of_another(program):
-    with folder() as data, served.served(program, "--data", data, "--bounds", "m,t", "--wait", 50) as server:
-        with server.client() as client:
+    with folder() as data, served.served(program, "--data", data, "--bounds", "m,t", "--wait", 300) as server:
+        with server.client() as client, server.client() as other:
             for shard in (1, 2):
                 client.ask("SM", "PAUSE", shard)
             for words, name, held in [
@@ -157,7 +145,9 @@ def a_refusal_of_one_key_hides_no_write_of_another(program):
                 (("DEL", "z", "a"), "UNKNOWN", None),
             ]:
                 told = str(answer_of(client, words))
-                assert told.startswith(f"{name} ") and client.ask("GET", "a") == held, (words, told)
+                assert told.startswith(f"{name} "), (words, told)
+                # Where the disk is slow what is written may come later than the refusal of the other key.
+                wait_until(lambda: answer_of(other, ("GET", "a")) == held, words)
 
 
 def commands_of_a_transaction_are_counted_once(program):
@@ -233,12 +223,16 @@ def scans_give_what_stays_while_shards_move(program):
 
 
 def scans_wait_for_a_paused_shard(program):
+    asked = ("SCAN", 0, "COUNT", 1000), ("SCANRANGE", "", "", 9), ("DBSIZE",)
     with folder() as data, over(program, data, "--wait", 300) as server, server.client() as client:
-        client.piped([("SET", it, 1) for it in range(99)])
         client.ask("SM", "PAUSE", 7)
-        for words in (("SCAN", 0, "COUNT", 1000), ("SCANRANGE", "", "", 9), ("DBSIZE",)):
+        for words in asked:
             began = time.monotonic()
             assert scans.refused(server, *words) == "SHARDPAUSED" and time.monotonic() - began > 0.25, words
+    with folder() as data, over(program, data) as server, server.client() as client:
+        client.piped([("SET", it, 1) for it in range(99)])
+        client.ask("SM", "PAUSE", 7)
+        for words in asked:
             with server.client() as waiting:
                 waiting.send(*words)
                 time.sleep(0.05)
@@ -248,15 +242,17 @@ def scans_wait_for_a_paused_shard(program):
 
 
 def keys_are_listed_and_flushed(program):
-    with folder() as data, over(program, data, "--sync", "no", "--wait", 300) as server:
+    with folder() as data, over(program, data, "--sync", "no") as server:
         scans.keys_are_listed_and_flushed(server)
+        scans.a_flush_waits(server)
+    with folder() as data, over(program, data, "--sync", "no", "--wait", 1_000) as server:
         scans.a_flush_that_stops_is_told(server, SHARDS)
     with folder() as data:
         with over(program, data) as server, server.client() as client:
             client.piped([("SET", it, 1) for it in range(300)])
             assert client.ask("FLUSHDB") == "OK" and client.ask("SET", "new", 1) == "OK"
         with over(program, data) as server, server.client() as client:
-            assert told_at_last(client, [("KEYS", "*")]) == [[b"new"]]
+            assert client.ask("KEYS", "*") == [b"new"]
 
 
 def what_reads_first_has_no_number(program):
@@ -375,8 +371,7 @@ def checked(client, held, stood):
 def kill(program, data, held, stood, seconds):
     """Runs a server over the folder under load until it is killed; returns how each shard stood, and how many writes
     were answered."""
-    command = [program, "--port", "0", "--http-port", "0", "--log-format", "json", "--data", data, "--shards", str(SHARDS)]
-    command += ["--log-batches", str(BATCHES)]
+    command = served.server_command(program, "--data", data, "--shards", SHARDS, "--log-batches", BATCHES)
     with subprocess.Popen(command, stderr=subprocess.PIPE, stdin=subprocess.DEVNULL, text=True) as process:
         port = served.port_of(process)
         reading = served.read_all(process, collections.deque(maxlen=0))
@@ -435,6 +430,7 @@ def wait_until(is_so, what):
         time.sleep(0.01)
 
 
+@again
 def drains_and_returns_go_on_at_the_next_start(program):
     """A process ends while shards go elsewhere, or come home after a restart."""
     with folder() as data:
@@ -442,7 +438,7 @@ def drains_and_returns_go_on_at_the_next_start(program):
             with over(program, data, "--pace", 50) as server, server.client() as client, server.client() as other:
                 before = owners(client)
                 other.send("SM", word, 2)
-                wait_until(lambda: any(doing in it for it in client.ask("SM", "SERVERS")), doing)
+                caught(lambda: any(doing in it for it in client.ask("SM", "SERVERS")))
                 # Each shard takes four steps, so this is in the midst of the first one.
                 time.sleep(0.1)
             with over(program, data) as server, server.client() as client:
@@ -504,7 +500,7 @@ def migrations_lose_no_addition(program):
         for it in threads:
             it.start()
         with server.client() as client:
-            shard = next(it for it in range(SHARDS) if is_hot(client, it))
+            shard = client.ask("SM", "KEY", "{hot}")
             end, moves = time.monotonic() + 3, 0
             while time.monotonic() < end:
                 client.ask("SM", "MIGRATE", shard, owner(client, shard) % 4 + 1)
@@ -536,20 +532,6 @@ def spent_generations_are_told(program):
 
 def owner(client, shard):
     return int(client.ask("SM", "LOOK", shard).split()[1])
-
-
-def is_hot(client, shard):
-    """Whether the key of additions is of the shard: it waits while that is paused."""
-    client.ask("SM", "PAUSE", shard)
-    with served.Client(client.socket.getpeername()[1]) as other:
-        other.socket.settimeout(0.1)
-        try:
-            other.ask("GET", "{hot}")
-            return False
-        except (TimeoutError, Refused):
-            return True
-        finally:
-            client.ask("SM", "RESUME", shard)
 
 
 def refused_start(program, *options):
@@ -592,7 +574,7 @@ def damaged_logs_are_refused_by_name(program):
         with over(program, data) as server, server.client() as client:
             client.piped([("SET", f"key:{it}", it) for it in range(100)])
         changed(f"{data}/durkenzo.sqlite", "UPDATE pairs SET value = x'00' WHERE CAST(key AS TEXT) LIKE 'batch/%'")
-        with over(program, data, "--wait", 5_000) as server, server.client() as client:
+        with over(program, data) as server, server.client() as client:
             with served_refusal("SHARDDAMAGED"):
                 client.ask("GET", "key:1")
 
@@ -622,7 +604,7 @@ def changed_bits_are_refused_by_name(program):
 
 def refused_keys(program, data, values):
     """How many keys are refused of those that were written; all others have their values, and can be written."""
-    with over(program, data, "--wait", 5_000) as server, server.client() as client:
+    with over(program, data) as server, server.client() as client:
         told = dict(zip(values, client.piped([("GET", it) for it in values])))
         wrong = {it for it, answer in told.items() if answer != values[it] and not isinstance(answer, Refused)}
         assert not wrong, [(it, told[it]) for it in wrong]
@@ -689,7 +671,7 @@ def full_disks_take_deletions_and_then_writes(program):
 
 def filled_and_killed(program, data):
     """Runs a server over the folder until its disk is full, and then it is killed; returns what was written."""
-    command = [program, "--port", "0", "--http-port", "0", "--log-format", "json", "--data", data, "--shards", str(SHARDS)]
+    command = served.server_command(program, "--data", data, "--shards", SHARDS)
     with subprocess.Popen(command, stderr=subprocess.PIPE, stdin=subprocess.DEVNULL, text=True) as process:
         try:
             with served.Client(served.port_of(process)) as client:
@@ -711,45 +693,53 @@ def fill(client):
 
 
 def waiting_stops_its_own_connections_alone(program):
-    with folder() as data, over(program, data, "--wait", 200) as server, server.client() as client:
+    """Were others to wait too, who waits for the shard would be refused before these are answered."""
+    with folder() as data, over(program, data, "--sync", "no") as server, server.client() as client:
         client.ask("SET", "{hot}", 1)
-        shard = next(it for it in range(SHARDS) if is_hot(client, it))
+        shard = client.ask("SM", "KEY", "{hot}")
         client.ask("SM", "PAUSE", shard)
-        other = next(key for key in map(str, range(99)) if answers(client, key))
+        other = next(key for key in map(str, range(99)) if client.ask("SM", "KEY", key) != shard)
         with server.client() as waiting:
             waiting.send("INCR", "{hot}")
-            began = time.monotonic()
             for _ in range(20):
                 client.ask("INCR", other)
             client.ask("SM", "RESUME", shard)
-            assert waiting.read() == 2 and time.monotonic() - began < 1
-        client.ask("SM", "PAUSE", shard)
+            assert waiting.read() == 2
+    with folder() as data, over(program, data, "--wait", 200) as server, server.client() as client:
+        client.ask("SM", "PAUSE", client.ask("SM", "KEY", "{hot}"))
         with served_refusal("SHARDPAUSED"):
             client.ask("GET", "{hot}")
 
 
 # What is asked by clients that leave at once, how many of them there are, and for how long.
 ASKED = [("GET", "a"), ("SET", "a", "x"), ("DBSIZE",), ("SCAN", "0"), ("SM", "SHARDS")]
-LEAVERS, BEGUN, BESIDE, TRIES = 4, 0.4, 0.4, 8
-# How long somebody beside them waits for an answer by the mean at most, and how many descriptors the server has then.
-MOST_WAIT, MOST_DESCRIPTORS = 0.1, 500
+LEAVERS, BEGUN, BESIDE = 4, 0.4, 0.4
+# How long somebody beside them waits for an answer by the mean at most, or how many times as long as without them just
+# before, and how many descriptors the server has then.
+MOST_WAIT, TIMES, MOST_DESCRIPTORS = 0.1, 20, 500
+
+
+def mean_of_get(server, client):
+    """How long an answer to GET takes by the mean, and how many descriptors the server has meanwhile at most."""
+    began, count, most = time.monotonic(), 0, 0
+    while time.monotonic() < began + BESIDE or count < 10:
+        client.ask("GET", "a")
+        count, most = count + 1, max(most, server.descriptors())
+    return (time.monotonic() - began) / count, most
 
 
 def beside_leavers(server, words):
-    """How long an answer to GET takes by the mean beside clients that ask this and leave, and how many descriptors the
-    server has then at most."""
+    """How many times as long as it may an answer to GET takes by the mean beside clients that ask this and leave, how
+    long that is, and how many descriptors the server has then at most."""
     command = [sys.executable, pathlib.Path(__file__).parent / "leavers.py", str(server.port), *words]
     with contextlib.ExitStack() as stack, server.client() as client:
         client.ask("GET", "a")
+        alone = mean_of_get(server, client)[0]
         for _ in range(LEAVERS):
-            leaver = stack.enter_context(subprocess.Popen(command, stdin=subprocess.PIPE))
-            stack.callback(leaver.kill)
+            stack.enter_context(served.begun(command))
         time.sleep(BEGUN)
-        began, count, most = time.monotonic(), 0, 0
-        while time.monotonic() < began + BESIDE:
-            client.ask("GET", "a")
-            count, most = count + 1, max(most, server.descriptors())
-        return (time.monotonic() - began) / count, most
+        took, most = mean_of_get(server, client)
+        return took / max(MOST_WAIT, TIMES * alone), took, most
 
 
 def who_asks_and_leaves_holds_nobody_up(program):
@@ -761,11 +751,11 @@ def who_asks_and_leaves_holds_nobody_up(program):
             client.piped([("SET", f"key:{it}", it) for it in range(300)])
         for server, words in [*((durable, it) for it in ASKED), (memory, ("SM", "SHARDS"))]:
             before, found = server.at_rest(), []
-            while not found or found[-1][0] > MOST_WAIT or found[-1][1] > MOST_DESCRIPTORS:
-                assert len(found) < TRIES, f"beside {words}: seconds of GET and descriptors {found}"
+            while not found or found[-1][0] > 1 or found[-1][2] > MOST_DESCRIPTORS:
+                assert len(found) < served.TRIES, f"beside {words}: seconds of GET and descriptors {found}"
                 found.append(beside_leavers(server, words))
                 assert server.settle(before) <= before, f"{server.descriptors()} descriptors stay after {words}"
-            told.append(f"{found[-1][0] * 1000:.1f} ms and {found[-1][1]}")
+            told.append(f"{found[-1][1] * 1000:.1f} ms and {found[-1][2]}")
     return ", ".join(told)
 
 
@@ -803,7 +793,7 @@ def who_sends_no_more_is_answered(program):
     """It waits for a second at most, which a machine that has other work may miss now and then."""
     sent = b"SET a 1\r\nINCR a\r\nDEL a b\r\nDBSIZE\r\nSM KEY a\r\nSM LOOK 3\r\nGET a\r\n"
     whole, count = rb"\+OK\r\n:2\r\n:1\r\n:0\r\n:\d+\r\n\+Serving .*\r\n\$-1\r\n", 20
-    with folder() as data, over(program, data) as server:
+    with folder() as data, over(program, data, "--sync", "no") as server:
         told = []
         for _ in range(count):
             with server.client() as client:
@@ -815,7 +805,7 @@ def who_sends_no_more_is_answered(program):
 
 
 def migrations_keep_no_client_that_has_left(program):
-    with folder() as data, over(program, data, "--pace", 2_000) as server, server.client() as client:
+    with folder() as data, over(program, data, "--pace", 20_000) as server, server.client() as client:
         before = server.at_rest()
         for it in range(50):
             with server.client() as leaves:
@@ -824,7 +814,7 @@ def migrations_keep_no_client_that_has_left(program):
         assert server.settle(before) <= before, f"{before} descriptors before, and {server.descriptors()} after"
         took = time.monotonic() - began
         # A migration takes three of these paces.
-        assert took < 4, f"descriptors stay for {took} s"
+        assert took < 40, f"descriptors stay for {took} s"
 
 
 def answers(client, key, value=1):

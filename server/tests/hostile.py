@@ -2,8 +2,10 @@
 """Clients that send what they shouldn't, or nothing, or read nothing: hostile.py PROGRAM."""
 import contextlib
 import random
+import re
 import resource
 import select
+import signal
 import socket
 import subprocess
 import tempfile
@@ -11,7 +13,7 @@ import time
 import urllib.error
 import urllib.request
 
-from served import SECONDS, Client, Refused, free_port, main, packed, served
+from served import SECONDS, TRIES, Client, Refused, eventually, free_port, main, packed, served
 
 SEED = 20_251_126
 SPOILT_BYTES = 1_000_000
@@ -65,7 +67,7 @@ def spoilt(chance):
 
 def sent(port, bytes_):
     """Sends them, and reads what is answered until nothing comes for a while or the connection ends."""
-    with socket.create_connection(("127.0.0.1", port), 10) as one, contextlib.suppress(ConnectionError):
+    with socket.create_connection(("127.0.0.1", port), SECONDS) as one, contextlib.suppress(ConnectionError):
         one.sendall(bytes_)
         one.shutdown(socket.SHUT_WR)
         while one.recv(1 << 16):
@@ -105,7 +107,7 @@ def each_bound_is_told(program):
             (b"x" * 70_000, b"-ERR Protocol error: too big inline request: it has at most 65536 bytes"),
             (b'SET a "b\r\n', b"-ERR Protocol error: unbalanced quotes in request"),
         ]:
-            with socket.create_connection(("127.0.0.1", server.port), 10) as one:
+            with socket.create_connection(("127.0.0.1", server.port), SECONDS) as one:
                 one.sendall(bytes_)
                 answer = b""
                 with contextlib.suppress(ConnectionError):
@@ -155,7 +157,7 @@ def who_never_reads_takes_no_memory(program):
     with served(program) as server, server.client() as client:
         client.ask("SET", "a", b"v" * 60_000)
         before = server.memory()
-        with socket.create_connection(("127.0.0.1", server.port), 2) as deaf:
+        with socket.create_connection(("127.0.0.1", server.port), SECONDS) as deaf:
             deaf.setblocking(False)
             taken, end = 0, time.monotonic() + 1.5
             while time.monotonic() < end:
@@ -177,13 +179,13 @@ def who_never_reads_takes_no_memory(program):
         client.ask("MULTI")
         many = [("MGET", *["a"] * 100)] * 500 + [("INCR", "{a}n"), ("SET", "{a}b", 1, "GET"), ("DEL", "a")]
         assert set(client.piped(many)) == {"QUEUED"}
-        began = time.monotonic()
+        used = server.processor_seconds()
         answers = client.ask("EXEC")
         assert len(answers[0]) == 100 and str(answers[1]).startswith("TOOLARGE")
         assert answers[500] == 1 and str(answers[501]).startswith("TOOLARGE") and answers[502] == 1, answers[500:]
         assert client.piped([("GET", "{a}b"), ("GET", "{a}n")]) == [None, b"1"]
-        took = time.monotonic() - began
-        assert took < 2, f"{took} s"
+        used = server.processor_seconds() - used
+        assert used < 2, f"{used} processor seconds"
         return f"{taken} bytes of requests taken, {max(grown, 0) >> 10} KiB more memory"
 
 
@@ -213,32 +215,44 @@ def who_always_waits_for_more_takes_no_memory(program):
 
 
 def scans_leave_turns_to_others(program):
-    """Many that are sent at once hold the thread for no longer than one."""
+    """Many that are sent at once hold the thread for no longer than one. They and a command of another client come while
+    the server is stopped, so it alone says which are done first."""
+    scans = 400
     with served(program, "--threads", 1) as server, server.client() as client:
         client.piped([("SET", f"k{it}", "v" * 1_000) for it in range(1_000)])
-        with socket.create_connection(("127.0.0.1", server.port), 10) as scanner:
-            scans = 400
-            scanner.sendall(b"SCAN 0 COUNT 1000 MATCH zz*\r\n" * scans)
-            time.sleep(0.02)
-            assert client.ask("PING") == "PONG"
-            scanner.setblocking(False)
-            answered = b""
-            with contextlib.suppress(BlockingIOError):
-                while more := scanner.recv(1 << 16):
-                    answered += more
-            found = answered.count(b"*2\r\n")
-            assert found < scans, "all were answered first"
-            scanner.setblocking(True)
-            while answered.count(b"*2\r\n") < scans:
-                answered += scanner.recv(1 << 16) or b"*2\r\n" * scans
-        return f"{found} of {scans} were answered before another client"
+        for _ in range(TRIES):
+            before = done(client)
+            with server.client() as scanner:
+                assert scanner.ask("PING") == "PONG"
+                before += 1
+                server.process.send_signal(signal.SIGSTOP)
+                eventually(server.is_stopped)
+                scanner.socket.sendall(b"SCAN 0 COUNT 1000 MATCH zz*\r\n" * scans)
+                client.send("INFO", "stats")
+                server.process.send_signal(signal.SIGCONT)
+                found = done_of(client.read()) - before - 1
+                assert all(scanner.read()[1] == [] for _ in range(scans))
+            # That of the other client may have been looked at first.
+            if 0 < found:
+                assert found < scans, "all were answered first"
+                return f"{found} of {scans} were answered before another client"
+        raise AssertionError("another client always comes first")
+
+
+def done(client):
+    """How many commands the server has done."""
+    return done_of(client.ask("INFO", "stats"))
+
+
+def done_of(info):
+    return int(re.search(rb"total_commands_processed:(\d+)", info)[1])
 
 
 def web_pages_change_nothing(program):
     """What a browser sends for a page, with commands among it, ends the connection, and nothing of it is done."""
     with served(program) as server:
         for head in (b"POST / HTTP/1.1\r\n\r\n", b"GET / HTTP/1.1\r\nhost: a\r\n\r\n", b"*1\r\n$4\r\npost\r\n"):
-            with socket.create_connection(("127.0.0.1", server.port), 10) as one:
+            with socket.create_connection(("127.0.0.1", server.port), SECONDS) as one:
                 answer = b""
                 with contextlib.suppress(ConnectionError):
                     one.sendall(head + b"SET web 1\r\n")
@@ -267,11 +281,11 @@ def idle_connections_cost_little(program):
         idle = []
         try:
             for _ in range(IDLE):
-                one = socket.create_connection(("127.0.0.1", server.port), 10)
+                one = socket.create_connection(("127.0.0.1", server.port), SECONDS)
                 one.sendall(b"*3\r\n$3\r\nSET\r\n$3\r\n")
                 idle.append(one)
             load = ["redis-benchmark", "-p", str(server.port), "-t", "get", "-n", "50000", "-q", "-c", "50"]
-            subprocess.run(load, stdout=subprocess.DEVNULL, timeout=30, check=True)
+            subprocess.run(load, stdout=subprocess.DEVNULL, timeout=5 * SECONDS, check=True)
             each = (server.memory() - memory) / IDLE
             assert each < MOST_IDLE_BYTES, f"{each:.0f} bytes each"
             idle[IDLE // 2].sendall(b"abc\r\n$1\r\nx\r\n")
@@ -306,7 +320,7 @@ def few_open_files_are_shared_out(program):
         told = {str(it.read()) for it in clients[most:]}
         assert told == {"ERR max number of clients reached"}, told
         for path in ("healthz", "metrics"):
-            with urllib.request.urlopen(f"http://127.0.0.1:{port}/{path}", timeout=5) as answer:
+            with urllib.request.urlopen(f"http://127.0.0.1:{port}/{path}", timeout=SECONDS) as answer:
                 assert answer.status == 200
         return f"{most} clients of 1024 open files"
 
@@ -315,7 +329,7 @@ def quick_ends_leave_nothing(program):
     with served(program) as server:
         before = server.at_rest()
         for turn in range(1_000):
-            with socket.create_connection(("127.0.0.1", server.port), 10) as one:
+            with socket.create_connection(("127.0.0.1", server.port), SECONDS) as one:
                 if turn % 2:
                     one.sendall(b"PING\r\n")
                 if turn % 3 == 0:
@@ -337,7 +351,7 @@ def filled(client, value, name="key"):
 def page_of(port, path):
     """The status of the page, and its text."""
     try:
-        with urllib.request.urlopen(f"http://127.0.0.1:{port}/{path}", timeout=10) as answer:
+        with urllib.request.urlopen(f"http://127.0.0.1:{port}/{path}", timeout=SECONDS) as answer:
             return answer.status, answer.read().decode()
     except urllib.error.HTTPError as error:
         return error.code, error.read().decode()
@@ -352,8 +366,7 @@ def beyond_its_memory(program, *options):
             keys, why = filled(client, b"v" * 50_000)
             assert why == OVER and 200 < len(keys) < 640, (why, len(keys))
             # Of what was in use the last commands' own bytes are free again.
-            while filled(client, b"v" * 500, "small")[0]:
-                time.sleep(0.05)
+            eventually(lambda: not filled(client, b"v" * 500, "small")[0])
             told = dict(it.split(":") for it in client.ask("INFO", "memory").decode().split("\r\n") if ":" in it)
             assert most - MEBIBYTE < int(told["used_memory"]) < most + 8 * MEBIBYTE, told
             assert (told["maxmemory"], told["maxmemory_policy"]) == (str(most), "noeviction"), told
@@ -370,7 +383,7 @@ def beyond_its_memory(program, *options):
             # A shard gives back the memory of what was deleted where that is more than what stays.
             gone = len(keys) * 3 // 4
             assert client.ask("DEL", *keys[:gone]) == gone and client.ask("EXISTS", *keys) == len(keys) - gone
-            soon(lambda: client.piped([("SET", "a", 1)]) == ["OK"])
+            eventually(lambda: client.piped([("SET", "a", 1)]) == ["OK"])
             assert client.ask("MGET", "a", keys[-1]) == [b"1", b"v" * 50_000]
 
 
@@ -392,14 +405,6 @@ def more_memory_than_allowed_is_refused(program):
     beyond_its_memory(program)
     with tempfile.TemporaryDirectory() as folder:
         beyond_its_memory(program, "--data", folder, "--sync", "no")
-
-
-def soon(is_so):
-    """Waits until it is so."""
-    end = time.monotonic() + SECONDS
-    while not is_so():
-        assert time.monotonic() < end, "it isn't so"
-        time.sleep(0.05)
 
 
 def told_beside(server, keys):
@@ -444,7 +449,7 @@ def without_memory(program, limit, *options):
         gone = len(keys) * 3 // 4
         assert sum(clients[0].piped([("DEL", it) for it in keys[:gone]])) == gone
         assert all(clients[1].ask("GET", it) == b"v" * 60_000 for it in keys[gone:])
-        soon(lambda: clients[0].piped([("SET", "a", 1)]) == ["OK"])
+        eventually(lambda: clients[0].piped([("SET", "a", 1)]) == ["OK"])
         assert all(it.ask("PING") == "PONG" for it in clients)
         return len(keys)
 
@@ -472,7 +477,7 @@ def what_clients_took_is_given_back(program):
                 assert [client.read() for _ in range(16)] == ["OK", *["QUEUED"] * 15]
             most = server.memory() - before
             assert most > 100 * MEBIBYTE, most
-        soon(lambda: server.memory() - before < most // 2)
+        eventually(lambda: server.memory() - before < most // 2)
         return f"{most >> 20} MiB, and then {(server.memory() - before) >> 20}"
 
 

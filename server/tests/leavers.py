@@ -1,6 +1,6 @@
 #!/usr/bin/env python3
 """Clients that ask and leave, until they are told to end by the end of their input: leavers.py PORT WORD... One after
-another connects, sends the command of these words five times, and closes without reading.
+another connects, sends the command of these words five times, and closes without reading. It says when they begin.
 
 What is measured beside them runs in another process, so that they take no turn of its interpreter."""
 import contextlib
@@ -26,6 +26,7 @@ def main():
                 one.sendall(sent)
 
     threading.Thread(target=again, daemon=True).start()
+    print("begun", flush=True)
     sys.stdin.read()
 
 

@@ -5,10 +5,9 @@ import multiprocessing
 import select
 import signal
 import subprocess
-import threading
 import time
 
-from served import Client, Refused, eventually, main, served
+from served import SECONDS, Client, Missed, Refused, again, caught, main, packed, served, within
 
 SERVERS, SHARDS, CLIENTS = 4, 64, 6
 KEYS = [f"count:{it}" for it in range(200)]
@@ -43,7 +42,7 @@ def loaded(server, work):
         time.sleep(0.3)
     finally:
         stop.set()
-        found = [told.get(timeout=30) for _ in clients]
+        found = [told.get(timeout=SECONDS) for _ in clients]
         for client in clients:
             client.join()
     done, refused = sum(it[0] for it in found), sum(it[1] for it in found)
@@ -125,27 +124,41 @@ def servers_of(client):
     return client.rows("SERVERS", 5)
 
 
+def is_answered(client):
+    """Whether an answer has come."""
+    return bool(select.select([client.socket], [], [], 0)[0])
+
+
+def timed(client):
+    """How each server stands, and how long that took."""
+    began = time.monotonic()
+    return servers_of(client), time.monotonic() - began
+
+
+@again
 def others_are_answered_while_a_server_restarts(program):
     """SM SERVERS tells how far it is; a second restart waits for its turn, and another one of the same server is refused."""
     options = ["--servers", 3, "--shards", 12, "--pace", 40]
     with served(program, *options) as server, server.client() as control:
+        alone = max(timed(control)[1] for _ in range(20))
         with server.client() as first, server.client() as second:
-            began = time.monotonic()
             first.send("SM", "RESTART", 1)
-            while (told := servers_of(control))[0][1] != "approved":
-                assert time.monotonic() < began + 5, told
+            caught(lambda: servers_of(control)[0][1] == "approved")
             second.send("SM", "RESTART", 2)
             control.send("SM", "RESTART", 1)
-            assert str(found := control.read()).startswith("REFUSED NotUp"), found
+            found = control.read()
+            if is_answered(first):
+                raise Missed("the restart was over")
+            assert str(found).startswith("REFUSED NotUp"), found
             longest, seen = 0, {1: set(), 2: set()}
-            while not select.select([second.socket], [], [], 0)[0]:
-                began = time.monotonic()
-                rows = servers_of(control)
-                longest = max(longest, time.monotonic() - began)
+            while not is_answered(second):
+                rows, took = timed(control)
+                longest = max(longest, took)
                 for number in seen:
                     seen[number].add(rows[number - 1][5].split(" ")[0])
-            assert longest < 0.3, f"another command waited for {longest:.2f} s"
-            assert {"draining", "returning"} <= seen[1] and {"waiting", "draining", "returning"} <= seen[2], seen
+            within(longest, max(0.3, 5 * alone), "another command")
+            if not ({"draining", "returning"} <= seen[1] and {"waiting", "draining", "returning"} <= seen[2]):
+                raise Missed(seen)
             assert first.read() == [b"server 1 is back, with its 4 shards"]
             assert second.read() == [b"server 2 is back, with its 4 shards"]
         assert all(it[1] == "up" and it[3] == "4" and it[5] == "-" for it in servers_of(control))
@@ -180,17 +193,20 @@ def shards_spread(program):
         assert [it[3] for it in servers_of(control)] == ["4"] * 4
 
 
+@again
 def a_migration_that_somebody_gives_up_is_told(program):
     with served(program, "--servers", 3, "--shards", 3, "--pace", 300) as server, server.client() as control:
         with server.client() as client:
             client.send("SM", "MIGRATE", 0, 3)
-            while not control.ask("SM", "LOOK", 0).startswith("Prepared"):
-                pass
-            assert control.ask("SM", "CANCEL", 0) == "OK"
+            caught(lambda: control.ask("SM", "LOOK", 0).startswith("Prepared"))
+            control.send("SM", "CANCEL", 0)
+            if str(told := control.read()) != "OK":
+                raise Missed(told)
             assert str(found := client.read()).startswith("REFUSED NotMoved"), found
         assert control.ask("SM", "LOOK", 0).startswith("Serving 1 0")
 
 
+@again
 def a_shard_whose_new_owner_fails_is_served_again(program):
     """By another server, or by that one if it is back before; what somebody paused by hand stays so."""
     options = ["--servers", 3, "--shards", 3, "--pace", 150]
@@ -198,11 +214,13 @@ def a_shard_whose_new_owner_fails_is_served_again(program):
         assert control.ask("SM", "PAUSE", 1) == "OK"
         for is_back in (False, True):
             client.send("SM", "MIGRATE", 0, 2)
-            eventually(lambda: control.ask("SM", "LOOK", 0).startswith("Taken 2"))
+            caught(lambda: control.ask("SM", "LOOK", 0).startswith("Taken 2"))
             assert control.ask("SM", "FAIL", 2) == "OK"
-            eventually(lambda: control.ask("SM", "LOOK", 0).startswith("Paused 2"))
+            caught(lambda: control.ask("SM", "LOOK", 0).startswith("Paused 2"))
             if is_back:
-                assert control.ask("SM", "BACK", 2) == "OK" and client.read() == "OK"
+                assert control.ask("SM", "BACK", 2) == "OK"
+                if str(told := client.read()) != "OK":
+                    raise Missed(told)
                 assert control.ask("SM", "LOOK", 0).startswith("Serving 2")
             else:
                 assert str(client.read()).startswith("REFUSED NotMoved")
@@ -231,62 +249,55 @@ def plans_move_nothing(program):
 
 def paused_shards_hold_back_who_asks_for_them(program):
     """Others go on, and a command that waited is done at the resume, or refused after --wait."""
-    with served(program, "--wait", 400) as server, server.client() as control, server.client() as client:
-        control.ask("SET", "held", 1)
-        with server.client() as look:
-            before = look.rows("SHARDS")
-        shard = next(it[0] for it in before if it[-1] == "1")
+    with served(program) as server, server.client() as control, server.client() as client:
+        assert control.ask("SET", "held", 1) == "OK"
+        shard = control.ask("SM", "KEY", "held")
+        free = next(it for it in KEYS if control.ask("SM", "KEY", it) != shard)
         assert control.ask("SM", "PAUSE", shard) == "OK"
-        waiting = []
-        thread = threading.Thread(target=lambda: waiting.extend(client.piped([("INCR", "held"), ("GET", "held")])))
-        thread.start()
-        free = next(it for it in KEYS if is_free(control, it))
-        assert control.ask("INCR", free) == 1 and not waiting
+        client.socket.sendall(packed("INCR", "held") + packed("GET", "held"))
+        assert control.ask("INCR", free) == 1 and not is_answered(client)
         assert control.ask("SM", "RESUME", shard) == "OK"
-        thread.join()
-        assert waiting == [2, b"2"], waiting
+        assert (client.read(), client.read()) == (2, b"2")
+    with served(program, "--wait", 400) as server, server.client() as control, server.client() as client:
+        shard = control.ask("SM", "KEY", "held")
         assert control.ask("SM", "PAUSE", shard) == "OK"
         began = time.monotonic()
         refused = client.piped([("INCR", "held"), ("PING",)])
         assert str(refused[0]).startswith("SHARDPAUSED") and refused[1] == "PONG", refused
-        assert 0.35 < time.monotonic() - began < 5
-        assert control.ask("SM", "RESUME", shard) == "OK" and client.ask("GET", "held") == b"2"
-
-
-def is_free(client, key):
-    """Whether the key's shard isn't paused: the command waits and is refused else."""
-    client.send("GET", key)
-    return not isinstance(client.read(), Refused)
+        assert 0.35 < time.monotonic() - began < SECONDS / 2
+        assert control.ask("SM", "RESUME", shard) == "OK" and client.ask("GET", "held") is None
 
 
 def failed_servers_are_told(program):
     """Who asks for a failed server's shard waits until that is drained, or the server is back."""
+    keys = KEYS[:40]
     with served(program, "--wait", 300) as server, server.client() as control:
-        for key in KEYS[:40]:
-            control.ask("SET", key, 1)
         assert control.ask("SM", "FAIL", 1) == "OK"
-        answers = control.piped([("GET", it) for it in KEYS[:40]])
+        answers = control.piped([("GET", it) for it in keys])
         down = [str(it) for it in answers if isinstance(it, Refused)]
         assert down and all(it.startswith("SERVERDOWN server 1") for it in down), answers
-        with server.client() as client:
-            key = KEYS[[isinstance(it, Refused) for it in answers].index(True)]
-            client.send("INCR", key)
-            assert len(control.ask("SM", "DRAIN", 1)) == 16
-            assert client.read() == 2, "who waited for a drained shard was refused"
-        assert not any(isinstance(it, Refused) for it in control.piped([("GET", it) for it in KEYS[:40]]))
+    with served(program) as server, server.client() as control, server.client() as client:
+        assert control.piped([("SET", it, 1) for it in keys]) == ["OK"] * len(keys)
+        assert control.ask("SM", "FAIL", 1) == "OK"
+        key = next(it for it in keys if control.ask("SM", "LOOK", control.ask("SM", "KEY", it)).split(" ")[1] == "1")
+        client.send("INCR", key)
+        assert len(control.ask("SM", "DRAIN", 1)) == 16
+        assert client.read() == 2, "who waited for a drained shard was refused"
+        assert not any(isinstance(it, Refused) for it in control.piped([("GET", it) for it in keys]))
         assert control.ask("SM", "BACK", 1) == "OK"
 
 
 def vacant_shards_are_placed(program):
     """Who asks for a shard that nobody owns waits until it has an owner."""
-    with served(program, "--vacant", "--shards", 4, "--wait", 300) as server, server.client() as control:
-        with server.client() as client:
-            client.send("INCR", "a")
-            assert str(client.read()).startswith("SHARDVACANT")
-            client.send("INCR", "a")
-            assert control.ask("SM", "ASSIGN", 3, 2) == "OK"
-            assert [it.decode() for it in control.ask("SM", "PLACE")] == ["0>1", "1>1", "2>1"]
-            assert client.read() == 1
+    options = ["--vacant", "--shards", 4]
+    with served(program, *options, "--wait", 300) as server, server.client() as client:
+        client.send("INCR", "a")
+        assert str(client.read()).startswith("SHARDVACANT")
+    with served(program, *options) as server, server.client() as control, server.client() as client:
+        client.send("INCR", "a")
+        assert control.ask("SM", "ASSIGN", 3, 2) == "OK"
+        assert [it.decode() for it in control.ask("SM", "PLACE")] == ["0>1", "1>1", "2>1"]
+        assert client.read() == 1
 
 
 def requests_at_a_server_go_as_in_scripts(program):
@@ -324,13 +335,13 @@ def each_word_tells_how_it_is_written(program):
 
 def a_server_ends_within_a_restart(program):
     """Which would take minutes, by the pause between the steps of its migrations."""
-    with served(program, "--pace", 200) as server, server.client() as control:
+    with served(program, "--pace", 1_000) as server, server.client() as control:
         control.send("SM", "RESTART")
         time.sleep(0.3)
         began = time.monotonic()
         server.process.terminate()
-        status = server.process.wait(timeout=15)
-        assert status == 0 and time.monotonic() - began < 10, status
+        status = server.process.wait(timeout=SECONDS)
+        assert status == 0 and time.monotonic() - began < SECONDS / 2, status
         server.process.poll = lambda: None  # it was to end here
 
 
@@ -342,15 +353,16 @@ def a_server_ends_after_what_it_was_sent(program):
             time.sleep(0.5)
             began = time.monotonic()
             server.process.terminate()
-            status = server.process.wait(timeout=10)
+            status = server.process.wait(timeout=SECONDS)
             process.kill()
-        assert status == 0 and time.monotonic() - began < 8, status
+        assert status == 0 and time.monotonic() - began < SECONDS / 2, status
         server.process.poll = lambda: None  # it was to end here
 
 
 def a_stop_answers_all_that_came(program):
     """Commands that came before the signal, by more connections than a thread looks at at once."""
-    with served(program, "--threads", 1) as server, contextlib.ExitStack() as stack:
+    options = ["--threads", 1, "--grace", SECONDS * 1_000]
+    with served(program, *options) as server, contextlib.ExitStack() as stack:
         clients = [stack.enter_context(server.client()) for _ in range(400)]
         assert all(it.ask("PING") == "PONG" for it in clients)
         server.process.send_signal(signal.SIGSTOP)
@@ -359,7 +371,8 @@ def a_stop_answers_all_that_came(program):
         server.process.terminate()
         server.process.send_signal(signal.SIGCONT)
         assert all(b"redis_version" in it.read() for it in clients)
-        assert server.process.wait(timeout=10) == 0
+        stack.close()
+        assert server.process.wait(timeout=SECONDS) == 0
         server.process.poll = lambda: None  # it was to end here
 
 

@@ -104,18 +104,24 @@ def too_many_keys_are_refused(client, most):
 
 
 def a_flush_that_stops_is_told(server, shards):
-    """Where a shard is paused it waits; and it says whether others are empty."""
+    """Where a shard is paused for longer than a command waits; and it says whether others are empty."""
     keys = [f"k{it}" for it in range(200)]
-    with server.client() as client, server.client() as waiting:
+    with server.client() as client:
         client.piped([("SET", it, 1) for it in keys])
         client.ask("SM", "PAUSE", shards - 1)
         assert refused(server, "FLUSHDB") == "UNKNOWN"
         left = [it for it in keys if client.ask("SM", "KEY", it) == shards - 1]
         client.ask("SM", "RESUME", shards - 1)
         assert sorted(it.decode() for it in client.ask("KEYS", "*")) == sorted(left) and left
-        client.piped([("SET", it, 1) for it in keys])
         client.ask("SM", "PAUSE", 0)
         assert refused(server, "FLUSHDB") == "SHARDPAUSED" and refused(server, "KEYS", "*") == "SHARDPAUSED"
+
+
+def a_flush_waits(server):
+    """For a shard that is paused."""
+    with server.client() as client, server.client() as waiting:
+        client.piped([("SET", it, 1) for it in range(200)])
+        client.ask("SM", "PAUSE", 0)
         waiting.send("FLUSHDB")
         client.ask("SM", "RESUME", 0)
         assert waiting.read() == "OK" and client.ask("DBSIZE") == 0

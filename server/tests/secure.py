@@ -17,7 +17,21 @@ import urllib.error
 import urllib.request
 
 import redis
-from served import SECONDS, Client, Refused, assailed, free_port, main, packed, served, slowest_beside
+from served import (
+    SECONDS,
+    Client,
+    Missed,
+    Refused,
+    again,
+    assailed,
+    eventually,
+    free_port,
+    main,
+    packed,
+    served,
+    slowest_beside,
+    within,
+)
 
 SM = pathlib.Path(__file__).resolve().parent.parent.parent / "sm"
 HOST = "127.0.0.1"
@@ -32,6 +46,8 @@ STRANGERS = 60
 MOST_OF_A_STRANGER = 192 << 10
 # Of a value, and of how many in a pipeline.
 LONG, PIPED = 60_000, 200
+# How many milliseconds strangers have for their passwords, by which nobody who has one is cut off on a crowded machine.
+LOGIN = 10_000
 # For how long nobody may be held up by others, and how often one may try to be let in.
 SOON, TRIES = 5, 4
 # Who means no good, and the others; how many certificates of authorities each of the former shows.
@@ -125,7 +141,7 @@ def refused(client, *words):
 
 
 def is_ended(one):
-    """Whether the other side ends the connection within some seconds, whatever it says before."""
+    """Whether the other side ends the connection in time, whatever it says before."""
     with contextlib.suppress(ConnectionError, ssl.SSLError):
         while one.recv(4096):
             pass
@@ -145,20 +161,20 @@ def environment(**variables):
 def clients_of_redis_speak_tls(program):
     with served(program, *with_tls()) as server:
         command = ["-p", str(server.port), "--tls", "--cacert", file("ca.pem")]
-        ran = subprocess.run(["redis-cli", *command, "set", "a", "b"], capture_output=True, text=True, timeout=20)
+        ran = subprocess.run(["redis-cli", *command, "set", "a", "b"], capture_output=True, text=True, timeout=SECONDS)
         assert ran.stdout.strip() == "OK", ran
         load = [*command, "-t", "set,get,incr", "-n", "20000", "-c", "50", "-P", "8", "-q"]
-        ran = subprocess.run(["redis-benchmark", *load], capture_output=True, text=True, timeout=30, check=True)
+        ran = subprocess.run(["redis-benchmark", *load], capture_output=True, text=True, timeout=5 * SECONDS, check=True)
         assert "requests per second" in ran.stdout and "rror" not in ran.stderr, ran
         client = redis.Redis(port=server.port, ssl=True, ssl_ca_certs=file("ca.pem"))
         with client.pipeline(transaction=True) as pipe:
             assert pipe.set("{t}a", 1).incr("{t}a").get("{t}a").execute() == [True, 2, b"2"]
         client.close()
         shell = [SM, "shell", "--connect", f"localhost:{server.port}", "--tls", "--ca", file("ca.pem")]
-        ran = subprocess.run(shell, input="get a\nlook 0\n", capture_output=True, text=True, timeout=20)
+        ran = subprocess.run(shell, input="get a\nlook 0\n", capture_output=True, text=True, timeout=SECONDS)
         assert ran.stdout.splitlines()[0] == "b" and ran.returncode == 0, ran
         del shell[-2:]
-        ran = subprocess.run(shell, input="", capture_output=True, text=True, timeout=20)
+        ran = subprocess.run(shell, input="", capture_output=True, text=True, timeout=SECONDS)
         assert ran.returncode == 1 and "certificate" in ran.stderr, ran
 
 
@@ -166,18 +182,16 @@ def the_page_is_on_this_machine_where_clients_need_a_password(program):
     """It asks for no password, so from another address it is reached only if that is asked for."""
 
     def answers(host, port):
-        for _ in range(20):
-            with contextlib.suppress(OSError):
-                with urllib.request.urlopen(f"http://{host}:{port}/state.json", timeout=SECONDS) as answer:
-                    return answer.status == 200
-            time.sleep(0.05)
+        with contextlib.suppress(OSError):
+            with urllib.request.urlopen(f"http://{host}:{port}/state.json", timeout=SECONDS) as answer:
+                return answer.status == 200
         return False
 
     asked, password = ("--http-bind", "0.0.0.0"), {"DURKENZO_PASSWORD": "secret"}
     for options, variables, is_everywhere in [((), {}, True), ((), password, False), (asked, password, True)]:
         port = free_port()
         with environment(**variables), served(program, "--bind", "0.0.0.0", "--http-port", port, *options):
-            assert answers(HOST, port), f"no page on this machine, with {variables} and {options}"
+            eventually(lambda: answers(HOST, port))
             assert answers(ELSEWHERE, port) == is_everywhere, f"from elsewhere, with {variables} and {options}"
 
 
@@ -185,17 +199,16 @@ def the_page_speaks_tls_too(program):
     port = free_port()
     address = f"https://localhost:{port}/metrics"
     with served(program, *with_tls("--tls-ca", file("ca.pem"), "--http-port", port)):
-        for _ in range(100):
+
+        def shown():
             with contextlib.suppress(ConnectionRefusedError, urllib.error.URLError):
-                with urllib.request.urlopen(address, timeout=5, context=context("client")) as answer:
-                    assert b"durkenzo_connections" in answer.read()
-                break
-            time.sleep(0.05)
-        else:
-            raise AssertionError("nothing answers")
+                with urllib.request.urlopen(address, timeout=SECONDS, context=context("client")) as answer:
+                    return answer.read()
+
+        assert b"durkenzo_connections" in eventually(shown)
         for ask in (
-            lambda: urllib.request.urlopen(address, timeout=5, context=context()),
-            lambda: urllib.request.urlopen(address.replace("https", "http"), timeout=5),
+            lambda: urllib.request.urlopen(address, timeout=SECONDS, context=context()),
+            lambda: urllib.request.urlopen(address.replace("https", "http"), timeout=SECONDS),
         ):
             with contextlib.suppress(OSError):
                 raise AssertionError(ask().read()[:80])
@@ -220,7 +233,7 @@ def what_is_no_tls_gets_nothing(program):
         spoilt = [b"PING\r\n", packed("GET", "a") * 1_000, b"\x16\x03\x01\xff\xff", b"GET / HTTP/1.1\r\n\r\n"]
         spoilt += [b"\x16\x03\x01" + chance.randbytes(chance.randrange(1, 2_000)) for _ in range(100)]
         for bytes_ in spoilt:
-            with socket.create_connection((HOST, server.port), 10) as one, contextlib.suppress(ConnectionError):
+            with socket.create_connection((HOST, server.port), SECONDS) as one, contextlib.suppress(ConnectionError):
                 one.sendall(bytes_)
                 # The server may have been quicker to end it.
                 with contextlib.suppress(OSError):
@@ -233,14 +246,15 @@ def what_is_no_tls_gets_nothing(program):
         assert client.ask("PING") == "PONG" and server.settle(before) <= before
 
 
+@again
 def who_stalls_holds_nobody_up(program):
     """Half a handshake, or none, and no password: others go on, and these are ended in time."""
-    options = with_tls("--login-time", 1_000)
+    options = with_tls("--login-time", LOGIN)
     with environment(DURKENZO_PASSWORD="secret"), served(program, *options) as server, contextlib.ExitStack() as stack:
         client = stack.enter_context(TlsClient(server.port))
         assert refused(client, "GET", "a") == "NOAUTH" and client.ask("AUTH", "secret") == "OK"
         before = server.at_rest()
-        stalled = [stack.enter_context(socket.create_connection((HOST, server.port), 10)) for _ in range(40)]
+        stalled = [stack.enter_context(socket.create_connection((HOST, server.port), SECONDS)) for _ in range(40)]
         for one in stalled[::2]:
             one.sendall(b"\x16\x03\x01\x02\x00\x01")
         unknown = stack.enter_context(TlsClient(server.port))
@@ -253,7 +267,8 @@ def who_stalls_holds_nobody_up(program):
             longest = max(longest, time.monotonic() - began)
         for byte in packed("AUTH", "secret") + packed("GET", "n"):
             slow.socket.sendall(bytes([byte]))
-        assert slow.read() == "OK" and int(slow.read()) > 0 and longest < SOON, longest
+        assert slow.read() == "OK" and int(slow.read()) > 0
+        within(longest, SOON, "another client")
         assert all(is_ended(it) for it in [*stalled, unknown.socket])
         # Two clients are left, the one from before among them.
         assert server.settle(before + 1) == before + 1
@@ -272,21 +287,19 @@ def hostile_chains_hold_nobody_up(program):
             words = ["chain", ASSAILANTS, chain] if chain else ["bare", ASSAILANTS]
             told.append(f"{name} {slowest_beside(clients, server.port, *words) * 1000:.1f} ms")
         assert server.settle(before) <= before
-        # A processor may take a moment for what came last.
-        time.sleep(0.5)
-        used = server.processor_seconds()
-        time.sleep(1)
-        assert server.processor_seconds() - used < 0.5
+        # A processor may take a while for what came last.
+        eventually(lambda: server.used_in_a_second() < 0.5)
         with TlsClient(server.port, context("client")) as client:
             assert f"connected_clients:{OTHERS + 1}\r" in client.ask("INFO").decode()
         return f"one of a hundred took {', '.join(told)}"
 
 
+@again
 def who_is_in_a_handshake_is_a_stranger(program):
     """As many as there are places for strangers say nothing, and as many send half a handshake: neither keeps out who
     shows a certificate and gives the password, or holds up others. The first gives way, wherever it is."""
     most, places = 300, 75
-    options = with_tls("--tls-ca", file("ca.pem"), "--max-clients", most, "--login-time", 60_000)
+    options = with_tls("--tls-ca", file("ca.pem"), "--max-clients", most, "--login-time", 600_000)
     with environment(DURKENZO_PASSWORD="secret"), served(program, *options) as server, contextlib.ExitStack() as stack:
 
         def met():
@@ -301,12 +314,12 @@ def who_is_in_a_handshake_is_a_stranger(program):
                     assert client.ask("AUTH", "secret") == "OK"
                     took.append(time.monotonic() - began)
                     return client
-            raise AssertionError(f"nobody was let in within {time.monotonic() - began:.1f} s")
+            raise Missed(f"nobody was let in within {time.monotonic() - began:.1f} s")
 
         took = []
         clients = [known() for _ in range(OTHERS)]
         before = server.at_rest()
-        silent = [stack.enter_context(socket.create_connection((HOST, server.port), 10)) for _ in range(3)]
+        silent = [stack.enter_context(socket.create_connection((HOST, server.port), SECONDS)) for _ in range(3)]
         first = met()
         assert refused(first, "PING") == "NOAUTH"
         with assailed(server.port, "stall", 2 * places):
@@ -317,7 +330,8 @@ def who_is_in_a_handshake_is_a_stranger(program):
                 clients.append(known())
                 assert server.descriptors() <= before + places + len(took), server.descriptors() - before
         slowest = slowest_beside(clients, server.port, "stall", 2 * places)
-        assert max(took) < SOON and server.settle(before + len(took)) == before + len(took)
+        within(max(took), SOON, "to be let in")
+        assert server.settle(before + len(took)) == before + len(took)
         told = f"{max(took) * 1000:.0f} ms until one was let in"
         return f"{2 * places} strangers, {told}, and one of a hundred took {slowest * 1000:.1f} ms"
 
@@ -330,7 +344,7 @@ def half_handshakes_take_little(program):
         with TlsClient(server.port) as client:
             assert client.ask("PING") == "PONG"
         descriptors, before = server.at_rest(), server.memory()
-        stalled = [stack.enter_context(socket.create_connection((HOST, server.port), 10)) for _ in range(STRANGERS)]
+        stalled = [stack.enter_context(socket.create_connection((HOST, server.port), SECONDS)) for _ in range(STRANGERS)]
         for one in stalled:
             one.sendall(begun)
         with TlsClient(server.port) as client:
@@ -353,40 +367,44 @@ def no_session_is_taken_up_again(program):
             with TlsClient(server.port, tls) as client:
                 assert client.ask("PING") == "PONG" and client.socket.version() == version.name.replace("_", ".")
                 session = client.socket.session
-            with socket.create_connection((HOST, server.port), 10) as plain:
+            with socket.create_connection((HOST, server.port), SECONDS) as plain:
                 with tls.wrap_socket(plain, server_hostname=HOST, session=session) as one:
                     one.sendall(b"PING\r\n")
                     assert one.recv(99) == b"+PONG\r\n" and not one.session_reused
         command = ["openssl", "s_client", "-tls1_2", "-connect", f"{HOST}:{server.port}", "-CAfile", file("ca.pem")]
         # This asks for a second handshake.
-        ran = subprocess.run(command, input="R\n", capture_output=True, text=True, timeout=20)
+        ran = subprocess.run(command, input="R\n", capture_output=True, text=True, timeout=SECONDS)
         assert "RENEGOTIATING" in ran.stdout + ran.stderr and "no renegotiation" in ran.stderr, ran
 
 
+@again
 def strangers_leave_room_for_others(program):
-    options = ["--max-clients", "300", "--login-time", "1000"]
+    options = ["--max-clients", 300, "--login-time", LOGIN]
     with environment(DURKENZO_PASSWORD="secret"), served(program, *options) as server, contextlib.ExitStack() as stack:
 
+        took = []
+
         def known():
+            began = time.monotonic()
             client = stack.enter_context(server.client())
             assert client.ask("HELLO", "2", "AUTH", "default", "secret")[0] == b"server"
+            took.append(time.monotonic() - began)
             return client
 
         clients = [known() for _ in range(100)]
-        before = server.at_rest()
+        alone, before = max(took), server.at_rest()
         first = stack.enter_context(server.client())
         assert refused(first, "PING") == "NOAUTH"
         # Of many that say nothing the first give way: there are no more than a quarter, beside the others.
-        silent = [stack.enter_context(socket.create_connection((HOST, server.port), 10)) for _ in range(2_000)]
+        silent = [stack.enter_context(socket.create_connection((HOST, server.port), SECONDS)) for _ in range(2_000)]
         assert str(first.read()) == "ERR max number of clients reached" and is_ended(first.socket)
         assert server.settle(before + 75) <= before + 75, server.descriptors()
-        took = []
+        del took[:]
         for _ in range(100):
-            silent += [stack.enter_context(socket.create_connection((HOST, server.port), 10)) for _ in range(10)]
-            began = time.monotonic()
+            silent += [stack.enter_context(socket.create_connection((HOST, server.port), SECONDS)) for _ in range(10)]
             clients.append(known())
-            took.append(time.monotonic() - began)
-        assert max(took) < 0.5 and all(it.ask("PING") == "PONG" for it in clients), max(took)
+        within(max(took), max(0.5, 5 * alone), "to be let in")
+        assert all(it.ask("PING") == "PONG" for it in clients)
         clients += [known() for _ in range(100)]
         with server.client() as one:
             assert "max number of clients" in str(one.read())
@@ -397,6 +415,7 @@ def strangers_leave_room_for_others(program):
         return f"{len(silent)} strangers, at most {max(took) * 1000:.0f} ms"
 
 
+@again
 def wrong_passwords_take_time(program):
     """Guesses wait ever longer, of a connection and of an address, and nobody else does."""
     passwords = {"DURKENZO_CONTROL_PASSWORD": "master", "DURKENZO_PASSWORD": "secret"}
@@ -412,18 +431,23 @@ def wrong_passwords_take_time(program):
         answers = [guesser.read() for _ in range(11)]
         took = time.monotonic() - began
         assert {str(it).split()[0] for it in answers[:9]} == {"WRONGPASS"} and answers[9:] == ["OK", "PONG"], answers
-        assert 10 * (1 + 2 + 4 + 8 + 16 + 32 + 64) / 1000 <= took < 10 and longest < 0.5, (took, longest)
+        assert 10 * (1 + 2 + 4 + 8 + 16 + 32 + 64) / 1000 <= took, took
+        within(took, 10, "ten guesses")
+        within(longest, 0.5, "another client")
         # Who connects anew waits as well, and is let in.
         began, count = time.monotonic(), 0
         while time.monotonic() - began < 2:
             with server.client() as one, contextlib.suppress(TimeoutError):
                 one.socket.settimeout(0.01)
+                asked = time.monotonic()
                 one.send("AUTH", "wrong")
-                count += isinstance(one.read(), Refused)
+                # One that was read late isn't answered at once.
+                count += isinstance(one.read(), Refused) and time.monotonic() - asked < 0.02
         assert count == 0, f"{count} guesses were answered at once"
         with server.client() as one:
             began = time.monotonic()
-            assert one.ask("AUTH", "secret") == "OK" and time.monotonic() - began < 3
+            assert one.ask("AUTH", "secret") == "OK"
+            within(time.monotonic() - began, 3, "the right password")
         # No transaction is a way round.
         other.ask("MULTI")
         assert set(other.piped([("AUTH", "control", "wrong")] * 500)) == {"QUEUED"}
@@ -435,7 +459,7 @@ def wrong_passwords_take_time(program):
 def little_is_taken_before_a_password(program):
     with environment(DURKENZO_PASSWORD="secret"), served(program) as server:
         for bytes_ in (b"*2\r\n$4\r\nAUTH\r\n$20000\r\n", b"AUTH " + b"x" * 20_000):
-            with socket.create_connection((HOST, server.port), 10) as one:
+            with socket.create_connection((HOST, server.port), SECONDS) as one:
                 one.sendall(bytes_)
                 told = b": before AUTH a command has at most 16384 bytes\r\n"
                 assert one.recv(200) == b"-ERR Protocol error: unauthenticated bulk length" + told and is_ended(one)
@@ -504,7 +528,8 @@ def large_values_go_both_ways(program):
 
 
 def a_stop_answers_what_came(program):
-    with served(program, *with_tls()) as server, TlsClient(server.port) as client:
+    options = with_tls("--grace", SECONDS * 1_000)
+    with served(program, *options) as server, TlsClient(server.port) as client:
         client.ask("SET", "k", b"v" * LONG)
         client.socket.sendall(packed("GET", "k") * 100 + b"PING\r\n")
         time.sleep(0.2)
@@ -542,10 +567,10 @@ def roles_are_kept_apart(program):
                 client.ask("HELLO", 2, "AUTH", "control", "master")
                 assert client.ask("RESET") == "RESET" and refused(client, "ACL", "WHOAMI") == "NOAUTH"
                 shell = [SM, "shell", "--connect", str(server.port), "--user", "control"]
-                ran = subprocess.run(shell, input="migrate 0 1\n", capture_output=True, text=True, timeout=20)
+                ran = subprocess.run(shell, input="migrate 0 1\n", capture_output=True, text=True, timeout=SECONDS)
                 assert ran.stdout.splitlines() == ["OK", "OK"], ran
                 shell[-1] = "default"
-                ran = subprocess.run(shell, input="migrate 0 2\n", capture_output=True, text=True, timeout=20)
+                ran = subprocess.run(shell, input="migrate 0 2\n", capture_output=True, text=True, timeout=SECONDS)
                 assert ran.stdout.splitlines()[1].startswith("NOPERM"), ran
 
 

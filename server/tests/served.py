@@ -1,6 +1,7 @@
 """A server that runs for a test, what it takes of the machine, and a plain client of it."""
 import collections
 import contextlib
+import functools
 import json
 import os
 import pathlib
@@ -11,18 +12,59 @@ import sys
 import threading
 import time
 
-SECONDS = 20
+# How long is waited for what takes a moment where a machine has no other work.
+SECONDS = 60
+# How many milliseconds a command waits for a shard, where no test is of what is refused then: a crowded machine may be
+# slow to do it.
+WAIT = 30_000
 # Between these the system gives no port to a connection of its own.
 PORTS = (12_000, 32_000)
+# What says which ports of those this process has taken, as long as it runs.
+TAKEN = []
 # How many lines of its log are kept.
 LAST_LINES = 100
-# How long the slowest of a hundred answers may take beside those who mean no good, for how long it is looked at, how
-# long these have before that, and how often it is tried where a machine has other work.
-SLOWEST, BESIDE, BEGUN, TRIES = 0.01, 1.0, 0.5, 8
+# How long the slowest of a hundred answers may take beside those who mean no good, or how many times as long as without
+# them just before; for how long it is looked at, and how long these have before that.
+SLOWEST, TIMES, BESIDE, BEGUN = 0.01, 3, 1.0, 0.5
+# How often is tried what a machine with other work may miss.
+TRIES = 8
 
 
 class Refused(Exception):
     """An answer that is an error; its text."""
+
+
+class Missed(AssertionError):
+    """What was to be seen was over before it was looked at, or took longer than where a machine has no other work."""
+
+
+def again(test):
+    """The test, tried again where it missed something; whatever else it finds wrong is told at once."""
+
+    @functools.wraps(test)
+    def tried(program):
+        for left in reversed(range(TRIES)):
+            try:
+                return test(program)
+            except Missed:
+                if not left:
+                    raise
+
+    return tried
+
+
+def within(took, most, what="it"):
+    """Sees that this took no longer than it may."""
+    if took >= most:
+        raise Missed(f"{what} took {took:.2f} s, and may take {most}")
+
+
+def caught(look, seconds=10):
+    """What this gives once it gives something, which is there for a while alone."""
+    try:
+        return eventually(look, seconds)
+    except AssertionError as late:
+        raise Missed(late) from None
 
 
 class Client:
@@ -107,9 +149,9 @@ def eventually(look, seconds=SECONDS):
 
 
 def slowest(clients, seconds):
-    """How long the slowest of a hundred PINGs takes that these clients send one after another, for so long."""
+    """How long the slowest of a hundred PINGs takes that these clients send one after another, for so long at least."""
     took, end = [], time.monotonic() + seconds
-    while time.monotonic() < end:
+    while time.monotonic() < end or len(took) < 100:
         for client in clients:
             began = time.monotonic()
             assert client.ask("PING") == "PONG"
@@ -118,27 +160,38 @@ def slowest(clients, seconds):
 
 
 @contextlib.contextmanager
-def assailed(*assailants):
-    """Has those connect, while the body runs, of whom these words tell assailants.py."""
-    command = [sys.executable, pathlib.Path(__file__).parent / "assailants.py", *map(str, assailants)]
-    with subprocess.Popen(command, stdin=subprocess.PIPE) as process:
+def begun(command):
+    """Has a process of such clients run while the body does, which begins once they have begun."""
+    with subprocess.Popen(list(map(str, command)), stdin=subprocess.PIPE, stdout=subprocess.PIPE) as process:
         try:
-            time.sleep(BEGUN)
+            process.stdout.readline()
             yield
+            assert process.poll() is None, f"{command} ended with {process.returncode}"
         finally:
             process.kill()
 
 
+@contextlib.contextmanager
+def assailed(*assailants):
+    """Has those connect, while the body runs, of whom these words tell assailants.py."""
+    command = [sys.executable, pathlib.Path(__file__).parent / "assailants.py", *assailants]
+    with begun(command):
+        time.sleep(BEGUN)
+        yield
+
+
 def slowest_beside(clients, *assailants):
-    """The same, beside who connects as these words tell assailants.py; where the machine has other work it is tried
-    again."""
+    """The same, beside who connects as these words tell assailants.py; what it is without them says what a machine with
+    other work takes, where it is tried again."""
     found = []
     for _ in range(TRIES):
+        alone = slowest(clients, BESIDE)
         with assailed(*assailants):
-            found.append(slowest(clients, BESIDE))
-        if found[-1] < SLOWEST:
-            return found[-1]
-    raise AssertionError(f"{assailants[1:]}: of a hundred PINGs one took {[round(it * 1000, 1) for it in found]} ms")
+            found.append((alone, slowest(clients, BESIDE)))
+        if found[-1][1] < max(SLOWEST, TIMES * alone):
+            return found[-1][1]
+    told = [tuple(round(took * 1000, 1) for took in it) for it in found]
+    raise AssertionError(f"{assailants[1:]}: of a hundred PINGs one took, without and beside them, {told} ms")
 
 
 def packed(*words):
@@ -168,6 +221,14 @@ class Server:
     def is_alive(self):
         return self.process.poll() is None
 
+    def is_stopped(self):
+        """Whether a signal has stopped it."""
+        return self.fields()[0] == "T"
+
+    def fields(self):
+        """What the system tells of it, from the third field on."""
+        return pathlib.Path(f"/proc/{self.process.pid}/stat").read_text().rpartition(")")[2].split()
+
     def descriptors(self):
         return len(os.listdir(f"/proc/{self.process.pid}/fd"))
 
@@ -177,8 +238,14 @@ class Server:
 
     def processor_seconds(self):
         """What all its threads took of processors so far."""
-        fields = pathlib.Path(f"/proc/{self.process.pid}/stat").read_text().rpartition(")")[2].split()
+        fields = self.fields()
         return (int(fields[11]) + int(fields[12])) / os.sysconf("SC_CLK_TCK")
+
+    def used_in_a_second(self):
+        """How many processor seconds it takes in one."""
+        used = self.processor_seconds()
+        time.sleep(1)
+        return self.processor_seconds() - used
 
     def threads(self, name):
         """How many threads of this name it has."""
@@ -201,16 +268,22 @@ class Server:
     def settle(self, descriptors):
         """Waits until it has no more descriptors than these, and returns how many it has."""
         end = time.monotonic() + SECONDS
-        while self.descriptors() > descriptors and time.monotonic() < end:
+        while (now := self.descriptors()) > descriptors and time.monotonic() < end:
             time.sleep(0.05)
-        return self.descriptors()
+        return now
+
+
+def server_command(program, *options):
+    """The command of a server at a free port, with these options, and patience where they have none."""
+    words = [program, "--port", "0", "--http-port", "0", "--log-format", "json", *map(str, options)]
+    return words if "--wait" in words else [*words, "--wait", str(WAIT)]
 
 
 @contextlib.contextmanager
 def served(program, *options, before=(), **how):
     """Runs the server with these options, by what stands before it and as is said, while the body runs, and sees that
     it ends well when it is told to."""
-    command = [*before, program, "--port", "0", "--http-port", "0", "--log-format", "json", *map(str, options)]
+    command = [*before, *server_command(program, *options)]
     how |= {"stderr": subprocess.PIPE, "stdin": subprocess.DEVNULL, "text": True}
     with subprocess.Popen(command, **how) as process:
         try:
@@ -233,13 +306,17 @@ def served(program, *options, before=(), **how):
 
 
 def free_ports(count):
-    """As many ports at which nobody listens, of those that the system gives to no connection of its own."""
-    found = set()
+    """As many ports at which nobody listens, of those that the system gives to no connection of its own; no other process
+    that asks here is given one of them as long as this one runs."""
+    found = []
     while len(found) < count:
         port = random.SystemRandom().randrange(*PORTS)
         with contextlib.suppress(OSError), socket.create_server(("127.0.0.1", port)):
-            found.add(port)
-    return list(found)
+            mark = socket.socket(socket.AF_UNIX)
+            mark.bind(f"\0durkenzo-port-{port}")
+            TAKEN.append(mark)
+            found.append(port)
+    return found
 
 
 def free_port():
