@@ -26,6 +26,8 @@ ADDED = TOP / "out/Cargo.lock"
 KEPT = TOP / "out/cargo"
 # How long cargo may build and test, in seconds, and the exit status of one that took longer, as of timeout(1).
 SECONDS, ENDED = 2400, 124
+# What of cargo runs nothing of ours, and leaves processors to what is tried meanwhile.
+BUILDING = ("build", "check", "clippy")
 CHECKSUM, NONE = ".cargo-checksum.json", '{"package": null, "files": {}}\n'
 # A line that cargo adds to the lock by crates.io.
 SUMMED = re.compile(r"(?m)^checksum = .*\n")
@@ -124,7 +126,12 @@ def command(word, *words):
 def cargo(*words, library=None, folder=None):
     """Runs cargo at the top, and returns the finished run. A run that takes too long has failed, and what it wrote
     tells by which tests."""
-    words = command(*words)
+    is_nice = words[0] in BUILDING or "--no-run" in words
+    if words[0] == "test" and not is_nice:
+        built = cargo("test", "--no-run", *words[1:], library=library, folder=folder)
+        if built.returncode:
+            return built
+    words = [*(["nice"] if is_nice else []), *command(*words)]
     how = {"cwd": TOP, "env": environment(library, folder), "stdin": subprocess.DEVNULL, "text": True}
     try:
         return limited.run(words, SECONDS, **how)

@@ -11,10 +11,18 @@ from testing.progress import Progress
 
 # Seconds of a part of which the table of costs knows nothing yet.
 UNKNOWN = 20
+# How nice is what leaves processors to the parts that go first.
+NICE = 10
 
 
 def processors():
     return len(os.sched_getaffinity(0))
+
+
+def give_way():
+    """Has what this thread starts from here on be nice to all else. Linux has that of a thread, and gives it to the
+    processes that the thread starts."""
+    os.nice(NICE)
 
 
 class FirstFailure(Exception):
@@ -54,11 +62,17 @@ class Runner:
         if self.stopped.is_set():
             return
         began = self.running[part.name] = time.time()
-        found = [self.judged(part.name, it) for it in self.verdicts(part)]
+        # A thread that has given way can't go first again, so each part has its own.
+        with concurrent.futures.ThreadPoolExecutor(1, initializer=None if part.goes_first else give_way) as own:
+            found = own.submit(self.found_by, part).result()
         self.running.pop(part.name)
         self.seconds[part.name] = time.time() - began
         how = f"{found.count(False)} of {len(found)} FAILED" if False in found else f"{len(found)} passed"
         self.progress.say(f"{part.name}: {how}, {self.seconds[part.name]:.0f} s")
+
+    def found_by(self, part):
+        """Whether each thing passed that the part tries."""
+        return [self.judged(part.name, it) for it in self.verdicts(part)]
 
     def verdicts(self, part):
         """Gives what the part finds; one that ends by an error has failed."""

@@ -92,7 +92,7 @@ def soaked(room):
 
 def ordinary_rust():
     """What needs no library, and what is said where there is none."""
-    return [Part("ordinary Rust", alone.passed), Part("crates without a library", unlinked.passed)]
+    return [Part("ordinary Rust", alone.passed, True), Part("crates without a library", unlinked.passed)]
 
 
 def without_proof(room, names, is_proved):
@@ -136,7 +136,7 @@ def when_built(path, parts):
     def guarded(work):
         return lambda room: work(room) if path.exists() else []
 
-    return [Part(it.name, guarded(it.work)) for it in parts]
+    return [it._replace(work=guarded(it.work)) for it in parts]
 
 
 def on_program(path, how):
@@ -197,9 +197,9 @@ def proved(say):
         Part("pictures, proved", program.pictures),
         Part("the shell, proved", program.shell),
         Part("./sm", front.words),
-        Part("library", library.passed),
-        Part("server", server.passed),
-        Part("cluster of processes", cluster.passed),
+        Part("library", library.passed, True),
+        Part("server", server.passed, True),
+        Part("cluster of processes", cluster.passed, True),
         Part("simulation", simulation.passed),
         Part("packages", packed.passed("proved")),
         *faults(say),
