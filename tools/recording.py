@@ -18,7 +18,7 @@ END, RECORDS_END = b"server0", b"record0"
 # How long nothing may be told before another member is asked: it may be stopped.
 SECONDS = 2
 # How long the replay may take.
-REPLAY = 60
+REPLAY = 200
 # Where the numbers of a record and of a server stand, behind the version and what comes first.
 WORD, FOLLOWED = slice(1, 9), slice(9, 17)
 # The phase of a record whose shard has a new owner, to which the one before forwards yet.

@@ -15,7 +15,7 @@ EXAMPLES = sorted((TOP / "examples").glob("*.in"))
 # Those with lines that run on threads alone.
 THREADS_EXAMPLES = sorted((TOP / "examples" / "threads").glob("*.in"))
 
-SECONDS = 300
+SECONDS = 600
 # What a run left: its exit status, what it wrote, and whether it met the failure that it was asked to meet.
 Run = namedtuple("Run", "status output complaint has_failed")
 
@@ -25,12 +25,12 @@ def examples_of(engine):
     return EXAMPLES + THREADS_EXAMPLES if engine == "threads" else EXAMPLES
 
 
-def finished(command, **how):
+def finished(command, seconds=SECONDS, **how):
     """Runs a command to its end; one that takes too long has no status, and is ended with all that it began."""
     try:
-        run = limited.run(command, SECONDS, **how)
+        run = limited.run(command, seconds, **how)
     except subprocess.TimeoutExpired as late:
-        return Run(f"none in {SECONDS} seconds", late.stdout or b"", late.stderr or b"", False)
+        return Run(f"none in {seconds} seconds", late.stdout or b"", late.stderr or b"", False)
     return Run(run.returncode, run.stdout, run.stderr, False)
 
 

@@ -25,7 +25,7 @@ NAMED = "DURKENZO_LIB"
 PROGRAM = sources.CRATES / "sm_cli/out/sm_cli"
 COUNTED = "every admission was counted\n"
 TOLD = "the header is right\n"
-SECONDS = 170
+SECONDS = 1200
 STRICT = ["gcc", "-std=c11", "-Wall", "-Wextra", "-Werror"]
 # The C example with a database is compiled where this is.
 SQLITE = pathlib.Path("/usr/include/sqlite3.h")

@@ -13,7 +13,7 @@ EXAMPLES = sources.TOP / "examples"
 # The most bytes that a line of settings may have.
 MAX_SETTINGS = 1_048_576
 # The most that a run of the program may take, and a tool, which may prove a crate of tests.
-SECONDS, TOOL_SECONDS = 120, 3600
+SECONDS, TOOL_SECONDS = 600, 3600
 
 
 def fault_of(command, status, output, complaint="", given=os.devnull, env=None):

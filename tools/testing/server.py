@@ -10,7 +10,7 @@ import runs
 import sources
 from testing import library, workspace
 from testing.part import Verdict, verdict
-from testing.program import tool
+from testing.program import TOOL_SECONDS, tool
 
 FOLDER = sources.TOP / "server"
 SCRIPTS = ("commands", "moves", "durable", "dumps", "upgrade", "hostile", "secure", "scripts", "site")
@@ -74,7 +74,7 @@ def verdicts_of(lines):
 
 def said_by(script, python, program):
     """What a script finds of the program; that it finds nothing is a failure."""
-    ran = runs.finished([python, FOLDER / "tests" / f"{script}.py", program])
+    ran = runs.finished([python, FOLDER / "tests" / f"{script}.py", program], TOOL_SECONDS)
     found = list(verdicts_of(ran.output.decode(errors="replace").splitlines()))
     yield from found
     if not found or bool(ran.status) != any(it.reason for it in found):

@@ -13,7 +13,7 @@ CRATES = ("durkenzo", "durkenzo-store-sys")
 FOLDER = "library/rust"
 NAMED = "DURKENZO_LIB"
 # As long as a crowded machine may take to compile a build script.
-SECONDS = 120
+SECONDS = 1200
 MADE = ("tools/unproved --library", f"export {NAMED}=")
 # What would prove leaves a file.
 PROVER = '#!/bin/sh\ntouch "${0%/*}/was-called"\nexit 1\n'

@@ -42,7 +42,7 @@ fn serve(board: &Board<Body>, thread: u64, stop: &AtomicBool) -> u64 {
 
 fn migrate(board: &Board<Body>, time: Duration) -> u64 {
     let (control, start, mut state, mut moved) = (board.control(), Instant::now(), 99, 0);
-    while start.elapsed() < time {
+    while start.elapsed() < time || moved == 0 {
         let (shard, server) = (
             random(&mut state) % SHARDS,
             random(&mut state) % SERVERS + 1,
