@@ -22,7 +22,7 @@ GRACEFUL_WAIT = 4_000
 MOST = 5
 # How long it may take in seconds until all runs, until clients have read all keys a last time and each is judged, and
 # for what else is waited.
-BEGIN, JUDGING, SLOW = 150, 300, 240
+BEGIN, JUDGING, SLOW = 300, 300, 240
 # The clients' exit statuses where nothing wrong was found, but a key isn't answered any more, or not all are decided.
 UNREAD, UNDECIDED = 3, 4
 UNREAD_KEYS, UNDECIDED_KEYS = r"(\d+) keys could not be read", r"(\d+) undecided"

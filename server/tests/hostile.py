@@ -215,8 +215,8 @@ def who_always_waits_for_more_takes_no_memory(program):
 
 
 def scans_leave_turns_to_others(program):
-    """Many that are sent at once hold the thread for no longer than one. They and a command of another client come while
-    the server is stopped, so it alone says which are done first."""
+    """Many that are sent at once hold the thread for no longer than one. They and a command of another client come
+    while the server is stopped, so it alone says which are done first."""
     scans = 400
     with served(program, "--threads", 1) as server, server.client() as client:
         client.piped([("SET", f"k{it}", "v" * 1_000) for it in range(1_000)])

@@ -140,6 +140,11 @@ def refused(client, *words):
     return str(answer).split()[0]
 
 
+def connected(server):
+    """A connection on which nothing is sent yet."""
+    return socket.create_connection((HOST, server.port), SECONDS)
+
+
 def is_ended(one):
     """Whether the other side ends the connection in time, whatever it says before."""
     with contextlib.suppress(ConnectionError, ssl.SSLError):
@@ -164,7 +169,8 @@ def clients_of_redis_speak_tls(program):
         ran = subprocess.run(["redis-cli", *command, "set", "a", "b"], capture_output=True, text=True, timeout=SECONDS)
         assert ran.stdout.strip() == "OK", ran
         load = [*command, "-t", "set,get,incr", "-n", "20000", "-c", "50", "-P", "8", "-q"]
-        ran = subprocess.run(["redis-benchmark", *load], capture_output=True, text=True, timeout=5 * SECONDS, check=True)
+        how = {"capture_output": True, "text": True, "timeout": 5 * SECONDS}
+        ran = subprocess.run(["redis-benchmark", *load], check=True, **how)
         assert "requests per second" in ran.stdout and "rror" not in ran.stderr, ran
         client = redis.Redis(port=server.port, ssl=True, ssl_ca_certs=file("ca.pem"))
         with client.pipeline(transaction=True) as pipe:
@@ -233,7 +239,7 @@ def what_is_no_tls_gets_nothing(program):
         spoilt = [b"PING\r\n", packed("GET", "a") * 1_000, b"\x16\x03\x01\xff\xff", b"GET / HTTP/1.1\r\n\r\n"]
         spoilt += [b"\x16\x03\x01" + chance.randbytes(chance.randrange(1, 2_000)) for _ in range(100)]
         for bytes_ in spoilt:
-            with socket.create_connection((HOST, server.port), SECONDS) as one, contextlib.suppress(ConnectionError):
+            with connected(server) as one, contextlib.suppress(ConnectionError):
                 one.sendall(bytes_)
                 # The server may have been quicker to end it.
                 with contextlib.suppress(OSError):
@@ -254,7 +260,7 @@ def who_stalls_holds_nobody_up(program):
         client = stack.enter_context(TlsClient(server.port))
         assert refused(client, "GET", "a") == "NOAUTH" and client.ask("AUTH", "secret") == "OK"
         before = server.at_rest()
-        stalled = [stack.enter_context(socket.create_connection((HOST, server.port), SECONDS)) for _ in range(40)]
+        stalled = [stack.enter_context(connected(server)) for _ in range(40)]
         for one in stalled[::2]:
             one.sendall(b"\x16\x03\x01\x02\x00\x01")
         unknown = stack.enter_context(TlsClient(server.port))
@@ -319,7 +325,7 @@ def who_is_in_a_handshake_is_a_stranger(program):
         took = []
         clients = [known() for _ in range(OTHERS)]
         before = server.at_rest()
-        silent = [stack.enter_context(socket.create_connection((HOST, server.port), SECONDS)) for _ in range(3)]
+        silent = [stack.enter_context(connected(server)) for _ in range(3)]
         first = met()
         assert refused(first, "PING") == "NOAUTH"
         with assailed(server.port, "stall", 2 * places):
@@ -344,7 +350,7 @@ def half_handshakes_take_little(program):
         with TlsClient(server.port) as client:
             assert client.ask("PING") == "PONG"
         descriptors, before = server.at_rest(), server.memory()
-        stalled = [stack.enter_context(socket.create_connection((HOST, server.port), SECONDS)) for _ in range(STRANGERS)]
+        stalled = [stack.enter_context(connected(server)) for _ in range(STRANGERS)]
         for one in stalled:
             one.sendall(begun)
         with TlsClient(server.port) as client:
@@ -367,7 +373,7 @@ def no_session_is_taken_up_again(program):
             with TlsClient(server.port, tls) as client:
                 assert client.ask("PING") == "PONG" and client.socket.version() == version.name.replace("_", ".")
                 session = client.socket.session
-            with socket.create_connection((HOST, server.port), SECONDS) as plain:
+            with connected(server) as plain:
                 with tls.wrap_socket(plain, server_hostname=HOST, session=session) as one:
                     one.sendall(b"PING\r\n")
                     assert one.recv(99) == b"+PONG\r\n" and not one.session_reused
@@ -396,12 +402,12 @@ def strangers_leave_room_for_others(program):
         first = stack.enter_context(server.client())
         assert refused(first, "PING") == "NOAUTH"
         # Of many that say nothing the first give way: there are no more than a quarter, beside the others.
-        silent = [stack.enter_context(socket.create_connection((HOST, server.port), SECONDS)) for _ in range(2_000)]
+        silent = [stack.enter_context(connected(server)) for _ in range(2_000)]
         assert str(first.read()) == "ERR max number of clients reached" and is_ended(first.socket)
         assert server.settle(before + 75) <= before + 75, server.descriptors()
         del took[:]
         for _ in range(100):
-            silent += [stack.enter_context(socket.create_connection((HOST, server.port), SECONDS)) for _ in range(10)]
+            silent += [stack.enter_context(connected(server)) for _ in range(10)]
             clients.append(known())
         within(max(took), max(0.5, 5 * alone), "to be let in")
         assert all(it.ask("PING") == "PONG" for it in clients)
@@ -459,7 +465,7 @@ def wrong_passwords_take_time(program):
 def little_is_taken_before_a_password(program):
     with environment(DURKENZO_PASSWORD="secret"), served(program) as server:
         for bytes_ in (b"*2\r\n$4\r\nAUTH\r\n$20000\r\n", b"AUTH " + b"x" * 20_000):
-            with socket.create_connection((HOST, server.port), SECONDS) as one:
+            with connected(server) as one:
                 one.sendall(bytes_)
                 told = b": before AUTH a command has at most 16384 bytes\r\n"
                 assert one.recv(200) == b"-ERR Protocol error: unauthenticated bulk length" + told and is_ended(one)

@@ -306,8 +306,8 @@ def served(program, *options, before=(), **how):
 
 
 def free_ports(count):
-    """As many ports at which nobody listens, of those that the system gives to no connection of its own; no other process
-    that asks here is given one of them as long as this one runs."""
+    """As many ports at which nobody listens, of those that the system gives to no connection of its own; no other
+    process that asks here is given one of them as long as this one runs."""
     found = []
     while len(found) < count:
         port = random.SystemRandom().randrange(*PORTS)

@@ -1,5 +1,6 @@
 """What a cluster of several processes over etcd passes, where etcd is installed: it begins and ends as a demo, a short
 trial by faults finds nothing wrong and finds planted bugs, and what its page says to type does what it says."""
+import contextlib
 import re
 import shutil
 import signal
@@ -37,8 +38,10 @@ def demo(room, program):
                 break
         text = "".join(said)
         ports, processes = re.findall(r"port (\d+)", text), re.findall(r"process (\d+)", text)
-        answers = [asked(int(it)) for it in ports]
-        run.send_signal(signal.SIGINT)
+        try:
+            answers = [asked(int(it)) for it in ports]
+        finally:
+            run.send_signal(signal.SIGINT)
         rest = run.communicate(timeout=SECONDS)[0]
     yield verdict("the demo of a cluster answers", len(ports) == 3 and set(answers) == {b"hello"}, f"{text}{answers}")
     yield verdict("the demo ends", run.returncode == 0 and "stopped" in rest, f"{run.returncode}: {rest}")
@@ -50,10 +53,15 @@ def demo(room, program):
 
 
 def asked(port):
-    """What a server of the demo answers to a text that each is given."""
-    with fleet.served.Client(port) as client:
-        client.ask("SET", "greeting", "hello")
-        return client.ask("GET", "greeting")
+    """What a server of the demo answers to a text that each is given, once it isn't refused: on a crowded machine a lease
+    may end."""
+
+    def answer():
+        with contextlib.suppress(fleet.served.Refused, OSError), fleet.served.Client(port) as client:
+            client.ask("SET", "greeting", "hello")
+            return client.ask("GET", "greeting")
+
+    return fleet.served.eventually(answer)
 
 
 def found(bug, minutes, program):
