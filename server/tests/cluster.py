@@ -752,7 +752,7 @@ def kills_of_the_leader_let_migrations_go_on(program):
             shard = next(it for it, (_, owner) in enumerate(shards(client)) if int(owner) == others[0])
             with several.client(others[1]) as asking:
                 asking.send("SM", "MIGRATE", shard, others[1])
-                caught(lambda: shards(client)[shard][0] != "Serving")
+                caught(lambda: shards(client)[shard][0] != "Serving", asking)
                 several.processes[leader].kill()
                 del several.processes[leader]
                 several.settled(without=leader)
@@ -771,7 +771,7 @@ def kills_of_the_leader_let_drains_go_on(program):
         drained, other = (it for it in several.processes if it != leader)
         with several.client(other) as client, several.client(drained) as asking:
             asking.send("SM", "DRAIN", drained)
-            caught(lambda: any(stand != "Serving" for stand, _ in shards(client)))
+            caught(lambda: any(stand != "Serving" for stand, _ in shards(client)), asking)
             left = sum(owner == str(drained) for _, owner in shards(client))
             several.processes[leader].kill()
             del several.processes[leader]

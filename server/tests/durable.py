@@ -438,7 +438,7 @@ def drains_and_returns_go_on_at_the_next_start(program):
             with over(program, data, "--pace", 50) as server, server.client() as client, server.client() as other:
                 before = owners(client)
                 other.send("SM", word, 2)
-                caught(lambda: any(doing in it for it in client.ask("SM", "SERVERS")))
+                caught(lambda: any(doing in it for it in client.ask("SM", "SERVERS")), other)
                 # Each shard takes four steps, so this is in the midst of the first one.
                 time.sleep(0.1)
             with over(program, data) as server, server.client() as client:

@@ -2,7 +2,6 @@
 """Migrations, restarts and pauses while clients call: moves.py PROGRAM."""
 import contextlib
 import multiprocessing
-import select
 import signal
 import subprocess
 import time
@@ -124,11 +123,6 @@ def servers_of(client):
     return client.rows("SERVERS", 5)
 
 
-def is_answered(client):
-    """Whether an answer has come."""
-    return bool(select.select([client.socket], [], [], 0)[0])
-
-
 def timed(client):
     """How each server stands, and how long that took."""
     began = time.monotonic()
@@ -143,15 +137,15 @@ def others_are_answered_while_a_server_restarts(program):
         alone = max(timed(control)[1] for _ in range(20))
         with server.client() as first, server.client() as second:
             first.send("SM", "RESTART", 1)
-            caught(lambda: servers_of(control)[0][1] == "approved")
+            caught(lambda: servers_of(control)[0][1] == "approved", first)
             second.send("SM", "RESTART", 2)
             control.send("SM", "RESTART", 1)
             found = control.read()
-            if is_answered(first):
+            if first.is_answered():
                 raise Missed("the restart was over")
             assert str(found).startswith("REFUSED NotUp"), found
             longest, seen = 0, {1: set(), 2: set()}
-            while not is_answered(second):
+            while not second.is_answered():
                 rows, took = timed(control)
                 longest = max(longest, took)
                 for number in seen:
@@ -198,7 +192,7 @@ def a_migration_that_somebody_gives_up_is_told(program):
     with served(program, "--servers", 3, "--shards", 3, "--pace", 300) as server, server.client() as control:
         with server.client() as client:
             client.send("SM", "MIGRATE", 0, 3)
-            caught(lambda: control.ask("SM", "LOOK", 0).startswith("Prepared"))
+            caught(lambda: control.ask("SM", "LOOK", 0).startswith("Prepared"), client)
             control.send("SM", "CANCEL", 0)
             if str(told := control.read()) != "OK":
                 raise Missed(told)
@@ -214,9 +208,9 @@ def a_shard_whose_new_owner_fails_is_served_again(program):
         assert control.ask("SM", "PAUSE", 1) == "OK"
         for is_back in (False, True):
             client.send("SM", "MIGRATE", 0, 2)
-            caught(lambda: control.ask("SM", "LOOK", 0).startswith("Taken 2"))
+            caught(lambda: control.ask("SM", "LOOK", 0).startswith("Taken 2"), client)
             assert control.ask("SM", "FAIL", 2) == "OK"
-            caught(lambda: control.ask("SM", "LOOK", 0).startswith("Paused 2"))
+            caught(lambda: control.ask("SM", "LOOK", 0).startswith("Paused 2"), client)
             if is_back:
                 assert control.ask("SM", "BACK", 2) == "OK"
                 if str(told := client.read()) != "OK":
@@ -255,7 +249,7 @@ def paused_shards_hold_back_who_asks_for_them(program):
         free = next(it for it in KEYS if control.ask("SM", "KEY", it) != shard)
         assert control.ask("SM", "PAUSE", shard) == "OK"
         client.socket.sendall(packed("INCR", "held") + packed("GET", "held"))
-        assert control.ask("INCR", free) == 1 and not is_answered(client)
+        assert control.ask("INCR", free) == 1 and not client.is_answered()
         assert control.ask("SM", "RESUME", shard) == "OK"
         assert (client.read(), client.read()) == (2, b"2")
     with served(program, "--wait", 400) as server, server.client() as control, server.client() as client:

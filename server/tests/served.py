@@ -6,6 +6,7 @@ import json
 import os
 import pathlib
 import random
+import select
 import socket
 import subprocess
 import sys
@@ -59,12 +60,15 @@ def within(took, most, what="it"):
         raise Missed(f"{what} took {took:.2f} s, and may take {most}")
 
 
-def caught(look, seconds=10):
-    """What this gives once it gives something, which is there for a while alone."""
-    try:
-        return eventually(look, seconds)
-    except AssertionError as late:
-        raise Missed(late) from None
+def caught(look, client):
+    """What this gives once it gives something, which is so no longer once the client is answered."""
+
+    def found():
+        if (it := look()) or not client.is_answered():
+            return it
+        raise Missed(f"it was over: {client.read()}")
+
+    return eventually(found)
 
 
 class Client:
@@ -107,6 +111,10 @@ class Client:
         """The answer's bytes as they came."""
         self.send(*words)
         return self.bytes_of_one()
+
+    def is_answered(self):
+        """Whether an answer has come, of which nothing is read yet."""
+        return bool(select.select([self.socket], [], [], 0)[0])
 
     def line(self):
         line = self.stream.readline()
