@@ -714,16 +714,16 @@ def waiting_stops_its_own_connections_alone(program):
 # What is asked by clients that leave at once, how many of them there are, and for how long.
 ASKED = [("GET", "a"), ("SET", "a", "x"), ("DBSIZE",), ("SCAN", "0"), ("SM", "SHARDS")]
 LEAVERS, BEGUN, BESIDE = 4, 0.4, 0.4
-# How long somebody beside them waits for an answer by the mean at most, or how many times as long as without them just
-# before, and how many descriptors the server has then.
+# How long somebody beside them waits for an answer by the mean at most, or how many times as long as for the same
+# without them just before, and how many descriptors the server has then.
 MOST_WAIT, TIMES, MOST_DESCRIPTORS = 0.1, 20, 500
 
 
-def mean_of_get(server, client):
-    """How long an answer to GET takes by the mean, and how many descriptors the server has meanwhile at most."""
+def mean_of(server, client, *words):
+    """How long an answer to this takes by the mean, and how many descriptors the server has meanwhile at most."""
     began, count, most = time.monotonic(), 0, 0
     while time.monotonic() < began + BESIDE or count < 10:
-        client.ask("GET", "a")
+        client.ask(*words)
         count, most = count + 1, max(most, server.descriptors())
     return (time.monotonic() - began) / count, most
 
@@ -734,11 +734,12 @@ def beside_leavers(server, words):
     command = [sys.executable, pathlib.Path(__file__).parent / "leavers.py", str(server.port), *words]
     with contextlib.ExitStack() as stack, server.client() as client:
         client.ask("GET", "a")
-        alone = mean_of_get(server, client)[0]
+        # Who reads what is written waits for the disk.
+        alone = max(mean_of(server, client, *it)[0] for it in (("GET", "a"), words))
         for _ in range(LEAVERS):
             stack.enter_context(served.begun(command))
         time.sleep(BEGUN)
-        took, most = mean_of_get(server, client)
+        took, most = mean_of(server, client, "GET", "a")
         return took / max(MOST_WAIT, TIMES * alone), took, most
 
 
