@@ -92,7 +92,7 @@ def soaked(room):
 
 def ordinary_rust():
     """What needs no library, and what is said where there is none."""
-    return [Part("ordinary Rust", alone.passed, True), Part("crates without a library", unlinked.passed)]
+    return [Part("ordinary Rust", alone.passed, goes_first=True), Part("crates without a library", unlinked.passed)]
 
 
 def without_proof(room, names, is_proved):
@@ -197,9 +197,9 @@ def proved(say):
         Part("pictures, proved", program.pictures),
         Part("the shell, proved", program.shell),
         Part("./sm", front.words),
-        Part("library", library.passed, True),
-        Part("server", server.passed, True),
-        Part("cluster of processes", cluster.passed, True),
+        Part("library", library.passed, goes_first=True),
+        Part("server", server.passed, goes_first=True),
+        Part("cluster of processes", cluster.passed, goes_first=True),
         Part("simulation", simulation.passed),
         Part("packages", packed.passed("proved")),
         *faults(say),
