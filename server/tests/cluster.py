@@ -379,7 +379,7 @@ def processes_speak_tls_and_know_a_secret(program):
     with tempfile.TemporaryDirectory(prefix="sm-peers-") as folder:
         certify(folder)
         tls = ["--peer-ca", f"{folder}/ca.pem", "--peer-cert", f"{folder}/peer.pem", "--peer-key", f"{folder}/peer.key"]
-        with cluster(program, *tls, "--peer-secret-file", f"{folder}/secret", "--wait", 300) as several:
+        with cluster(program, *tls, "--peer-secret-file", f"{folder}/secret") as several:
             with several.client(2) as client:
                 assert client.piped([("INCR", f"key:{it}") for it in range(20)]) == [1] * 20
             several.processes.pop(3).kill(signal.SIGTERM)
@@ -387,10 +387,15 @@ def processes_speak_tls_and_know_a_secret(program):
             several.begin(3)
             with several.client(1) as client, several.client(3) as stranger:
                 eventually(lambda: rows(client)[2][1] == "up")
-                answers = stranger.piped([("GET", f"key:{it}") for it in range(20)])
-                told = [it for it in answers if isinstance(it, Refused)]
-                assert told and all("its secret is another one" in str(it) for it in told), told
+                eventually(lambda: is_refused_by_its_secret(stranger))
                 assert client.ask("SET", "key:1", 1) == "OK"
+
+
+def is_refused_by_its_secret(stranger):
+    """Whether a process is told that its secret is another one, whatever it asks others for."""
+    answers = stranger.piped([("GET", f"key:{it}") for it in range(20)])
+    told = [str(it) for it in answers if isinstance(it, Refused)]
+    return bool(told) and all("its secret is another one" in it for it in told)
 
 
 def who_ends_within_a_handshake_holds_no_thread(program):

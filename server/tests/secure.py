@@ -168,8 +168,8 @@ def clients_of_redis_speak_tls(program):
         command = ["-p", str(server.port), "--tls", "--cacert", file("ca.pem")]
         ran = subprocess.run(["redis-cli", *command, "set", "a", "b"], capture_output=True, text=True, timeout=SECONDS)
         assert ran.stdout.strip() == "OK", ran
-        load = [*command, "-t", "set,get,incr", "-n", "20000", "-c", "50", "-P", "8", "-q"]
-        how = {"capture_output": True, "text": True, "timeout": 5 * SECONDS}
+        load = [*command, "-t", "set,get,incr", "-n", "5000", "-c", "50", "-P", "8", "-q"]
+        how = {"capture_output": True, "text": True, "timeout": 10 * SECONDS}
         ran = subprocess.run(["redis-benchmark", *load], check=True, **how)
         assert "requests per second" in ran.stdout and "rror" not in ran.stderr, ran
         client = redis.Redis(port=server.port, ssl=True, ssl_ca_certs=file("ca.pem"))
