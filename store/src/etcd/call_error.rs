@@ -95,6 +95,11 @@ impl CallError {
         }
     }
 
+    /// Whether another member may be asked, where that may be done twice: this one can't be reached, or it is of this one.
+    pub(super) fn is_passed_over(&self) -> bool {
+        matches!(self, CallError::Unreachable(_)) || self.is_of_member()
+    }
+
     /// What it means for a transaction. Only what a member refuses before it proposes it isn't made.
     pub(super) fn of_write(self) -> WriteError {
         match self {

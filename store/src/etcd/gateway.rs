@@ -10,8 +10,9 @@ use serde::de::{DeserializeOwned, IgnoredAny};
 use serde::{Deserialize, Serialize};
 use std::future::Future;
 use std::sync::atomic::{AtomicUsize, Ordering};
-use std::sync::Mutex;
+use std::sync::{Arc, Mutex};
 use std::time::Duration;
+use tokio::task::JoinSet;
 use tokio::time::{timeout, timeout_at, Instant};
 
 /// Where keys are read.
@@ -23,8 +24,10 @@ const LONG: Duration = Duration::from_secs(30);
 /// How long a member may take to begin a watch, and to say that it is well: members without a leader elect one in less,
 /// mostly.
 const SHORT: Duration = Duration::from_secs(2);
-/// How long a member may take to keep a lease, so that another one keeps it in time.
+/// How long a member may take to keep a lease before another one is asked beside it.
 const BRIEF: Duration = Duration::from_secs(1);
+/// How many calls of a member may be under way at once, and how often it is asked at once where all fail.
+const BESIDE: usize = 2;
 /// How long a member may take to be reached, and then for the handshake of TLS.
 const REACH: Duration = Duration::from_secs(1);
 /// What has a member end a stream once it reaches none that leads.
@@ -104,24 +107,18 @@ impl Gateway {
         Ok(())
     }
 
-    /// Calls a member that answers by a stream, and takes the first that it gives; where it gives none soon the others
-    /// in turn, and once more with all patience where none does, as all may be slow: for what may be done twice.
-    pub(super) async fn first<T: DeserializeOwned>(
-        &self,
-        path: &str,
-        asked: &impl Serialize,
+    /// Calls a member that answers by a stream, and takes the first that it gives; where it gives none soon, others
+    /// beside it too: for what may be done twice.
+    pub(super) async fn first<T: DeserializeOwned + Send + 'static>(
+        self: &Arc<Gateway>,
+        path: &'static str,
+        asked: &(impl Serialize + Clone + Send + Sync + 'static),
     ) -> Result<T, CallError> {
-        let call = |member| async move {
-            let found = self.send(member, path, asked).await?;
-            let told: Streamed<T> = LineStream::new(found.into_body()).next().await?;
-            let error = || CallError::Unknown("a member's stream begins with an error".to_owned());
-            told.result.ok_or_else(error)
+        let call = |member| {
+            let (gateway, asked) = (self.clone(), asked.clone());
+            async move { gateway.first_of(member, path, &asked).await }
         };
-        let patience = self.access.patience;
-        match self.in_turn(patience.min(BRIEF), &call).await {
-            Err(CallError::Unknown(_)) => self.reach(patience, &call).await,
-            found => found,
-        }
+        within(self.access.patience, self.beside(call)).await
     }
 
     /// Has this member, and no other, tell changes by a stream, which it begins soon or not at all.
@@ -166,6 +163,45 @@ impl Gateway {
         }
     }
 
+    /// Has a member do this; another one at once if it fails, and one more, beside those that are slow, each `BRIEF`
+    /// until one has done it.
+    ///
+    /// A call that is slow goes on, as all may be. Its member is asked once more beside it, as the call may wait for a
+    /// leader that hangs though the member knows another one by now.
+    async fn beside<T, F>(&self, call: impl Fn(usize) -> F) -> Result<T, CallError>
+    where
+        T: Send + 'static,
+        F: Future<Output = Result<T, CallError>> + Send + 'static,
+    {
+        let (mut calls, mut under_way) = (JoinSet::new(), vec![0; self.members.len()]);
+        let (mut next, mut begun, mut last) = (self.current(), 0, CallError::late());
+        let mut begins = true;
+        loop {
+            if let Some(member) = with_room(&under_way, next).filter(|_| begins) {
+                let call = call(member);
+                calls.spawn(async move { (member, call.await) });
+                self.pass_over(member);
+                under_way[member] += 1;
+                (next, begun) = (member + 1, begun + 1);
+            }
+            begins = match timeout(BRIEF, calls.join_next()).await {
+                Err(_) => true,
+                Ok(None) => return Err(last),
+                Ok(Some(Err(error))) => return Err(CallError::Unknown(error.to_string())),
+                Ok(Some(Ok((member, Ok(found))))) => {
+                    self.current.store(member, Ordering::Relaxed);
+                    return Ok(found);
+                }
+                Ok(Some(Ok((member, Err(error))))) if error.is_passed_over() => {
+                    under_way[member] -= 1;
+                    last = error;
+                    begun < BESIDE * self.members.len()
+                }
+                Ok(Some(Ok((_, Err(error))))) => return Err(error),
+            };
+        }
+    }
+
     /// Has the first member that can be reached do this, with this patience for the search too. The next call goes to
     /// another one where it doesn't answer, or refuses for itself.
     async fn reach<T, F: Future<Output = Result<T, CallError>>>(
@@ -189,6 +225,19 @@ impl Gateway {
             self.pass_over(member);
         }
         Err(CallError::Unreachable(last))
+    }
+
+    /// The first that this member's stream gives.
+    async fn first_of<T: DeserializeOwned>(
+        &self,
+        member: usize,
+        path: &str,
+        asked: &impl Serialize,
+    ) -> Result<T, CallError> {
+        let found = self.send(member, path, asked).await?;
+        let told: Streamed<T> = LineStream::new(found.into_body()).next().await?;
+        let error = || CallError::Unknown("a member's stream begins with an error".to_owned());
+        told.result.ok_or_else(error)
     }
 
     /// Asks this member, and no other.
@@ -285,6 +334,13 @@ impl Gateway {
             .body(Body::from(asked))
             .map_err(|error| CallError::Unreachable(error.to_string()))
     }
+}
+
+/// The first member, of those from this one on, that may have another call beside those that are under way.
+fn with_room(under_way: &[usize], from: usize) -> Option<usize> {
+    let members = (from..).map(|it| it % under_way.len());
+    let mut members = members.take(under_way.len());
+    members.find(|it| under_way[*it] < BESIDE)
 }
 
 /// What the call gives, if it does so in that time.

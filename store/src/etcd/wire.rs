@@ -298,7 +298,7 @@ impl TransactionResult {
 }
 
 /// A lease that is asked for, or named.
-#[derive(Default, Serialize)]
+#[derive(Clone, Default, Serialize)]
 pub(super) struct LeaseRequest {
     #[serde(rename = "TTL", with = "number")]
     length: u64,

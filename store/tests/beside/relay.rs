@@ -1,34 +1,56 @@
 use std::io::{Read, Write};
 use std::net::{Shutdown, TcpListener, TcpStream};
+use std::sync::atomic::{AtomicUsize, Ordering};
 use std::sync::{Arc, Mutex, PoisonError};
 use std::thread;
+use std::time::Duration;
 
 /// Passes on what is sent to a member, and holds what was.
 pub struct Relay {
     pub endpoint: String,
     sent: Arc<Mutex<Vec<u8>>>,
+    callers: Arc<AtomicUsize>,
 }
 
 impl Relay {
     /// One before the member at this address.
     pub fn before(endpoint: &str) -> Relay {
+        Relay::slow(endpoint, |_| Duration::ZERO)
+    }
+
+    /// One that passes on nothing of a caller for so long, by how many came before.
+    pub fn slow(endpoint: &str, delay: fn(usize) -> Duration) -> Relay {
         let listener = TcpListener::bind(("127.0.0.1", 0)).expect("a port");
         let own = listener.local_addr().expect("its address");
         let member = endpoint.trim_start_matches("http://").to_owned();
         let sent = Arc::new(Mutex::new(Vec::new()));
-        let noted = Arc::clone(&sent);
+        let callers = Arc::new(AtomicUsize::new(0));
+        let (noted, counted) = (Arc::clone(&sent), Arc::clone(&callers));
         thread::spawn(move || {
             for client in listener.incoming() {
                 let (client, noted) = (client.expect("a caller"), Arc::clone(&noted));
+                let delay = delay(counted.fetch_add(1, Ordering::Relaxed));
                 let member = TcpStream::connect(&member).expect("it listens");
                 let (back, to) = (member.try_clone().expect("it"), client.try_clone());
                 let to = to.expect("it");
-                thread::spawn(move || pass(client, member, |some| lock(&noted).extend(some)));
+                thread::spawn(move || {
+                    thread::sleep(delay);
+                    pass(client, member, |some| lock(&noted).extend(some));
+                });
                 thread::spawn(move || pass(back, to, |_| {}));
             }
         });
         let endpoint = format!("http://{own}");
-        Relay { endpoint, sent }
+        Relay {
+            endpoint,
+            sent,
+            callers,
+        }
+    }
+
+    /// How many callers came.
+    pub fn callers(&self) -> usize {
+        self.callers.load(Ordering::Relaxed)
     }
 
     /// How many calls of this path were sent.
