@@ -12,8 +12,9 @@ use std::sync::mpsc::{channel, Receiver, Sender};
 use std::sync::Arc;
 use std::time::{Duration, Instant};
 
-const WAIT: Duration = Duration::from_secs(1);
-const LEASE: Duration = Duration::from_secs(5);
+/// How long a request waits, and a lease is: longer than a machine that is busy stops a process.
+const WAIT: Duration = Duration::from_secs(10);
+const LEASE: Duration = Duration::from_secs(60);
 
 /// Why a text isn't shouted.
 #[derive(Clone, Debug, PartialEq)]

@@ -86,10 +86,10 @@ impl ConnectedPeers {
 
 #[cfg(test)]
 mod tests {
+    use super::super::trial;
     use super::*;
     use durkenzo_driver::{Addresses, Live};
     use durkenzo_store::Revision;
-    use std::io::Read;
     use std::net::{TcpListener, TcpStream};
 
     /// A process' connection: its own side, and what is held of the other one.
@@ -103,8 +103,6 @@ mod tests {
         fn of(peers: &ConnectedPeers, server: u16, process: u64) -> Connection {
             let listener = TcpListener::bind("127.0.0.1:0").unwrap();
             let own = TcpStream::connect(listener.local_addr().unwrap()).unwrap();
-            let patience = Some(Duration::from_millis(20));
-            own.set_read_timeout(patience).unwrap();
             let closer = Arc::new(Closer::of(&listener.accept().unwrap().0).unwrap());
             let outbox = Arc::default();
             let settings = 0;
@@ -123,7 +121,11 @@ mod tests {
         }
 
         fn is_ended(&self) -> bool {
-            matches!((&self.own).read(&mut [0]), Ok(0))
+            trial::is_ended(&self.own)
+        }
+
+        fn goes_on(&self) -> bool {
+            trial::goes_on(&self.own)
         }
     }
 
@@ -145,10 +147,10 @@ mod tests {
         let again = connection(1, 5);
         // One that was stopped goes on after another one took its place.
         let stale = connection(3, 8);
-        assert!(first.is_ended() && !again.is_ended() && !other.is_ended());
-        assert!(!later.is_ended() && !stale.is_ended());
+        assert!(first.is_ended() && again.goes_on() && other.goes_on());
+        assert!(later.goes_on() && stale.goes_on());
         let next = connection(1, 6);
-        assert!(again.is_ended() && !next.is_ended());
+        assert!(again.is_ended() && next.goes_on());
         peers.end();
         assert!(next.is_ended() && other.is_ended());
     }
@@ -164,9 +166,9 @@ mod tests {
         let seen = members([(2, 4), (3, 9)]);
         peers.tick(now, &seen);
         peers.tick(now + GONE / 2, &seen);
-        assert!(connections.iter().all(|it| !it.is_ended()));
+        assert!(connections.iter().all(Connection::goes_on));
         peers.tick(now + GONE, &seen);
-        let ended = connections.each_ref().map(Connection::is_ended);
-        assert_eq!(ended, [true, false, true, false]);
+        assert!(connections[0].is_ended() && connections[2].is_ended());
+        assert!(connections[1].goes_on() && connections[3].goes_on());
     }
 }

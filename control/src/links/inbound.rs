@@ -165,7 +165,7 @@ fn write_all(outbox: &Outbox, writer: &mut dyn Write, closer: &Closer) {
 #[cfg(test)]
 mod tests {
     use super::super::outbox::MOST_REQUESTS;
-    use super::super::trial::TestReason;
+    use super::super::trial::{TestReason, PATIENCE};
     use super::*;
     use std::io::ErrorKind;
     use std::net::TcpListener;
@@ -196,7 +196,7 @@ mod tests {
         assert!(reply.is_awaited());
         reply.clone().answer(b"+OK\r\n");
         write_all(&outbox, &mut Broken, &closer);
-        assert_eq!(told.recv_timeout(Duration::from_secs(10)), Ok(false));
+        assert_eq!(told.recv_timeout(PATIENCE), Ok(false));
         assert!(!outbox.is_answering() && !reply.is_awaited());
     }
 }

@@ -434,7 +434,7 @@ impl<H: Host> NotSent<H> {
 #[cfg(test)]
 mod tests {
     use super::super::forwarded_batch::ForwardedBatch;
-    use super::super::trial::{TestCommand, TestHost, TestReason, TestRequest};
+    use super::super::trial::{goes_on, is_ended, TestCommand, TestHost, TestReason, TestRequest};
     use super::*;
     use std::net::{TcpListener, TcpStream};
     use std::sync::mpsc::Receiver;
@@ -527,42 +527,36 @@ mod tests {
         let listener = TcpListener::bind("127.0.0.1:0").unwrap();
         let own = TcpStream::connect(listener.local_addr().unwrap()).unwrap();
         let other = listener.accept().unwrap().0;
-        let patience = Some(Duration::from_millis(50));
-        other.set_read_timeout(patience).unwrap();
         let link = idle();
         link.state().process = 7;
         link.state().closer = Some(Arc::new(Closer::of(&own).unwrap()));
         (link, other)
     }
 
-    fn is_ended(other: &mut TcpStream) -> bool {
-        matches!(other.read(&mut [0]), Ok(0))
-    }
-
     #[test]
     fn a_connection_ends_once_another_process_has_the_server() {
-        let (link, mut other) = connected();
+        let (link, other) = connected();
         let now = Instant::now();
         // What is seen of others may lag behind whom a link has reached.
         for process in [Some(7), Some(6)] {
             link.tick(now, process);
-            assert!(!is_ended(&mut other));
+            assert!(goes_on(&other));
         }
         link.tick(now, Some(8));
-        assert!(is_ended(&mut other));
+        assert!(is_ended(&other));
     }
 
     #[test]
     fn a_connection_goes_on_for_a_while_to_a_server_that_is_gone() {
-        let (link, mut other) = connected();
+        let (link, other) = connected();
         let now = Instant::now();
         link.tick(now, None);
         link.tick(now + LAST / 2, None);
-        assert!(!is_ended(&mut other));
+        assert!(goes_on(&other));
         link.tick(now + LAST / 2, Some(7));
         link.tick(now + LAST, None);
-        assert!(!is_ended(&mut other));
+        assert!(goes_on(&other));
         link.tick(now + 2 * LAST, None);
-        assert!(is_ended(&mut other));
+        assert!(is_ended(&other));
     }
 }

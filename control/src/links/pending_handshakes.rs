@@ -57,10 +57,9 @@ impl Drop for PendingHandshake {
 
 #[cfg(test)]
 mod tests {
+    use super::super::trial::{goes_on, is_ended};
     use super::*;
-    use std::io::Read;
     use std::net::{TcpListener, TcpStream};
-    use std::time::Duration;
 
     #[test]
     fn who_comes_takes_the_place_of_who_has_taken_longest() {
@@ -72,23 +71,17 @@ mod tests {
             let handshake = handshakes.take(Closer::of(&served).unwrap());
             (client, served, handshake)
         };
-        let is_ended = |client: &TcpStream| {
-            let patience = Some(Duration::from_millis(20));
-            client.set_read_timeout(patience).unwrap();
-            matches!((&mut &*client).read(&mut [0]), Ok(0))
-        };
         let mut came: Vec<_> = (0..2 * MOST).map(|_| come()).collect();
-        let ended = came.iter().take_while(|it| is_ended(&it.0)).count();
-        assert_eq!(ended, MOST);
-        assert!(!is_ended(&came[2 * MOST - 1].0));
+        assert!(came[..MOST].iter().all(|it| is_ended(&it.0)));
+        assert!(goes_on(&came[MOST].0) && goes_on(&came[2 * MOST - 1].0));
         // Those that were ended haven't gone yet.
         assert!(come().2.is_none());
         came.drain(..MOST);
         came.push(come());
-        assert!(came[MOST].2.is_some() && is_ended(&came[0].0) && !is_ended(&came[1].0));
+        assert!(came[MOST].2.is_some() && is_ended(&came[0].0) && goes_on(&came[1].0));
         // One that greeted left room.
         came[1].2 = None;
         came.push(come());
-        assert!(!is_ended(&came[1].0) && !is_ended(&came[2].0));
+        assert!(goes_on(&came[1].0) && goes_on(&came[2].0));
     }
 }

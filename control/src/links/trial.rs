@@ -1,8 +1,36 @@
-//! A host for tests, whose requests and commands tell their names and how they ended.
+//! A host for tests, whose requests and commands tell their names and how they ended, and what is seen of connections.
 use super::*;
 use durkenzo_driver::Came;
 use durkenzo_store::Revision;
+use std::io::Read;
+use std::net::TcpStream;
 use std::sync::mpsc::{channel, Receiver, Sender};
+
+/// How long something is waited for that has to come, on a machine that may be busy.
+pub(super) const PATIENCE: Duration = Duration::from_secs(60);
+/// How long something is waited for that mustn't come.
+const MOMENT: Duration = Duration::from_millis(20);
+
+/// Whether the other side ends this connection, which it has to.
+pub(super) fn is_ended(own: &TcpStream) -> bool {
+    ends_within(own, PATIENCE)
+}
+
+/// Whether the other side leaves this connection open.
+pub(super) fn goes_on(own: &TcpStream) -> bool {
+    !ends_within(own, MOMENT)
+}
+
+fn ends_within(mut own: &TcpStream, time: Duration) -> bool {
+    own.set_read_timeout(Some(time)).unwrap();
+    loop {
+        match own.read(&mut [0]) {
+            // The process was stopped, and goes on.
+            Err(error) if error.kind() == ErrorKind::Interrupted => {}
+            found => return matches!(found, Ok(0)),
+        }
+    }
+}
 
 /// A host that answers nobody.
 #[derive(Debug)]
