@@ -10,10 +10,17 @@ use std::sync::{Arc, Mutex};
 use std::thread;
 use std::time::{Duration, Instant};
 
+/// How long something is waited for, on a machine that may be busy.
+const PATIENCE: Duration = Duration::from_secs(60);
+/// How long no base is begun after one failed, at least.
+const PAUSE: Duration = Duration::from_millis(300);
+
 /// A store that holds parts of bases back until they are let go, and may lose what becomes of a batch.
 struct Holding {
     store: Arc<dyn Store>,
     parts: Mutex<Vec<(Transaction, Done)>>,
+    /// When a part came last.
+    came: Mutex<Instant>,
     /// Whether the next batch isn't made, and nobody knows.
     loses: AtomicBool,
     /// Whether parts aren't written.
@@ -29,6 +36,7 @@ impl Handing for Holding {
         let writes = |prefix: &[u8]| transaction.puts.iter().any(|it| it.key.starts_with(prefix));
         let unknown = || Err(WriteError::Unknown("a test".to_owned()));
         if writes(b"base/") {
+            *self.came.lock().unwrap() = Instant::now();
             return self.parts.lock().unwrap().push((transaction, done));
         }
         if writes(b"batch/") && self.loses.swap(false, Ordering::AcqRel) {
@@ -44,6 +52,7 @@ impl Holding {
         Arc::new(Handed(Holding {
             store: store.clone(),
             parts: Mutex::default(),
+            came: Mutex::new(Instant::now()),
             loses: AtomicBool::new(false),
             refuses: AtomicBool::new(false),
         }))
@@ -51,7 +60,7 @@ impl Holding {
 
     /// Waits until so many parts are held back.
     fn wait_for(&self, parts: usize) {
-        let end = Instant::now() + Duration::from_secs(20);
+        let end = Instant::now() + PATIENCE;
         while self.parts.lock().unwrap().len() < parts {
             assert!(Instant::now() < end, "no part of a base is written");
             thread::sleep(Duration::from_millis(5));
@@ -116,14 +125,15 @@ fn a_base_that_was_given_up_is_not_named() {
 fn a_base_that_fails_is_begun_again_a_while_later() {
     let (store, holding, durable) = begun();
     holding.refuses.store(true, Ordering::Release);
+    let failed = Instant::now();
     holding.let_go();
     assert_eq!(add(&durable, 0, b"a", 1), Ok(vec![MapReply::Count(9)]));
-    thread::sleep(Duration::from_millis(300));
-    assert!(holding.parts.lock().unwrap().is_empty(), "it doesn't pause");
-    holding.refuses.store(false, Ordering::Release);
     holding.wait_for(1);
+    let paused = holding.came.lock().unwrap().duration_since(failed);
+    assert!(paused >= PAUSE, "{paused:?}");
+    holding.refuses.store(false, Ordering::Release);
     holding.let_go();
-    let end = Instant::now() + Duration::from_secs(20);
+    let end = Instant::now() + PATIENCE;
     while store.read_all(b"batch/").unwrap().pairs.len() > 7 {
         assert!(Instant::now() < end, "no base is made");
         thread::sleep(Duration::from_millis(5));

@@ -5,17 +5,22 @@ mod common;
 use common::{add, held, Uncertain};
 use durkenzo_driver::{ControlCommand, Durable, DurableControl, MapReply, Next};
 use durkenzo_store::{Embedded, Store};
-use std::sync::atomic::{AtomicBool, Ordering};
+use std::sync::atomic::{AtomicBool, AtomicU64, Ordering};
 use std::sync::Arc;
 use std::thread;
 use std::time::{Duration, Instant};
 
 const SHARDS: u16 = 4;
 const THREADS: u64 = 6;
+/// How long it goes on at least, and how much longer at most until there were so many moves.
 const LASTS: Duration = Duration::from_secs(3);
+const PATIENCE: Duration = Duration::from_secs(60);
+const MOVES: u64 = 10;
+/// How often each thread adds to each shard at least.
+const TIMES: u16 = 3;
 
-/// Moves shards to the other server as long as it is let.
-fn migrate(mut control: DurableControl, stops: &AtomicBool) -> u64 {
+/// Moves shards to the other server as long as it is let, and counts how often.
+fn migrate(mut control: DurableControl, stops: &AtomicBool, count: &AtomicU64) {
     let mut moves = 0;
     while !stops.load(Ordering::Acquire) {
         let (shard, server) = (
@@ -28,9 +33,9 @@ fn migrate(mut control: DurableControl, stops: &AtomicBool) -> u64 {
             let _ = control.command(command);
         }
         moves += 1;
+        count.store(moves, Ordering::Relaxed);
         thread::sleep(Duration::from_millis(1));
     }
-    moves
 }
 
 #[test]
@@ -38,18 +43,24 @@ fn additions_are_counted_once_where_outcomes_are_unknown() {
     let store: Arc<dyn Store> = Arc::new(Uncertain::new(Embedded::in_memory(), 4));
     let durable = Arc::new(common::opened(&store, SHARDS));
     let control = common::led(&durable);
-    let stops = AtomicBool::new(false);
+    let (stops, moves) = (AtomicBool::new(false), AtomicU64::new(0));
     let end = Instant::now() + LASTS;
+    let goes_on = |times| {
+        let now = Instant::now();
+        let is_enough = times >= TIMES && moves.load(Ordering::Relaxed) > MOVES;
+        now < end || !is_enough && now < end + PATIENCE
+    };
     let mut answered = vec![0; usize::from(SHARDS)];
     thread::scope(|scope| {
-        let moving = scope.spawn(|| migrate(control, &stops));
+        let moving = scope.spawn(|| migrate(control, &stops, &moves));
         let adding: Vec<_> = (0..THREADS)
             .map(|thread| {
-                let durable = &durable;
+                let (durable, goes_on) = (&durable, &goes_on);
                 scope.spawn(move || {
                     let mut counts = vec![0; usize::from(SHARDS)];
-                    let mut shard = thread as u16 % SHARDS;
-                    while Instant::now() < end {
+                    let (mut shard, mut times) = (thread as u16 % SHARDS, 0);
+                    while goes_on(times / SHARDS) {
+                        times = times.saturating_add(1);
                         match add(durable, shard, b"count", 1) {
                             Ok(_) => counts[usize::from(shard)] += 1,
                             Err(why) => panic!("an addition wasn't done: {why}"),
@@ -62,7 +73,8 @@ fn additions_are_counted_once_where_outcomes_are_unknown() {
             .collect();
         let ended: Vec<_> = adding.into_iter().map(|it| it.join()).collect();
         stops.store(true, Ordering::Release);
-        assert!(moving.join().unwrap() > 10);
+        moving.join().unwrap();
+        assert!(moves.load(Ordering::Relaxed) > MOVES);
         for counts in ended {
             let counts = counts.unwrap();
             answered

@@ -3,7 +3,7 @@
 //! number before.
 mod common;
 
-use common::cluster::{campaign, Net, Node};
+use common::cluster::{campaign, until, Net, Node};
 use common::{add, ask, held, step, write};
 use durkenzo_driver::{
     keys, Begin, ControlCommand, DurableControl, MapReply, MapRequest, NotDone, Numbered,
@@ -13,7 +13,7 @@ use std::sync::atomic::Ordering;
 use std::sync::mpsc::channel;
 use std::sync::Arc;
 use std::thread;
-use std::time::{Duration, Instant};
+use std::time::Duration;
 
 /// How many requests a process writes at once: as many clients it leaves.
 const REQUESTS: usize = 4_096;
@@ -81,15 +81,6 @@ impl Cluster {
         );
         end(&node);
         told
-    }
-}
-
-/// Waits until this is so.
-fn until(is_so: impl Fn() -> bool) {
-    let end = Instant::now() + Duration::from_secs(60);
-    while !is_so() {
-        assert!(Instant::now() < end, "it isn't so");
-        thread::sleep(Duration::from_millis(20));
     }
 }
 
@@ -161,17 +152,17 @@ fn keeps_a_number_while_a_round_has_it() {
         end(&cluster.start(2));
     }
     let taken = 1 + cluster.first.durable.process() + 9;
-    until(|| cluster.begun() >= taken);
+    until("a number is taken", || cluster.begun() >= taken);
     // It looks each second.
     thread::sleep(Duration::from_secs(2));
     assert_eq!(cluster.lowest(), None);
     let member = cluster.first.durable.member().expect("a member");
-    until(|| member.processes_kept() == 10);
+    until("it keeps what ten left", || member.processes_kept() == 10);
     release.send(()).expect("a transaction");
     let told = told.recv_timeout(Duration::from_secs(60));
     assert_eq!(told, Ok(Ok(vec![MapReply::Count(1)])));
-    until(|| cluster.lowest() == Some(taken));
-    until(|| member.processes_kept() == 1);
+    until("it tells its number", || cluster.lowest() == Some(taken));
+    until("it keeps what one left", || member.processes_kept() == 1);
     assert_eq!(
         add(&cluster.first.durable, 0, b"k0", 1),
         Ok(vec![MapReply::Count(2)])

@@ -2,14 +2,12 @@
 mod common;
 
 use common::add;
-use common::cluster::{assign, campaign, kill, Net, Node};
+use common::cluster::{assign, campaign, kill, until, Net, Node};
 use common::handing::{Handed, Handing};
 use durkenzo_driver::{ControlCommand, DurableControl, Refused, ServerState};
 use durkenzo_store::{Done, Embedded, Store, Transaction, WriteError};
 use std::sync::atomic::{AtomicBool, AtomicUsize, Ordering};
 use std::sync::Arc;
-use std::thread;
-use std::time::{Duration, Instant};
 
 /// The key of server 1.
 const KEY: &[u8] = b"server/00001";
@@ -75,27 +73,22 @@ fn three() -> Three {
 impl Three {
     /// Waits until the key of server 1 is there, or isn't.
     fn await_key(&self, is_there: bool) {
-        let end = Instant::now() + Duration::from_secs(20);
-        while self.store.read(&[KEY]).unwrap().get(KEY).is_some() != is_there {
-            assert!(Instant::now() < end);
-            thread::sleep(Duration::from_millis(10));
-        }
+        until("its key is there, or isn't", || {
+            self.store.read(&[KEY]).unwrap().get(KEY).is_some() == is_there
+        });
     }
 
     /// Has server 1 lose its key, and the control read that.
     fn fall(&mut self) {
         kill(&self.nodes[0]);
+        self.nodes[0].expire();
         self.await_key(false);
-        let end = Instant::now() + Duration::from_secs(20);
-        while self.control.fallen().unwrap() != Some(1) {
-            assert!(Instant::now() < end);
-            thread::sleep(Duration::from_millis(10));
-        }
+        until("it is read", || self.control.fallen().unwrap() == Some(1));
     }
 
     /// Has server 1 have a key again, under another lease.
     fn rise(&self) {
-        self.nodes[0].is_cut.store(false, Ordering::Release);
+        self.nodes[0].revive();
         self.await_key(true);
     }
 

@@ -1,7 +1,7 @@
 //! Reads that are answered by a lease: without a transaction, and stale for no longer than that lasts.
 mod common;
 
-use common::cluster::{assign, campaign, kill, settle, Net, Node, LEASE};
+use common::cluster::{assign, campaign, fail, kill, settle, until, Net, Node, LEASE, PATIENCE};
 use common::{add, ask, held, step, Told};
 use durkenzo_driver::{
     Addresses, Begin, ControlCommand, DurableControl, Key, MapReply, MapRequest, Member, NotDone,
@@ -10,13 +10,15 @@ use durkenzo_driver::{
 use durkenzo_store::{Embedded, Store, Transaction};
 use std::sync::atomic::Ordering;
 use std::sync::{mpsc, Arc};
-use std::thread;
 use std::time::{Duration, Instant};
 
+/// How long leases are of which a test sees the end: longer than a busy machine stops a process.
+const SHORT_LEASE: Duration = Duration::from_secs(10);
+
 /// Three processes, of which each owns a shard, and who leads them.
-fn three(reads: Reads) -> (Vec<Node>, DurableControl) {
+fn three(reads: Reads, lease: Duration) -> (Vec<Node>, DurableControl) {
     let store: Arc<dyn Store> = Arc::new(Embedded::in_memory());
-    let nodes = Net::of_three_by(&store, 3, reads);
+    let nodes = Net::new(reads, lease).start_three(&store, 3);
     let mut control = campaign(&nodes[2]);
     assign(&mut control, 3);
     for node in &nodes {
@@ -51,7 +53,7 @@ fn transactions(node: &Node, reads: usize, count: i64) -> usize {
 
 #[test]
 fn reads_are_answered_without_a_transaction() {
-    let (nodes, mut control) = three(Reads::Lease);
+    let (nodes, mut control) = three(Reads::Lease, LEASE);
     assert!(transactions(&nodes[0], 500, 3) <= 2);
     // Its own writes it knows, and others have their reads answered by it.
     for (number, node) in nodes.iter().enumerate() {
@@ -71,14 +73,14 @@ fn reads_are_answered_without_a_transaction() {
 
 #[test]
 fn exact_reads_are_transactions_each() {
-    let (nodes, _control) = three(Reads::Exact);
+    let (nodes, _control) = three(Reads::Exact, LEASE);
     assert!(transactions(&nodes[0], 50, 3) >= 50);
     assert_eq!(nodes[0].durable.read_by_lease(), 0);
 }
 
 #[test]
 fn a_server_that_sees_no_change_tells_what_is_stale_for_no_longer_than_a_lease() {
-    let (nodes, mut control) = three(Reads::Lease);
+    let (nodes, mut control) = three(Reads::Lease, SHORT_LEASE);
     transactions(&nodes[0], 2, 3);
     nodes[0].is_deaf.store(true, Ordering::Release);
     take(&mut control);
@@ -92,7 +94,7 @@ fn a_server_that_sees_no_change_tells_what_is_stale_for_no_longer_than_a_lease()
             break;
         }
         stale += 1;
-        assert!(after < LEASE, "it is stale after {after:?}");
+        assert!(after < SHORT_LEASE, "it is stale after {after:?}");
     }
     assert!(stale > 0);
 }
@@ -100,7 +102,7 @@ fn a_server_that_sees_no_change_tells_what_is_stale_for_no_longer_than_a_lease()
 /// It has the key hold 3, which it does by all that a server knows that has missed what was written since.
 #[test]
 fn a_change_that_writes_nothing_is_decided_by_what_is_there() {
-    let (nodes, mut control) = three(Reads::Lease);
+    let (nodes, mut control) = three(Reads::Lease, LEASE);
     transactions(&nodes[0], 2, 3);
     nodes[0].is_deaf.store(true, Ordering::Release);
     take(&mut control);
@@ -125,16 +127,11 @@ fn a_change_that_writes_nothing_is_decided_by_what_is_there() {
 
 #[test]
 fn a_server_past_its_lease_tells_nothing() {
-    let (nodes, mut control) = three(Reads::Lease);
+    let (nodes, mut control) = three(Reads::Lease, SHORT_LEASE);
     transactions(&nodes[0], 2, 3);
     kill(&nodes[0]);
     assert!(is_count(held(&nodes[0].durable, 0, b"a"), 3));
-    let end = Instant::now() + Duration::from_secs(20);
-    while control.fallen().unwrap() != Some(1) {
-        assert!(Instant::now() < end);
-        thread::sleep(Duration::from_millis(10));
-    }
-    control.command(ControlCommand::Fail(1)).unwrap();
+    fail(&mut control, 1);
     control.command(ControlCommand::Pause(0)).unwrap();
     control.command(ControlCommand::Reassign(0, 2)).unwrap();
     assert!(is_count(add(&nodes[1].durable, 0, b"a", 1), 4));
@@ -150,7 +147,7 @@ fn a_server_past_its_lease_tells_nothing() {
 
 #[test]
 fn a_read_sees_the_change_before_it_of_its_client() {
-    let (nodes, _control) = three(Reads::Lease);
+    let (nodes, _control) = three(Reads::Lease, LEASE);
     transactions(&nodes[0], 2, 3);
     for count in 4..54 {
         let decide = |_: Vec<MapReply>| vec![MapRequest::Add(Key::from(&b"a"[..]), 1)];
@@ -180,11 +177,7 @@ fn a_member_may_be_dropped_by_what_its_store_tells() {
         let _ = tell.send(());
     };
     store.submit(Transaction::new().put("a", "1"), Box::new(done));
-    assert!(told.recv_timeout(Duration::from_secs(20)).is_ok());
-    // It leaves all the same.
-    let end = Instant::now() + Duration::from_secs(20);
-    while !store.read_all(b"server/").unwrap().pairs.is_empty() {
-        assert!(Instant::now() < end);
-        thread::sleep(Duration::from_millis(5));
-    }
+    assert!(told.recv_timeout(PATIENCE).is_ok());
+    let is_left = || store.read_all(b"server/").unwrap().pairs.is_empty();
+    until("it leaves all the same", is_left);
 }

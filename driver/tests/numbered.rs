@@ -1,15 +1,13 @@
 //! All clients that number their requests have room in one shard, and what they ask is made once.
 mod common;
 
-use common::cluster::{campaign, kill, settle, Net};
+use common::cluster::{campaign, fail, kill, settle, Net};
 use common::{add, held, led, opened, step, Told};
-use durkenzo_driver::{
-    Begin, ControlCommand, Durable, DurableControl, MapReply, MapRequest, NotDone, Numbered,
-};
+use durkenzo_driver::{Begin, ControlCommand, Durable, MapReply, MapRequest, NotDone, Numbered};
 use durkenzo_store::{Embedded, Store, Sync};
 use std::sync::Arc;
 use std::thread;
-use std::time::{Duration, Instant};
+use std::time::Duration;
 
 /// How many requests each client writes under a number: as many as it may.
 const MOST: usize = Numbered::MOST_REQUESTS;
@@ -109,16 +107,6 @@ fn what_is_out_of_bounds_is_refused_and_nothing_of_it_is_made() {
     );
 }
 
-/// Says that the server has failed, as soon as it isn't there.
-fn fail(control: &mut DurableControl, server: u16) {
-    let end = Instant::now() + Duration::from_secs(20);
-    while control.fallen().unwrap() != Some(server) {
-        assert!(Instant::now() < end);
-        thread::sleep(Duration::from_millis(10));
-    }
-    control.command(ControlCommand::Fail(server)).unwrap();
-}
-
 #[test]
 fn nothing_is_made_twice_where_the_server_of_the_shard_is_killed() {
     let store: Arc<dyn Store> = Arc::new(Embedded::in_memory());
@@ -130,6 +118,9 @@ fn nothing_is_made_twice_where_the_server_of_the_shard_is_killed() {
         let asking = scope.spawn(|| told_all(&nodes[1].durable, 2));
         thread::sleep(Duration::from_millis(20));
         kill(&nodes[0]);
+        // It is asked in vain for a while.
+        thread::sleep(Duration::from_millis(300));
+        nodes[0].expire();
         fail(&mut control, 1);
         settle(&mut control, 0);
         asking.join().unwrap()

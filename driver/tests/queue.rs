@@ -17,7 +17,7 @@ use std::time::{Duration, Instant};
 const MOST_RUNS: usize = 32_768;
 const MOST_OF_A_ROUND: usize = 1_024;
 /// How long something is waited for at most.
-const PATIENCE: Duration = Duration::from_secs(10);
+const PATIENCE: Duration = Duration::from_secs(60);
 
 /// An addition to this key.
 fn addition(name: &str) -> Begin {

@@ -19,7 +19,7 @@ const SHORT: Duration = Duration::from_secs(2);
 /// How many write in parallel.
 const WRITERS: usize = 64;
 /// For how long they begin anew, where none of them is told wrongly.
-const ENOUGH: Duration = Duration::from_secs(12);
+const ENOUGH: Duration = Duration::from_secs(120);
 
 fn on(endpoints: &[&str], patience: Duration) -> Etcd {
     let access = Access {
@@ -380,6 +380,7 @@ fn knows_a_member_by_its_address() {
         let roots = Some(file("ca.pem"));
         Etcd::new(Access {
             roots,
+            patience: PATIENCE,
             ..Access::new([endpoint])
         })
         .expect("a file")
@@ -414,6 +415,7 @@ fn speaks_tls() {
         Etcd::new(Access {
             roots,
             identity,
+            patience: PATIENCE,
             ..Access::new([member.endpoint.as_str()])
         })
     };

@@ -3,7 +3,8 @@ mod beside;
 
 use beside::{over_each, Chance};
 use durkenzo_store::{
-    KeyChange, LeaseError, Outcome, Pair, Reading, Revision, Seen, Store, Transaction, WriteError,
+    KeyChange, LeaseError, LeaseId, Outcome, Pair, Reading, Revision, Seen, Store, Transaction,
+    WriteError,
 };
 use std::collections::BTreeMap;
 use std::sync::mpsc;
@@ -215,20 +216,45 @@ fn tells_a_watch_all_changes_in_order() {
     });
 }
 
+/// How long a lease is that is kept for longer than that.
+const LEASE: Duration = Duration::from_secs(5);
+/// How long one is that nobody keeps, and that doesn't end in a test.
+const LONG: Duration = Duration::from_secs(600);
+
+/// A lease that was kept for longer than it is, with a key under it: none where that wasn't kept for its length, as a
+/// machine that is busy stopped who keeps it.
+fn kept_lease(store: &dyn Store) -> Option<LeaseId> {
+    let mut kept = Instant::now();
+    let lease = store.grant(LEASE).expect("a lease");
+    let put = Transaction::new().put_under("mine", "1", Some(lease));
+    let may_be_over = |kept: Instant| kept.elapsed() >= LEASE;
+    match store.make(put) {
+        Err(WriteError::LeaseEnded) if may_be_over(kept) => return None,
+        made => drop(made.expect("an outcome")),
+    }
+    for _ in 0..6 {
+        thread::sleep(Duration::from_secs(1));
+        let now = Instant::now();
+        match store.keep(lease) {
+            Err(LeaseError::Ended(_)) if may_be_over(kept) => return None,
+            found => found.expect("it goes on"),
+        }
+        kept = now;
+    }
+    let is_gone = is_gone(store, b"mine");
+    assert!(!is_gone || may_be_over(kept));
+    (!is_gone).then_some(lease)
+}
+
 #[test]
 fn ends_leases_with_their_keys() {
     over_each(|store| {
-        let lease = store.grant(Duration::from_secs(5)).expect("a lease");
-        let other = store.grant(Duration::from_secs(60)).expect("a lease");
-        let puts = Transaction::new()
-            .put_under("mine", "1", Some(lease))
-            .put_under("kept", "2", Some(other));
-        store.make(puts).expect("an outcome");
-        for _ in 0..6 {
-            thread::sleep(Duration::from_secs(1));
-            store.keep(lease).expect("it goes on");
-        }
-        assert!(!is_gone(store, b"mine") && !is_gone(store, b"kept"));
+        let other = store.grant(LONG).expect("a lease");
+        let put = Transaction::new().put_under("kept", "2", Some(other));
+        store.make(put).expect("an outcome");
+        let mut tries = (0..10).filter_map(|_| kept_lease(store));
+        let lease = tries.next().expect("a lease that is kept");
+        assert!(!is_gone(store, b"kept"));
         until(|| is_gone(store, b"mine"));
         assert!(matches!(store.keep(lease), Err(LeaseError::Ended(it)) if it == lease));
         assert!(!is_gone(store, b"kept"));

@@ -236,7 +236,7 @@ fn takes_a_write_that_comes_late() {
 /// is found, and a read of the past by the last of them is found too, in seconds.
 #[test]
 fn decides_what_a_key_of_a_trial_has() {
-    let in_time = || Instant::now() + Duration::from_secs(20);
+    let in_time = || Instant::now() + Duration::from_secs(120);
     for seed in 1..6 {
         let mut calls = history(&mut Chance(SEED.wrapping_mul(seed)), 2_000, 0, 20);
         let open = calls

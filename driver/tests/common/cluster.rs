@@ -15,8 +15,10 @@ use std::sync::{Arc, Mutex, Weak};
 use std::thread;
 use std::time::{Duration, Instant};
 
-/// How long leases are: as short as they can be.
-pub const LEASE: Duration = Duration::from_secs(1);
+/// How long leases are: so long that a process loses none on a machine that is busy.
+pub const LEASE: Duration = Duration::from_secs(60);
+/// How long something is waited for, on a machine that may be busy.
+pub const PATIENCE: Duration = Duration::from_secs(60);
 
 /// What happens before a transaction that writes to a log.
 pub type Meanwhile = Arc<Mutex<Option<Box<dyn FnOnce() + Send>>>>;
@@ -124,11 +126,18 @@ impl Handing for Line {
 type Place = (Weak<Durable>, Arc<AtomicBool>);
 
 /// The processes, by their servers.
-#[derive(Default)]
 pub struct Net {
     /// How its processes answer reads.
-    pub reads: Reads,
+    reads: Reads,
+    /// How long their leases are.
+    lease: Duration,
     places: Mutex<BTreeMap<u16, Place>>,
+}
+
+impl Default for Net {
+    fn default() -> Net {
+        Net::new(Reads::Exact, LEASE)
+    }
 }
 
 type Message = (Elsewhere, Vec<WorkStep>);
@@ -137,6 +146,8 @@ type Message = (Elsewhere, Vec<WorkStep>);
 pub struct Node {
     pub server: u16,
     pub durable: Arc<Durable>,
+    /// What its line goes to.
+    store: Arc<dyn Store>,
     pub meanwhile: Meanwhile,
     pub is_cut: Arc<AtomicBool>,
     pub is_deaf: Arc<AtomicBool>,
@@ -185,6 +196,16 @@ impl Work for Remote {
 }
 
 impl Net {
+    /// One whose processes answer reads so, and have leases of this length.
+    pub fn new(reads: Reads, lease: Duration) -> Net {
+        let places = Mutex::default();
+        Net {
+            reads,
+            lease,
+            places,
+        }
+    }
+
     /// Starts a process with this server; the store is reached as the function says.
     pub fn start(
         self: &Arc<Net>,
@@ -193,7 +214,7 @@ impl Net {
         shards: u16,
         by: impl FnOnce(Handed<Line>) -> Arc<dyn Store>,
     ) -> Node {
-        let line = Line::to(store);
+        let (line, beyond) = (Line::to(store), store.clone());
         let (is_cut, is_deaf) = (line.is_cut.clone(), line.is_deaf.clone());
         let (meanwhile, sent_there) = (line.meanwhile.clone(), line.sent.clone());
         let store = by(line);
@@ -201,7 +222,13 @@ impl Net {
             servers: format!("node-{server}"),
             clients: String::new(),
         };
-        let member = Member::join(store.clone(), server, addresses, LEASE, Box::new(|| {}));
+        let member = Member::join(
+            store.clone(),
+            server,
+            addresses,
+            self.lease,
+            Box::new(|| {}),
+        );
         let member = Arc::new(member.expect("a member"));
         let (send, sent) = mpsc::channel();
         let send = Mutex::new(send);
@@ -209,7 +236,7 @@ impl Net {
             let _ = send.lock().unwrap().send((elsewhere, steps));
         };
         let tuning = Tuning {
-            wait: Duration::from_secs(8),
+            wait: Duration::from_secs(20),
             most_batches: 40,
             reads: self.reads,
         };
@@ -226,6 +253,7 @@ impl Net {
         Node {
             server,
             durable,
+            store: beyond,
             meanwhile,
             is_cut,
             is_deaf,
@@ -268,17 +296,35 @@ impl Net {
 
     /// Three processes over the store.
     pub fn of_three(store: &Arc<dyn Store>, shards: u16) -> Vec<Node> {
-        Net::of_three_by(store, shards, Reads::Exact)
+        Net::default().start_three(store, shards)
     }
 
-    /// The same, which answer reads so.
-    pub fn of_three_by(store: &Arc<dyn Store>, shards: u16, reads: Reads) -> Vec<Node> {
-        let net = Arc::new(Net {
-            reads,
-            ..Net::default()
-        });
+    /// The same, of this net.
+    pub fn start_three(self, store: &Arc<dyn Store>, shards: u16) -> Vec<Node> {
+        let net = Arc::new(self);
         let start = |it| net.start(store, it, shards, |line| Arc::new(line));
         (1..=3).map(start).collect()
+    }
+}
+
+impl Node {
+    fn member(&self) -> &Member {
+        self.durable.member().expect("a member")
+    }
+
+    /// Has the lease of a process that was killed end at once, as it ends by itself when nobody has kept it for its
+    /// length.
+    pub fn expire(&self) {
+        let lease = self.member().lease().expect("a lease");
+        self.store.revoke(lease).expect("it goes on");
+    }
+
+    /// Has a process that was killed reach the store again, and take another lease if its own has ended, as its thread
+    /// does after a while.
+    pub fn revive(&self) {
+        self.is_cut.store(false, Ordering::Release);
+        self.member().keep_lease();
+        self.member().tell_followed();
     }
 }
 
@@ -287,9 +333,24 @@ pub fn kill(node: &Node) {
     node.is_cut.store(true, Ordering::Release);
 }
 
+/// Waits until this is so.
+pub fn until(what: &str, mut is_so: impl FnMut() -> bool) {
+    let end = Instant::now() + PATIENCE;
+    while !is_so() {
+        assert!(Instant::now() < end, "in vain: {what}");
+        thread::sleep(Duration::from_millis(5));
+    }
+}
+
+/// Has a server that isn't there any more be failed, as soon as it is seen to be gone.
+pub fn fail(control: &mut DurableControl, server: u16) {
+    until("it is gone", || control.fallen().unwrap() == Some(server));
+    control.command(ControlCommand::Fail(server)).unwrap();
+}
+
 /// Leads as soon as nobody else does.
 pub fn campaign(node: &Node) -> DurableControl {
-    let end = Instant::now() + Duration::from_secs(20);
+    let end = Instant::now() + PATIENCE;
     loop {
         match DurableControl::campaign(
             node.durable.clone(),
@@ -311,7 +372,7 @@ pub fn assign(control: &mut DurableControl, shards: u16) {
 
 /// Goes on with the shard until nothing is under way.
 pub fn settle(control: &mut DurableControl, shard: u16) {
-    let end = Instant::now() + Duration::from_secs(20);
+    let end = Instant::now() + PATIENCE;
     loop {
         match control.next_of_shard(shard) {
             Ok(Next::Nothing) => return,

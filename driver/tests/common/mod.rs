@@ -74,10 +74,10 @@ pub fn held(durable: &Durable, shard: u16, key: &[u8]) -> Told {
     ask(durable, shard, Begin::Read(vec![Key::from(key)]), None)
 }
 
-/// Shards of the store; work waits for seconds.
+/// Shards of the store; work waits for longer than a machine that is busy takes.
 pub fn opened(store: &Arc<dyn Store>, shards: u16) -> Durable {
     let tuning = Tuning {
-        wait: Duration::from_secs(20),
+        wait: Duration::from_secs(45),
         most_batches: 7,
         ..Tuning::default()
     };

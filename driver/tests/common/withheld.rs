@@ -41,7 +41,7 @@ impl Blocked {
     /// Waits until it stands otherwise.
     fn wait_while(&self, is_so: impl Fn(Delay) -> bool) {
         let state = self.state.lock().unwrap();
-        let patience = Duration::from_secs(20);
+        let patience = Duration::from_secs(60);
         let waited = self
             .changed
             .wait_timeout_while(state, patience, |it| is_so(*it));

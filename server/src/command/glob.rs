@@ -159,7 +159,7 @@ mod tests {
         let text = [b'b'; 255];
         assert!((0..10_000).all(|_| !pattern.is_match(&text)));
         assert!(
-            began.elapsed() < Duration::from_secs(1),
+            began.elapsed() < Duration::from_secs(20),
             "{:?}",
             began.elapsed()
         );

@@ -25,9 +25,13 @@ use std::time::{Duration, Instant};
 
 const SERVERS: u16 = 3;
 const SHARDS: u16 = 6;
-/// Long enough that no process of a machine that is busy with all tests loses it.
-const LEASE: Duration = Duration::from_secs(2);
-const PATIENCE: Duration = Duration::from_secs(40);
+/// Long enough that no process of a machine that is busy with all tests loses it; that of one that dies is ended.
+const LEASE: Duration = Duration::from_secs(120);
+const PATIENCE: Duration = Duration::from_secs(100);
+/// How long a shard's next step comes after the one before where a server is to fail between them.
+const PACE: Duration = Duration::from_secs(8);
+/// How long a command takes where others are to come before it is over.
+const SLOW: Duration = Duration::from_millis(400);
 /// How long a store that falters isn't reached.
 const OUT: Duration = Duration::from_millis(300);
 
@@ -45,7 +49,7 @@ enum Then {
 /// A process's way to the store, which ends after so many of its commands, or when it is killed. Each takes so long.
 struct Way {
     store: Arc<dyn Store>,
-    pause: Duration,
+    pause: Mutex<Duration>,
     commands: AtomicI64,
     then: Mutex<Then>,
     out: Mutex<Option<Instant>>,
@@ -53,10 +57,10 @@ struct Way {
 }
 
 impl Way {
-    fn new(store: &Arc<dyn Store>, pause: Duration) -> Arc<Way> {
+    fn new(store: &Arc<dyn Store>) -> Arc<Way> {
         Arc::new(Way {
             store: store.clone(),
-            pause,
+            pause: Mutex::default(),
             commands: AtomicI64::new(i64::MAX),
             then: Mutex::new(Then::Dies),
             out: Mutex::default(),
@@ -68,6 +72,11 @@ impl Way {
     fn after(&self, commands: i64, then: Then) {
         *self.then.lock().unwrap() = then;
         self.commands.store(commands, Ordering::Release);
+    }
+
+    /// Has each command take so long from now on.
+    fn slow_down(&self, pause: Duration) {
+        *self.pause.lock().unwrap() = pause;
     }
 
     fn is_dead(&self) -> bool {
@@ -125,7 +134,8 @@ impl Store for Way {
         }
         let is_command = transaction.puts.iter().any(|it| it.key == keys::COMMANDS);
         if is_command {
-            thread::sleep(self.pause);
+            let pause = *self.pause.lock().unwrap();
+            thread::sleep(pause);
         }
         if is_command && self.commands.fetch_sub(1, Ordering::AcqRel) == 1 {
             return self.submit_last(transaction, done);
@@ -197,17 +207,7 @@ struct Process {
 
 impl Process {
     fn begin(store: &Arc<dyn Store>, server: u16, configuration: &Configuration) -> Process {
-        Process::slow(store, server, configuration, Duration::ZERO)
-    }
-
-    /// Has it begin; each of its commands takes so long.
-    fn slow(
-        store: &Arc<dyn Store>,
-        server: u16,
-        configuration: &Configuration,
-        pause: Duration,
-    ) -> Process {
-        let way = Way::new(store, pause);
+        let way = Way::new(store);
         let listener = TcpListener::bind("127.0.0.1:0").unwrap();
         let addresses = Addresses {
             servers: listener.local_addr().unwrap().to_string(),
@@ -253,11 +253,14 @@ impl Process {
         self.peers.member().server()
     }
 
-    /// Has it be as one that was killed.
+    /// Has it be as one that was killed, whose lease has ended.
     fn kill(&self) {
         self.way.is_dead.store(true, Ordering::Release);
         self.cluster.stop();
+        let lease = self.peers.member().lease();
         self.peers.leave();
+        // Where it was killed before, it has ended.
+        let _ = lease.map(|it| self.way.store.revoke(it));
     }
 
     /// Has it die once it has made so many more commands.
@@ -441,7 +444,7 @@ fn a_server_fails_though_shards_wait_for_owners() {
         wait_until("its first shard goes on", || {
             matches!(second.stand(0), Stand::Serving(2 | 3))
         });
-        assert!(led.elapsed() < FIRST_WAIT / 2);
+        assert!(led.elapsed() < FIRST_WAIT);
     });
 }
 
@@ -527,12 +530,12 @@ fn who_drains_a_server_is_told_where_its_shards_went() {
     three.nothing_is_intended();
 }
 
-/// Three processes of these settings, of which the first leads; each of its commands takes so long.
-fn three_of(configuration: Configuration, pause: Duration) -> [Process; 3] {
+/// Three processes of these settings, of which the first leads.
+fn three_of(configuration: Configuration) -> [Process; 3] {
     let store: Arc<dyn Store> = Arc::new(Embedded::in_memory());
-    let first = Process::slow(&store, 1, &configuration, pause);
-    wait_until("the first leads", || first.leads());
     let start = |it| Process::begin(&store, it, &configuration);
+    let first = start(1);
+    wait_until("the first leads", || first.leads());
     let (second, third) = (start(2), start(3));
     wait_until("all have owners", || second.stands() == owned());
     [first, second, third]
@@ -543,10 +546,10 @@ fn who_moves_a_shard_to_a_server_that_fails_is_told_so() {
     // It has failed before the next step.
     let configuration = Configuration {
         servers: SERVERS,
-        pace: 2 * LEASE,
+        pace: PACE,
         ..Configuration::new(Rule::Hash(SHARDS))
     };
-    let [first, second, third] = three_of(configuration, Duration::ZERO);
+    let [first, second, third] = three_of(configuration);
     let moved = first.ask(&["SM", "MIGRATE", "0", "3"]);
     wait_until("it begins", || second.stand(0) != Stand::Serving(1));
     third.kill();
@@ -561,8 +564,9 @@ fn a_shard_that_somebody_has_stay_is_not_told_as_moved() {
         servers: SERVERS,
         ..Configuration::new(Rule::Hash(SHARDS))
     };
+    let [first, second, _third] = three_of(configuration);
     // Each command takes longer than work goes on before others have their turn.
-    let [first, second, _third] = three_of(configuration, 2 * TURN);
+    first.way.slow_down(SLOW.max(2 * TURN));
     let told = |it: Receiver<Vec<u8>>| it.recv_timeout(PATIENCE).unwrap();
     let moved = first.ask(&["SM", "MIGRATE", "0", "3"]);
     assert_eq!(told(first.ask(&["SM", "CANCEL", "0"])), b"+OK\r\n");
@@ -688,13 +692,13 @@ fn shards_are_served_again_one_after_another_and_the_leader_answers_meanwhile() 
         servers: SERVERS,
         ..Configuration::new(Rule::Hash(240))
     };
-    let pause = Duration::from_millis(4);
-    let first = Process::slow(&store, 1, &configuration, pause);
-    wait_until("the first leads", || first.leads());
     let start = |it| Process::begin(&store, it, &configuration);
+    let first = start(1);
+    wait_until("the first leads", || first.leads());
     let (second, third) = (start(2), start(3));
     let is_serving = |it: &Stand| matches!(it, Stand::Serving(_));
     wait_until("all have owners", || second.stands().iter().all(is_serving));
+    first.way.slow_down(SLOW / 10);
     third.kill();
     let left = || {
         let stands = second.stands();
@@ -760,7 +764,7 @@ fn a_leader_whose_store_falters_stops_the_server_of_a_restart() {
 /// A process that has all servers of a store, of which its control asks by this way.
 fn alone() -> (Arc<Way>, Arc<Durable>, SyncSender<Asked>) {
     let store: Arc<dyn Store> = Arc::new(Embedded::in_memory());
-    let way = Way::new(&store, Duration::ZERO);
+    let way = Way::new(&store);
     let configuration = Configuration {
         servers: SERVERS,
         ..Configuration::new(Rule::Hash(SHARDS))
