@@ -5,6 +5,8 @@
 //! processes mean ([`links::Host`]).
 #![forbid(unsafe_code)]
 #![warn(missing_docs)]
+// A control is told the time, so that it can be simulated: clippy.toml names what it doesn't call.
+#[deny(clippy::disallowed_methods)]
 pub mod control;
 pub mod links;
 pub mod tls;

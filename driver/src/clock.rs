@@ -1,22 +1,32 @@
+use std::fmt;
+use std::sync::Arc;
 use std::time::Instant;
 
 /// How a process tells the time: by the machine's clock, unless whoever simulates the process moves another one.
-pub(crate) struct Clock(Box<dyn Fn() -> Instant + Send + Sync>);
+#[derive(Clone)]
+pub struct Clock(Arc<dyn Fn() -> Instant + Send + Sync>);
 
 impl Clock {
-    /// A clock that this function tells, which never goes back.
-    pub(crate) fn new(now: impl Fn() -> Instant + Send + Sync + 'static) -> Clock {
-        Clock(Box::new(now))
+    /// Returns a clock that this function tells, which must never go back.
+    pub fn new(now: impl Fn() -> Instant + Send + Sync + 'static) -> Clock {
+        Clock(Arc::new(now))
     }
 
     /// Returns this moment.
-    pub(crate) fn now(&self) -> Instant {
+    pub fn now(&self) -> Instant {
         (self.0)()
     }
 }
 
 impl Default for Clock {
+    /// The machine's clock.
     fn default() -> Clock {
         Clock::new(Instant::now)
+    }
+}
+
+impl fmt::Debug for Clock {
+    fn fmt(&self, f: &mut fmt::Formatter<'_>) -> fmt::Result {
+        f.debug_struct("Clock").finish_non_exhaustive()
     }
 }

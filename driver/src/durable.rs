@@ -175,8 +175,8 @@ impl Durable {
     }
 
     /// Opens the shards of a process as [`Durable::open_one`] does, but starts no thread. The caller does what the
-    /// threads would do, by the [`Chores`], and `now` tells the time. Such a process can be simulated: it does nothing
-    /// by itself. [`Durable::change`] doesn't wait for transactions under way, and to drop it is a crash.
+    /// threads would do, by the [`Chores`], and the clock tells the time. Such a process can be simulated: it does
+    /// nothing by itself. [`Durable::change`] doesn't wait for transactions under way, and to drop it is a crash.
     ///
     /// # Errors
     ///
@@ -186,11 +186,11 @@ impl Durable {
         shards: u16,
         tuning: Tuning,
         own: Own,
-        now: impl Fn() -> Instant + Send + Sync + 'static,
+        clock: Clock,
     ) -> Result<(Durable, Chores), OpenFault> {
         let own = (own.member.process(), Some(own));
         let on_change = Box::new(|| {});
-        let by = (Clock::new(now), on_change as Box<_>);
+        let by = (clock, on_change as Box<_>);
         let (durable, handed) = Durable::idle(store, shards, tuning, own, by)?;
         let chores = Chores::new(durable.inner.clone(), handed);
         Ok((durable, chores))
@@ -256,6 +256,11 @@ impl Durable {
     /// The store.
     pub fn store(&self) -> &Arc<dyn Store> {
         &self.inner.store
+    }
+
+    /// The clock of the process.
+    pub fn clock(&self) -> &Clock {
+        &self.inner.clock
     }
 
     /// The number of shards.

@@ -48,6 +48,7 @@ mod work;
 
 pub use addresses::Addresses;
 pub use chores::Chores;
+pub use clock::Clock;
 pub use command::{ControlCommand, Next, Subject};
 pub use command_fault::CommandFault;
 pub use compact_fault::CompactFault;

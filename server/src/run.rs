@@ -15,7 +15,7 @@ use crate::options::Options;
 use crate::safety::Safety;
 use crate::settings;
 use crate::storage::{InFolder, InMemory, Storage};
-use durkenzo_driver::DurableControl;
+use durkenzo_driver::{Clock, DurableControl};
 use mio::Poll;
 use std::error::Error;
 use std::net::{IpAddr, Ipv4Addr, Ipv6Addr, SocketAddr};
@@ -150,7 +150,7 @@ fn controlling(
             return Ok(Box::new(move || campaigner.run(asked)));
         }
     };
-    let mut controller = Controller::new(host, backend);
+    let mut controller = Controller::new(host, backend, Clock::default());
     controller.begin(assigns)?;
     Ok(Box::new(move || controller.run(asked)))
 }

@@ -3,7 +3,7 @@ use crate::mail::{Mails, Message, Sender};
 use crate::simulated_store::SharedStore;
 use crate::time::Time;
 use durkenzo_driver::{
-    Addresses, Chores, Durable, DurableControl, HandOver, JoinFault, Member, Own, Tuning,
+    Addresses, Chores, Clock, Durable, DurableControl, HandOver, JoinFault, Member, Own, Tuning,
 };
 use std::sync::Arc;
 use std::time::Duration;
@@ -47,7 +47,7 @@ impl Process {
                 member: member.clone(),
                 elsewhere: posts(mails.clone(), sender),
             },
-            move || own.now(),
+            Clock::new(move || own.now()),
         )?;
         Ok(Process {
             sender,

@@ -1,11 +1,11 @@
 use super::answer::ControlAnswer;
-use std::time::Instant;
+use std::time::Duration;
 
 /// How work goes on.
 #[derive(Debug)]
 pub enum Advance {
-    /// At this moment.
-    At(Instant),
+    /// After this time.
+    After(Duration),
     /// After the pause that there is between the steps of a migration.
     Again,
     /// After a while.
@@ -18,7 +18,7 @@ pub enum Advance {
 
 impl Advance {
     /// At once, after others had their turn.
-    pub fn soon() -> Advance {
-        Advance::At(Instant::now())
+    pub const fn soon() -> Advance {
+        Advance::After(Duration::ZERO)
     }
 }

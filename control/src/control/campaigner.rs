@@ -1,12 +1,12 @@
-use super::controller::{Controller, Led};
+use super::controller::Controller;
 use super::held_command::{HeldCommand, Waiting};
+use super::leader::Leader;
 use super::store_backend::StoreBackend;
 use super::word_table::{self, ControlMode};
 use super::{Asked, ControlHost, OtherControls, Refusal};
-use durkenzo_driver::{Durable, DurableControl};
+use durkenzo_driver::{Clock, Durable, DurableControl};
 use std::fmt;
 use std::sync::atomic::{AtomicBool, Ordering};
-use std::sync::mpsc::{Receiver, RecvTimeoutError};
 use std::sync::Arc;
 use std::time::{Duration, Instant};
 
@@ -21,6 +21,9 @@ pub struct Campaigner {
     durable: Arc<Durable>,
     peers: Arc<dyn OtherControls>,
     line: String,
+    clock: Clock,
+    /// What leads, while this process does.
+    leading: Option<Leader>,
     /// Whether vacant shards get owners.
     assigns: bool,
     /// When it tries to lead, or asks who leads, again.
@@ -41,42 +44,58 @@ impl Campaigner {
         line: String,
         assigns: bool,
     ) -> Campaigner {
+        let clock = durable.clock().clone();
         Campaigner {
             is_back: Arc::new(AtomicBool::new(peers.member().was_away())),
             host,
             durable,
             peers,
             line,
+            leading: None,
             assigns,
-            again: Instant::now(),
-            waiting: Waiting::default(),
+            again: clock.now(),
+            waiting: Waiting::by(clock.clone()),
+            clock,
         }
     }
 
-    /// Leads or follows until nobody can ask any more.
-    pub fn run(mut self, asked: Receiver<Asked>) {
-        loop {
-            let goes_on = match self.campaign() {
-                Some(controller) => self.lead(controller, &asked),
-                None => self.follow(&asked),
-            };
-            if !goes_on {
-                // What others asked waits elsewhere.
-                let waiting = self.waiting.take().into_iter();
-                return waiting.for_each(|it| self.pass_on(it, None));
-            }
+    /// Takes the command, if there is one, and does what is due: it leads, or has the process that leads answer.
+    pub fn turn(&mut self, asked: Option<Asked>) {
+        if self.leading.is_none() {
+            self.leading = self.campaign();
+        }
+        match self.leading.take() {
+            Some(leader) => self.lead(leader, asked),
+            None => self.follow(asked),
         }
     }
 
-    /// The control, where this process leads from now on.
-    fn campaign(&mut self) -> Option<Controller> {
+    /// How long it is until the next turn, if somebody asks no sooner.
+    pub fn wait(&self) -> Duration {
+        self.leading.as_ref().map_or(TICK, Leader::wait)
+    }
+
+    /// Returns whether nothing is under way here, and nobody waits.
+    pub fn is_idle(&self) -> bool {
+        self.waiting.is_empty() && self.leading.as_ref().is_none_or(Leader::is_idle)
+    }
+
+    /// Ends, as nobody can ask any more. What others asked waits elsewhere.
+    pub fn end(mut self) {
+        self.leading.take().into_iter().for_each(Leader::leave);
+        let waiting = self.waiting.take().into_iter();
+        waiting.for_each(|it| self.pass_on(it, None));
+    }
+
+    /// What leads, if this process does from now on.
+    fn campaign(&mut self) -> Option<Leader> {
         // Where its own key lies, it may have been elected without having seen so.
         let member = self.peers.member();
         let is_led = member.leader().is_some_and(|it| it != member.process());
-        if is_led || self.host.is_stopping() || Instant::now() < self.again {
+        if is_led || self.host.is_stopping() || self.clock.now() < self.again {
             return None;
         }
-        self.again = Instant::now() + PAUSE;
+        self.again = self.clock.now() + PAUSE;
         let begun = DurableControl::campaign(self.durable.clone(), &self.line);
         let control = match begun {
             Ok(control) => control?,
@@ -85,44 +104,45 @@ impl Campaigner {
                 return None;
             }
         };
-        let backend = StoreBackend::shared(control);
-        Some(Controller::new(self.host.clone(), Box::new(backend)))
-    }
-
-    /// Leads until another process does. Returns whether somebody can still ask.
-    fn lead(&mut self, controller: Controller, asked: &Receiver<Asked>) -> bool {
         tracing::info!("this process leads");
-        let asking = (&self.waiting, asked);
-        let led = controller.lead(&self.peers, self.assigns, &self.is_back, asking);
-        tracing::info!("this process doesn't lead any more");
-        matches!(led, Led::Elsewhere)
+        let backend = Box::new(StoreBackend::shared(control));
+        let control = Controller::new(self.host.clone(), backend, self.clock.clone());
+        let (peers, is_back) = (self.peers.clone(), self.is_back.clone());
+        Some(Leader::new(control, peers, self.assigns, is_back))
     }
 
-    /// Has the process that leads answer. Returns whether somebody can still ask.
-    fn follow(&mut self, asked: &Receiver<Asked>) -> bool {
-        match asked.recv_timeout(TICK) {
-            Ok(asked) if self.waiting.is_full() => asked.refuse(Refusal::crowded()),
-            Ok(asked) => self.waiting.hold(asked),
-            Err(RecvTimeoutError::Timeout) => {}
-            Err(RecvTimeoutError::Disconnected) => return false,
+    /// Takes the command, and leads on, unless another process does.
+    fn lead(&mut self, mut leader: Leader, asked: Option<Asked>) {
+        asked.into_iter().for_each(|it| self.waiting.hold(it));
+        match leader.turn(&self.waiting) {
+            true => self.leading = Some(leader),
+            false => tracing::info!("this process doesn't lead any more"),
+        }
+    }
+
+    /// Has the process that leads answer.
+    fn follow(&mut self, asked: Option<Asked>) {
+        match asked {
+            Some(asked) if self.waiting.is_full() => asked.refuse(Refusal::crowded()),
+            Some(asked) => self.waiting.hold(asked),
+            None => {}
         }
         let leader = self.peers.leader();
         self.ask_to_be_back(leader);
         for held in self.waiting.take() {
             self.pass_on(held, leader);
         }
-        true
     }
 
     /// Asks the process that leads that this server be up, where it was stopped when its process began: until one
     /// decides on it.
     fn ask_to_be_back(&mut self, leader: Option<u16>) {
         let own = self.peers.member().server();
-        let is_due = self.is_back.load(Ordering::Acquire) && Instant::now() >= self.again;
+        let is_due = self.is_back.load(Ordering::Acquire) && self.clock.now() >= self.again;
         let Some(leader) = leader.filter(|it| is_due && *it != own) else {
             return;
         };
-        self.again = Instant::now() + PAUSE;
+        self.again = self.clock.now() + PAUSE;
         self.is_back.store(false, Ordering::Release);
         let is_back = self.is_back.clone();
         let tell = move |is_decided: bool| is_back.store(!is_decided, Ordering::Release);
@@ -149,7 +169,7 @@ impl Campaigner {
                 let again = self.waiting.again(until);
                 return self.peers.ask(leader, asked, Some(again));
             }
-            None if !self.host.is_stopping() && Instant::now() < until => {
+            None if !self.host.is_stopping() && self.clock.now() < until => {
                 return self.waiting.hold_again(HeldCommand { until, asked });
             }
             None if self.host.is_stopping() => Refusal::stopping(),

@@ -1,24 +1,24 @@
 use super::advance::Advance;
 use super::answer::ControlAnswer;
+use super::asked_command::AskedCommand;
 use super::backend::{Backend, BackendFault};
+use super::patience::PATIENCE;
 use super::planned_moves::PlannedMoves;
 use super::progress::{self, Doing};
 use super::task::{Task, TaskWork};
 use super::word_table::{self, Begun, ControlMode};
 use super::{Asked, ControlHost, OtherControls, Refusal, ReplyTo};
 use durkenzo::Stand;
-use durkenzo_driver::{ControlCommand, Next, Refused, ServerState, Subject};
+use durkenzo_driver::{Clock, ControlCommand, Next, Refused, ServerState, Subject};
 use std::collections::{BTreeMap, BTreeSet, VecDeque};
 use std::fmt;
-use std::sync::mpsc::{Receiver, RecvTimeoutError};
 use std::sync::Arc;
-use std::thread;
 use std::time::{Duration, Instant};
 
-/// How long a change is tried again while another thread has its shard.
-pub(super) const PATIENCE: Duration = Duration::from_secs(2);
 /// How many pauses of another task's migration are waited for.
 const MOST_PAUSES: u32 = 8;
+/// After how long work goes on at the soonest that is to let others have their turn.
+const LEAST_WAIT: Duration = Duration::from_nanos(1);
 /// How often work that waits looks again.
 const TICK: Duration = Duration::from_millis(10);
 /// How long work goes on before whoever asks has his turn.
@@ -31,6 +31,7 @@ const STORE_PAUSE: Duration = Duration::from_millis(500);
 pub struct Controller {
     pub(super) host: Arc<dyn ControlHost>,
     pub(super) backend: Box<dyn Backend>,
+    clock: Clock,
     pub(super) tasks: Vec<Task>,
     /// The shards that come home, and their servers.
     pub(super) homes: BTreeMap<u16, u16>,
@@ -46,21 +47,13 @@ pub struct Controller {
     pub(super) paused: BTreeSet<u16>,
 }
 
-/// Why this process leads no further.
-#[derive(Clone, Copy, Debug, PartialEq, Eq)]
-pub(super) enum Led {
-    /// Another process does, or may.
-    Elsewhere,
-    /// Nobody can ask any more.
-    Over,
-}
-
 impl Controller {
-    /// The control of the servers of this backend, in this host.
-    pub fn new(host: Arc<dyn ControlHost>, backend: Box<dyn Backend>) -> Controller {
+    /// The control of the servers of this backend, in this host, by this clock.
+    pub fn new(host: Arc<dyn ControlHost>, backend: Box<dyn Backend>, clock: Clock) -> Controller {
         Controller {
             host,
             backend,
+            clock,
             tasks: Vec::new(),
             homes: BTreeMap::new(),
             restarting: BTreeMap::new(),
@@ -165,20 +158,14 @@ impl Controller {
         }
     }
 
-    /// Makes a command, again for a while if another thread has the shard.
-    pub(super) fn make_patiently(&mut self, command: ControlCommand) -> Result<(), Refusal> {
-        let end = Instant::now() + PATIENCE;
-        loop {
-            match self.make(command) {
-                Err(refusal) if refusal.is_passing() && Instant::now() < end => thread::yield_now(),
-                made => return made,
-            }
-        }
+    /// This moment.
+    pub(super) fn now(&self) -> Instant {
+        self.clock.now()
     }
 
     /// When a task gives a shard up that another one has, whose migration pauses between its steps.
     pub(super) fn patience(&self) -> Instant {
-        Instant::now() + PATIENCE + MOST_PAUSES * self.host.pace()
+        self.now() + PATIENCE + MOST_PAUSES * self.host.pace()
     }
 
     /// Notes how servers stand of which a step may be made, as far as the store can be read.
@@ -287,33 +274,32 @@ impl Controller {
         }
     }
 
-    /// Answers until nobody can ask any more.
-    pub fn run(mut self, asked: Receiver<Asked>) {
-        loop {
-            let next = match self.next_due() {
-                None => asked.recv().map_err(RecvTimeoutError::from),
-                Some(due) => asked.recv_timeout(wait_for(due)),
-            };
-            match next {
-                Ok(asked) => self.take(asked),
-                Err(RecvTimeoutError::Timeout) => {}
-                Err(RecvTimeoutError::Disconnected) => return,
-            }
-            self.run_tasks();
-        }
+    /// Takes the command, if there is one, and does what is due.
+    pub(super) fn turn(&mut self, asked: Option<Asked>) {
+        asked.into_iter().for_each(|it| self.take(it));
+        self.run_tasks();
     }
 
-    /// When there is something to do, though nobody asks.
-    fn next_due(&self) -> Option<Instant> {
-        let tasks = self.tasks.iter().map(|it| it.due);
-        let paused = (!self.paused.is_empty()).then(|| Instant::now() + STORE_PAUSE);
-        tasks.chain(paused).min()
+    /// How long it is until the next turn, if somebody asks no sooner. None if there is nothing to do until then.
+    pub(super) fn wait(&self) -> Option<Duration> {
+        let is_idle = self.tasks.is_empty() && self.paused.is_empty();
+        (!is_idle).then(|| self.wait_for_tasks().unwrap_or(TICK))
     }
 
     /// How long a leader waits for who asks.
     pub(super) fn wait_as_leader(&self) -> Duration {
-        let due = self.tasks.iter().map(|it| it.due).min();
-        due.map_or(2 * TICK, wait_for)
+        self.wait_for_tasks().unwrap_or(2 * TICK)
+    }
+
+    /// How long it is until the next task is due, if there is one, or until it is looked again.
+    fn wait_for_tasks(&self) -> Option<Duration> {
+        let now = self.now();
+        let left = |it: Instant| it.saturating_duration_since(now).min(TICK);
+        let waits = self
+            .tasks
+            .iter()
+            .map(|it| it.due.map_or(Duration::ZERO, left));
+        waits.min()
     }
 
     /// Answers all tasks that another process goes on with what is under way.
@@ -347,25 +333,23 @@ impl Controller {
         }
     }
 
-    /// Makes a command that somebody asked for: a shard that it moves stays there.
+    /// Begins a command that somebody asked for, and mostly ends it.
     pub(super) fn make_asked(&mut self, command: ControlCommand) -> Result<Begun, Refusal> {
-        self.make_patiently(command)?;
-        match command.subject() {
-            Subject::Shard(shard) if command.taker().is_some() => self.forget_home(shard)?,
-            Subject::Server(server) => match self.backend.wait_for_state(server) {
-                Some(wait) if !wait.is_over()? => return Ok(TaskWork::Wait(wait).into()),
-                Some(_) | None => {}
-            },
-            Subject::Shard(_) => {}
+        let mut work = AskedCommand::new(command);
+        match work.advance(self)? {
+            Advance::Done(answer) | Advance::Told(answer) => Ok(answer.into()),
+            Advance::After(_) | Advance::Again | Advance::Later => {
+                Ok(TaskWork::Command(work).into())
+            }
         }
-        Ok(ControlAnswer::Done.into())
     }
 
     /// Gives each vacant shard the owner of the proved plan.
     pub(super) fn place(&mut self) -> Result<ControlAnswer, Refusal> {
         let (mut planned, mut placed) = (PlannedMoves::of(0), Vec::new());
         while let Next::Command(command) = planned.next(self)? {
-            match self.make_patiently(command) {
+            // No thread has a shard that is vacant.
+            match self.make(command) {
                 Err(_) if planned.forget() => continue,
                 made => made?,
             }
@@ -380,21 +364,21 @@ impl Controller {
     pub(super) fn run_tasks(&mut self) {
         self.note_steps();
         self.resume_paused();
-        let end = Instant::now() + TURN;
+        let end = self.now() + TURN;
         let mut waiting = VecDeque::from(std::mem::take(&mut self.tasks));
         while let Some(task) = waiting.pop_front() {
-            let now = Instant::now();
+            let now = self.now();
             if now >= end {
                 waiting.push_front(task);
                 break;
             }
-            if task.due > now && !self.host.is_stopping() {
+            if !task.is_due(now) && !self.host.is_stopping() {
                 self.tasks.push(task);
                 continue;
             }
             match self.advanced(task, now) {
                 // One shard is served again before the next one's turn.
-                Some(task) if task.due <= now && task.shard_going_on().is_some() => {
+                Some(task) if task.is_due(now) && task.shard_going_on().is_some() => {
                     waiting.push_front(task);
                 }
                 task => self.tasks.extend(task),
@@ -411,19 +395,19 @@ impl Controller {
             return None;
         }
         match task.work.advance(self) {
-            Ok(Advance::At(due)) => task.due = due,
-            Ok(Advance::Again) => task.due = now + self.host.pace(),
-            Ok(Advance::Later) => task.due = now + TICK,
+            Ok(Advance::After(wait)) => task.due = Some(self.now() + wait.max(LEAST_WAIT)),
+            Ok(Advance::Again) => task.due = Some(now + self.host.pace()),
+            Ok(Advance::Later) => task.due = Some(now + TICK),
             Ok(Advance::Told(told)) => {
                 answer(task.reply_to.take(), Ok(told));
-                task.due = now + TICK;
+                task.due = Some(now + TICK);
             }
             Err(refusal)
                 if refusal.is_of_store()
                     && (task.reply_to.is_none() || task.work.is_intended()) =>
             {
                 answer(task.reply_to.take(), Err(refusal));
-                task.due = now + STORE_PAUSE;
+                task.due = Some(now + STORE_PAUSE);
             }
             Ok(Advance::Done(done)) => {
                 self.end(&task.work);
@@ -434,7 +418,7 @@ impl Controller {
                 self.end(&task.work);
                 let left = task.work.left().filter(|_| refusal.is_of_store());
                 answer(task.reply_to, Err(refusal));
-                let due = now + STORE_PAUSE;
+                let due = Some(now + STORE_PAUSE);
                 return left.map(|it| Task {
                     due,
                     ..Task::of(it)
@@ -477,10 +461,6 @@ impl fmt::Debug for Controller {
     fn fmt(&self, f: &mut fmt::Formatter<'_>) -> fmt::Result {
         f.debug_struct("Controller").finish_non_exhaustive()
     }
-}
-
-fn wait_for(due: Instant) -> Duration {
-    due.saturating_duration_since(Instant::now()).min(TICK)
 }
 
 fn answer(reply_to: Option<Box<dyn ReplyTo>>, answer: Result<ControlAnswer, Refusal>) {

@@ -193,8 +193,8 @@ impl Drain {
             .planned
             .refused()
             .map(|(shard, why)| (shard, why.clone()));
-        if Instant::now() < end && self.planned.take_up_aside() {
-            return Ok(Advance::At(Instant::now() + PAUSE));
+        if control.now() < end && self.planned.take_up_aside() {
+            return Ok(Advance::After(PAUSE));
         }
         match refused {
             Some((_, refusal)) if self.is_restart => Err(refusal),
@@ -257,7 +257,6 @@ impl Drain {
 mod tests {
     use super::super::plain_backend::PlainBackend;
     use super::*;
-    use std::thread;
 
     /// Drains server 1 to its end.
     fn drained(backend: &PlainBackend) -> Result<ControlAnswer, Refusal> {
@@ -270,7 +269,7 @@ mod tests {
         loop {
             match drain.advance(&mut control)? {
                 Advance::Done(answer) => return Ok(answer),
-                Advance::At(due) => thread::sleep(due.saturating_duration_since(Instant::now())),
+                Advance::After(wait) => backend.plain().passed += wait,
                 Advance::Again | Advance::Later | Advance::Told(_) => {}
             }
         }

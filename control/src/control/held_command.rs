@@ -1,5 +1,6 @@
 use super::{Asked, MOST_ASKED};
-use std::sync::{Arc, Mutex, PoisonError};
+use durkenzo_driver::Clock;
+use std::sync::{Arc, Mutex, MutexGuard, PoisonError};
 use std::time::{Duration, Instant};
 
 /// How long a command waits for somebody to lead.
@@ -7,7 +8,10 @@ const PATIENCE: Duration = Duration::from_secs(5);
 
 /// Commands that wait for somebody to lead.
 #[derive(Clone, Debug, Default)]
-pub struct Waiting(Arc<Mutex<Vec<HeldCommand>>>);
+pub struct Waiting {
+    held: Arc<Mutex<Vec<HeldCommand>>>,
+    clock: Clock,
+}
 
 /// A command that waits, and until when.
 #[derive(Debug)]
@@ -26,35 +30,48 @@ pub struct Again {
 }
 
 impl Waiting {
+    /// Commands that wait by this clock: there are none yet.
+    pub fn by(clock: Clock) -> Waiting {
+        Waiting {
+            held: Arc::default(),
+            clock,
+        }
+    }
+
     /// Has the command wait from now on.
     pub fn hold(&self, asked: Asked) {
-        let until = Instant::now() + PATIENCE;
+        let until = self.clock.now() + PATIENCE;
         self.hold_again(HeldCommand { until, asked });
     }
 
     /// Whether as many wait as may.
     pub fn is_full(&self) -> bool {
-        let held = self.0.lock().unwrap_or_else(PoisonError::into_inner);
-        held.len() >= MOST_ASKED
+        self.held().len() >= MOST_ASKED
+    }
+
+    /// Whether none waits.
+    pub fn is_empty(&self) -> bool {
+        self.held().is_empty()
     }
 
     /// Has it wait as before.
     pub fn hold_again(&self, held: HeldCommand) {
-        self.0
-            .lock()
-            .unwrap_or_else(PoisonError::into_inner)
-            .push(held);
+        self.held().push(held);
     }
 
     /// All that wait, in the order in which they came, or came back; none does then.
     pub fn take(&self) -> Vec<HeldCommand> {
-        std::mem::take(&mut *self.0.lock().unwrap_or_else(PoisonError::into_inner))
+        std::mem::take(&mut *self.held())
     }
 
     /// Where a command waits again that has waited until now.
     pub fn again(&self, until: Instant) -> Again {
         let waiting = self.clone();
         Again { waiting, until }
+    }
+
+    fn held(&self) -> MutexGuard<'_, Vec<HeldCommand>> {
+        self.held.lock().unwrap_or_else(PoisonError::into_inner)
     }
 }
 
@@ -66,7 +83,7 @@ impl Again {
     /// The command, where it has waited for as long as it may.
     pub fn hold(self, asked: Asked) -> Result<(), Asked> {
         let Again { waiting, until } = self;
-        if Instant::now() >= until {
+        if waiting.clock.now() >= until {
             return Err(asked);
         }
         waiting.hold_again(HeldCommand { until, asked });

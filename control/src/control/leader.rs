@@ -1,13 +1,12 @@
 //! What the control of several processes does beside answering. It is the failure detector: a server whose key has gone
 //! with its lease has failed, and its shards go to others.
-use super::controller::{Controller, Led, TURN};
+use super::controller::{Controller, TURN};
 use super::held_command::{HeldCommand, Waiting};
 use super::task::Task;
-use super::{Asked, OtherControls, Refusal};
+use super::{OtherControls, Refusal};
 use durkenzo_driver::{ControlCommand, Next, ServerState};
 use std::collections::BTreeSet;
 use std::sync::atomic::{AtomicBool, Ordering};
-use std::sync::mpsc::{Receiver, RecvTimeoutError};
 use std::sync::Arc;
 use std::time::{Duration, Instant};
 
@@ -18,51 +17,74 @@ const PAUSE: Duration = Duration::from_millis(500);
 /// How long vacant shards wait for all servers before those that are there get them.
 pub const FIRST_WAIT: Duration = Duration::from_secs(10);
 
-impl Controller {
-    /// Leads several processes, until another one does or nobody can ask any more. Vacant shards get owners, where that
-    /// is wanted, once all servers are there, or have been waited for. Where this process's server is back from a stop
-    /// it is up then.
-    pub(super) fn lead(
-        mut self,
-        peers: &Arc<dyn OtherControls>,
+/// The control of several processes, while this one leads.
+pub(super) struct Leader {
+    control: Controller,
+    watch: LeaderWatch,
+    peers: Arc<dyn OtherControls>,
+}
+
+impl Leader {
+    /// Has this control lead several processes. Vacant shards get owners, where that is wanted, once all servers are
+    /// there, or have been waited for. Where this process's server is back from a stop it is up then.
+    pub(super) fn new(
+        mut control: Controller,
+        peers: Arc<dyn OtherControls>,
         assigns: bool,
-        is_back: &Arc<AtomicBool>,
-        (waiting, asked): (&Waiting, &Receiver<Asked>),
-    ) -> Led {
-        self.peers = Some(peers.clone());
-        let mut watch = LeaderWatch::new(assigns, is_back.clone());
-        loop {
-            let left = watch.due.saturating_duration_since(Instant::now());
-            let goes_on = match asked.recv_timeout(self.wait_as_leader().min(left)) {
-                Ok(asked) => {
-                    waiting.hold(asked);
-                    Led::Elsewhere
-                }
-                Err(RecvTimeoutError::Timeout) => Led::Elsewhere,
-                Err(RecvTimeoutError::Disconnected) => Led::Over,
-            };
-            // What waits goes to whoever leads then.
-            if goes_on == Led::Over || self.host.is_stopping() {
-                self.leave();
-                return goes_on;
-            }
-            self.take_waiting(waiting, watch.has_begun);
-            self.run_tasks();
-            if let Err(refusal) = watch.look(&mut self) {
-                tracing::warn!(%refusal, "the control doesn't go on for now");
-                watch.due = Instant::now() + PAUSE;
-            }
-            if self.is_lost || watch.is_led_elsewhere(&**peers) {
-                self.leave();
-                return Led::Elsewhere;
-            }
+        is_back: Arc<AtomicBool>,
+    ) -> Leader {
+        control.peers = Some(peers.clone());
+        Leader {
+            watch: LeaderWatch::new(assigns, is_back, control.now()),
+            control,
+            peers,
         }
     }
 
+    /// How long it is until the next turn, if somebody asks no sooner.
+    pub(super) fn wait(&self) -> Duration {
+        let now = self.control.now();
+        let left = self.watch.due.saturating_duration_since(now);
+        self.control.wait_as_leader().min(left)
+    }
+
+    /// Takes what waits, and does what is due. Returns whether this process leads on. If it doesn't, what waits goes to
+    /// whoever leads then.
+    pub(super) fn turn(&mut self, waiting: &Waiting) -> bool {
+        let control = &mut self.control;
+        if control.host.is_stopping() {
+            control.leave();
+            return false;
+        }
+        control.take_waiting(waiting, self.watch.has_begun);
+        control.run_tasks();
+        if let Err(refusal) = self.watch.look(control) {
+            tracing::warn!(%refusal, "the control doesn't go on for now");
+            self.watch.due = control.now() + PAUSE;
+        }
+        if control.is_lost || self.watch.is_led_elsewhere(&*self.peers) {
+            control.leave();
+            return false;
+        }
+        true
+    }
+
+    /// Answers all tasks: another process goes on with what is under way.
+    pub(super) fn leave(mut self) {
+        self.control.leave();
+    }
+
+    /// Whether nothing is under way.
+    pub(super) fn is_idle(&self) -> bool {
+        self.control.tasks.is_empty() && self.watch.has_begun
+    }
+}
+
+impl Controller {
     /// Takes what waits, once all that was under way before it is known: an intent that is read behind a command
     /// would undo that. Before then what has waited in vain is refused.
     fn take_waiting(&mut self, waiting: &Waiting, has_begun: bool) {
-        let now = Instant::now();
+        let now = self.now();
         for HeldCommand { until, asked } in waiting.take() {
             match has_begun {
                 true => self.take(asked),
@@ -90,8 +112,7 @@ struct LeaderWatch {
 }
 
 impl LeaderWatch {
-    fn new(assigns: bool, is_back: Arc<AtomicBool>) -> LeaderWatch {
-        let now = Instant::now();
+    fn new(assigns: bool, is_back: Arc<AtomicBool>, now: Instant) -> LeaderWatch {
         LeaderWatch {
             due: now,
             has_begun: false,
@@ -110,10 +131,11 @@ impl LeaderWatch {
     }
 
     fn look(&mut self, control: &mut Controller) -> Result<(), Refusal> {
-        if Instant::now() < self.due {
+        let now = control.now();
+        if now < self.due {
             return Ok(());
         }
-        self.due = Instant::now() + TICK;
+        self.due = now + TICK;
         if !self.has_begun {
             begin(control)?;
             self.has_begun = true;
@@ -139,7 +161,7 @@ impl LeaderWatch {
             match control.make(ControlCommand::Fail(server)) {
                 // It is back under a new lease: the next look reads anew who is there.
                 Err(refusal) if refusal.is_still_there() => {
-                    self.due = Instant::now() + PAUSE;
+                    self.due = control.now() + PAUSE;
                     break;
                 }
                 made => made?,
@@ -167,7 +189,7 @@ impl LeaderWatch {
     /// Gives vacant shards owners for a while, if it is time.
     fn assign(&mut self, control: &mut Controller) -> Result<(), Refusal> {
         let live = live(control);
-        let is_due = self.assigns.is_some_and(|it| it <= Instant::now());
+        let is_due = self.assigns.is_some_and(|it| it <= control.now());
         let are_all = live.len() == usize::from(control.backend.servers());
         if !has_vacant(control)? {
             self.assigns = None;
@@ -177,11 +199,11 @@ impl LeaderWatch {
             return Ok(());
         }
         let live: Vec<u16> = live.into_iter().collect();
-        let end = Instant::now() + TURN;
+        let end = control.now() + TURN;
         for shard in 0..control.backend.shards() {
             control.assign(shard, live[usize::from(shard) % live.len()])?;
-            if Instant::now() >= end {
-                self.due = Instant::now();
+            if control.now() >= end {
+                self.due = control.now();
                 return Ok(());
             }
         }
@@ -279,7 +301,7 @@ mod tests {
     use super::super::{ControlHost, ReplyTo};
     use super::*;
     use durkenzo::{Plan, PlanFault, Record};
-    use durkenzo_driver::Refused;
+    use durkenzo_driver::{Clock, Refused};
 
     /// A program that shows nothing.
     struct Silent;
@@ -378,12 +400,13 @@ mod tests {
 
     #[test]
     fn a_server_that_is_back_holds_up_nothing() {
-        let mut control = Controller::new(Arc::new(Silent), Box::new(Returning));
-        let mut watch = LeaderWatch::new(false, Arc::default());
-        let began = Instant::now();
+        let began = Clock::default().now();
+        let clock = Clock::new(move || began);
+        let mut control = Controller::new(Arc::new(Silent), Box::new(Returning), clock);
+        let mut watch = LeaderWatch::new(false, Arc::default(), began);
         watch.have_fail(&mut control).unwrap();
         // Who is there is read again at the next look, which comes no sooner.
-        assert!(watch.due >= began + PAUSE);
+        assert_eq!(watch.due, began + PAUSE);
         assert!(!watch.has_fallen && !control.is_lost);
     }
 }

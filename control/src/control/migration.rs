@@ -1,10 +1,10 @@
 use super::advance::Advance;
 use super::answer::ControlAnswer;
-use super::controller::{Controller, PATIENCE};
+use super::controller::Controller;
+use super::patience::Patience;
 use super::Refusal;
 use durkenzo::Stand;
 use durkenzo_driver::{ControlCommand, Next};
-use std::time::Instant;
 
 /// A whole migration of a shard, of which each call makes a step.
 #[derive(Debug)]
@@ -16,8 +16,10 @@ pub(super) struct Migration {
     has_begun: bool,
     /// Whether it may have begun all the same, as the store didn't say so.
     is_doubtful: bool,
-    /// Until when the next step is tried again, while another thread has the shard.
-    end: Option<Instant>,
+    /// For how long the next step is tried again, while another thread has the shard.
+    patience: Patience,
+    /// Why it is given up, once it is: its shard is to stay then.
+    given_up: Option<Refusal>,
 }
 
 impl Migration {
@@ -37,7 +39,8 @@ impl Migration {
             to: None,
             has_begun: true,
             is_doubtful: false,
-            end: None,
+            patience: Patience::default(),
+            given_up: None,
         }
     }
 
@@ -53,19 +56,30 @@ impl Migration {
 
     /// Makes the next step. If another thread keeps it from one before the owner's change, the shard stays.
     pub(super) fn advance(&mut self, control: &mut Controller) -> Result<Advance, Refusal> {
+        if let Some(refusal) = self.given_up.clone() {
+            return self.stay(refusal, control);
+        }
         match self.step(control) {
             Err(refusal) if refusal.is_passing() => {
-                let end = *self.end.get_or_insert_with(|| Instant::now() + PATIENCE);
-                if Instant::now() < end {
-                    return Ok(Advance::soon());
+                if !self.patience.lasts(control.now()) {
+                    (self.given_up, self.patience) = (Some(refusal), Patience::default());
                 }
-                self.cancel(control)?;
-                Err(refusal)
+                Ok(Advance::soon())
             }
             advanced => {
-                self.end = None;
+                self.patience = Patience::default();
                 advanced
             }
+        }
+    }
+
+    /// Has the shard stay, and then is refused for this reason.
+    fn stay(&mut self, why: Refusal, control: &mut Controller) -> Result<Advance, Refusal> {
+        match self.cancel(control) {
+            Err(refusal) if refusal.is_passing() && self.patience.lasts(control.now()) => {
+                Ok(Advance::soon())
+            }
+            cancelled => cancelled.and(Err(why)),
         }
     }
 
@@ -111,7 +125,7 @@ impl Migration {
     fn cancel(&self, control: &mut Controller) -> Result<(), Refusal> {
         match self.stand(control)? {
             Some(Stand::Prepared { .. } | Stand::Forwarding { .. }) => {
-                control.make_patiently(ControlCommand::Cancel(self.shard))
+                control.make(ControlCommand::Cancel(self.shard))
             }
             _ => Ok(()),
         }
@@ -126,7 +140,10 @@ impl Migration {
             Some(Stand::Taken { .. }) => {
                 control.make_patiently(ControlCommand::DropShard(self.shard))
             }
-            _ => self.cancel(control),
+            Some(Stand::Prepared { .. } | Stand::Forwarding { .. }) => {
+                control.make_patiently(ControlCommand::Cancel(self.shard))
+            }
+            _ => Ok(()),
         }
     }
 

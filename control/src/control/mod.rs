@@ -32,9 +32,12 @@
 mod advance;
 mod answer;
 mod asked;
+mod asked_command;
 mod backend;
 mod campaigner;
 mod control_host;
+#[allow(clippy::disallowed_methods)]
+mod control_thread;
 mod controller;
 mod drain;
 mod held_command;
@@ -42,6 +45,7 @@ mod homes;
 mod leader;
 mod migration;
 mod other_controls;
+mod patience;
 #[cfg(test)]
 mod plain_backend;
 mod planned_moves;

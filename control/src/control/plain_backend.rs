@@ -4,17 +4,19 @@ use super::controller::Controller;
 use super::progress::Doing;
 use super::{ControlHost, ReplyTo};
 use durkenzo::{ChangeFault, Move, Plan, Record, RestartFault, Stand};
-use durkenzo_driver::{ControlCommand, Next, ServerState, Subject};
+use durkenzo_driver::{Clock, ControlCommand, Next, ServerState, Subject};
 use std::collections::{BTreeMap, BTreeSet};
 use std::sync::{Arc, Mutex, MutexGuard};
-use std::time::Duration;
+use std::time::{Duration, Instant};
 
 /// Two servers, of which each takes all shards of the other. What a test looks at or has go wrong, it shares.
-#[derive(Clone, Default)]
+#[derive(Clone)]
 pub(super) struct PlainBackend(Arc<Mutex<Plain>>);
 
-#[derive(Default)]
 pub(super) struct Plain {
+    beginning: Instant,
+    /// How much time has passed, as a test has it.
+    pub(super) passed: Duration,
     pub(super) stands: Vec<Stand>,
     pub(super) lasts: bool,
     /// How often it planned.
@@ -30,14 +32,21 @@ impl PlainBackend {
     pub(super) fn of(shards: usize, stand: Stand) -> PlainBackend {
         let plain = Plain {
             stands: vec![stand; shards],
-            ..Plain::default()
+            beginning: Clock::default().now(),
+            passed: Duration::ZERO,
+            lasts: false,
+            plans: 0,
+            spent: BTreeSet::new(),
+            busy: BTreeMap::new(),
         };
         PlainBackend(Arc::new(Mutex::new(plain)))
     }
 
     /// A control that stands on it.
     pub(super) fn control(&self) -> Controller {
-        Controller::new(Arc::new(QuietHost), Box::new(self.clone()))
+        let this = self.clone();
+        let clock = Clock::new(move || this.plain().now());
+        Controller::new(Arc::new(QuietHost), Box::new(self.clone()), clock)
     }
 
     /// What tests look at.
@@ -47,6 +56,10 @@ impl PlainBackend {
 }
 
 impl Plain {
+    fn now(&self) -> Instant {
+        self.beginning + self.passed
+    }
+
     fn record(&self, shard: u16) -> Option<Record> {
         let stand = *self.stands.get(usize::from(shard))?;
         let (admitted, generation) = (false, 0);

@@ -166,7 +166,7 @@ impl Restart {
             return Ok(Advance::Later);
         }
         let end = *self.end.get_or_insert_with(|| control.patience());
-        if Instant::now() < end {
+        if control.now() < end {
             return Ok(Advance::Later);
         }
         match control.make(ControlCommand::Stopped(self.server)) {
@@ -233,7 +233,7 @@ impl Restart {
             Ok(true) => self.phase = Phase::Back,
             Ok(false) => {
                 control.tell(self.server, Doing::Stopping);
-                return Ok(Advance::At(Instant::now() + LOOK));
+                return Ok(Advance::After(LOOK));
             }
             Err(refusal) => return Ok(self.give_up(refusal)),
         }
@@ -257,7 +257,7 @@ impl Restart {
     fn await_process(&mut self, control: &mut Controller) -> Result<Advance, Refusal> {
         match self.is_wait_over() {
             Ok(true) => {}
-            Ok(false) => return Ok(Advance::At(Instant::now() + LOOK)),
+            Ok(false) => return Ok(Advance::After(LOOK)),
             // Its shards come home before it is told why the restart was given up.
             Err(refusal) => drop(self.refused.get_or_insert(refusal)),
         }
@@ -304,7 +304,7 @@ impl Restart {
                 Ok(Advance::Done(_)) => self.end = None,
                 Err(refusal) if refusal.is_of_phase() && self.may_try_again(control) => {
                     self.current = None;
-                    return Ok(Advance::At(Instant::now() + PAUSE));
+                    return Ok(Advance::After(PAUSE));
                 }
                 // It went elsewhere meanwhile, and stays there.
                 Err(refusal) if !refusal.is_of_store() => {
@@ -331,7 +331,7 @@ impl Restart {
     /// drained itself.
     fn may_try_again(&mut self, control: &Controller) -> bool {
         let end = *self.end.get_or_insert_with(|| control.patience());
-        Instant::now() < end
+        control.now() < end
     }
 
     /// Has the shard come home, once nothing else is under way of it.

@@ -1,6 +1,7 @@
 use super::advance::Advance;
 use super::answer::ControlAnswer;
-use super::backend::{FileWork, StateWait};
+use super::asked_command::AskedCommand;
+use super::backend::FileWork;
 use super::controller::Controller;
 use super::drain::Drain;
 use super::migration::Migration;
@@ -8,28 +9,31 @@ use super::restart::Restart;
 use super::rolling_restart::Rolling;
 use super::spread::Spread;
 use super::{Refusal, ReplyTo};
-use std::time::{Duration, Instant};
-
-/// How often it is looked whether all have noticed how servers stand.
-const LOOK: Duration = Duration::from_micros(100);
+use std::time::Instant;
 
 /// Work that goes on by itself.
 pub(super) struct Task {
     pub(super) work: TaskWork,
     /// Who is answered at its end, if somebody asked.
     pub(super) reply_to: Option<Box<dyn ReplyTo>>,
-    pub(super) due: Instant,
+    /// When it goes on; at once if no moment is set.
+    pub(super) due: Option<Instant>,
 }
 
 impl Task {
     /// The work, of which nobody is answered.
     pub(super) fn of(work: TaskWork) -> Task {
-        let (reply_to, due) = (None, Instant::now());
+        let (reply_to, due) = (None, None);
         Task {
             work,
             reply_to,
             due,
         }
+    }
+
+    /// Returns whether it goes on now.
+    pub(super) fn is_due(&self, now: Instant) -> bool {
+        self.due.is_none_or(|it| it <= now)
     }
 
     /// The migration, or what else is under way, of this shard.
@@ -62,7 +66,7 @@ impl Task {
             | TaskWork::Spread(_)
             | TaskWork::Dump(_)
             | TaskWork::Load(_)
-            | TaskWork::Wait(_) => None,
+            | TaskWork::Command(_) => None,
         }
     }
 
@@ -76,7 +80,7 @@ impl Task {
             | TaskWork::Spread(_)
             | TaskWork::Dump(_)
             | TaskWork::Load(_)
-            | TaskWork::Wait(_) => None,
+            | TaskWork::Command(_) => None,
         }
     }
 
@@ -90,7 +94,7 @@ impl Task {
             | TaskWork::Spread(_)
             | TaskWork::Dump(_)
             | TaskWork::Load(_)
-            | TaskWork::Wait(_) => None,
+            | TaskWork::Command(_) => None,
         }
     }
 }
@@ -104,8 +108,7 @@ pub(super) enum TaskWork {
     Spread(Spread),
     Dump(Box<dyn FileWork>),
     Load(Box<dyn FileWork>),
-    /// All are to notice how servers stand.
-    Wait(Box<dyn StateWait>),
+    Command(AskedCommand),
 }
 
 impl TaskWork {
@@ -132,10 +135,7 @@ impl TaskWork {
                 control.renew();
                 advanced
             }
-            TaskWork::Wait(wait) => match wait.is_over()? {
-                true => Ok(Advance::Done(ControlAnswer::Done)),
-                false => Ok(Advance::At(Instant::now() + LOOK)),
-            },
+            TaskWork::Command(command) => command.advance(control),
         }
     }
 
@@ -151,7 +151,7 @@ impl TaskWork {
             | TaskWork::Spread(_)
             | TaskWork::Dump(_)
             | TaskWork::Load(_)
-            | TaskWork::Wait(_) => None,
+            | TaskWork::Command(_) => None,
         }
     }
 
@@ -165,7 +165,7 @@ impl TaskWork {
             | TaskWork::Spread(_)
             | TaskWork::Dump(_)
             | TaskWork::Load(_)
-            | TaskWork::Wait(_) => false,
+            | TaskWork::Command(_) => false,
         }
     }
 
@@ -182,7 +182,7 @@ impl TaskWork {
             | TaskWork::Restart(_)
             | TaskWork::Dump(_)
             | TaskWork::Load(_)
-            | TaskWork::Wait(_) => None,
+            | TaskWork::Command(_) => None,
         }
     }
 
@@ -200,7 +200,7 @@ impl TaskWork {
                 Some(migration) => migration.give_up(control),
                 None => Ok(()),
             },
-            TaskWork::Dump(_) | TaskWork::Load(_) | TaskWork::Wait(_) => Ok(()),
+            TaskWork::Dump(_) | TaskWork::Load(_) | TaskWork::Command(_) => Ok(()),
         }
     }
 }

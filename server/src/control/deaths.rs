@@ -777,7 +777,8 @@ fn alone() -> (Arc<Way>, Arc<Durable>, SyncSender<Asked>) {
     let control = DurableControl::lead(durable.clone(), &line).unwrap();
     let backend = StoreBackend::alone(control, durable.clone());
     let host = Arc::new(ClusterHost::new(cluster).unwrap());
-    let mut controller = Controller::new(host, Box::new(backend));
+    let clock = durable.clock().clone();
+    let mut controller = Controller::new(host, Box::new(backend), clock);
     controller.begin(true).unwrap();
     let (control, asked) = mpsc::sync_channel(9);
     thread::spawn(move || controller.run(asked));

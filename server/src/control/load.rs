@@ -8,7 +8,7 @@ use durkenzo_control::control::{Advance, ControlAnswer, FileWork};
 use durkenzo_driver::ServerState;
 use std::sync::mpsc::{channel, Receiver, TryRecvError};
 use std::sync::Arc;
-use std::time::{Duration, Instant};
+use std::time::Duration;
 
 /// How often it is looked whether the file was read.
 const PAUSE: Duration = Duration::from_millis(2);
@@ -70,7 +70,7 @@ impl LoadTask {
             return Ok(Advance::soon());
         };
         match notice.is_seen(&self.cluster) {
-            Ok(false) => return Ok(Advance::At(Instant::now() + LOOK)),
+            Ok(false) => return Ok(Advance::After(LOOK)),
             Ok(true) => {
                 let told = opened
                     .take()
@@ -92,7 +92,7 @@ impl FileWork for LoadTask {
     fn advance(&mut self) -> Result<Advance, Refusal> {
         match &mut self.phase {
             LoadPhase::Reading(receiver) => match receiver.try_recv() {
-                Err(TryRecvError::Empty) => return Ok(Advance::At(Instant::now() + PAUSE)),
+                Err(TryRecvError::Empty) => return Ok(Advance::After(PAUSE)),
                 Err(TryRecvError::Disconnected) => {
                     let reason = "the file wasn't read";
                     return Err(Refusal::new("BadFile", reason, "look at the log"));
@@ -105,7 +105,7 @@ impl FileWork for LoadTask {
             },
             LoadPhase::Closing(..) => return self.close(),
             LoadPhase::Opening(notice, told) => match notice.is_seen(&self.cluster)? {
-                false => return Ok(Advance::At(Instant::now() + LOOK)),
+                false => return Ok(Advance::After(LOOK)),
                 true => {
                     let line = format!("{told} are as in {}", self.name);
                     return Ok(Advance::Done(ControlAnswer::Line(line)));

@@ -1,0 +1,61 @@
+use super::advance::Advance;
+use super::answer::ControlAnswer;
+use super::backend::StateWait;
+use super::controller::Controller;
+use super::patience::Patience;
+use super::Refusal;
+use durkenzo_driver::{ControlCommand, Subject};
+use std::time::Duration;
+
+/// How often it is looked whether all have noticed how servers stand.
+const LOOK: Duration = Duration::from_micros(100);
+
+/// A command that somebody asked for. It is tried again for a while if another thread has its shard, and all are to
+/// notice how its server stands then. Each call makes a step.
+#[derive(Debug)]
+pub(super) struct AskedCommand {
+    command: ControlCommand,
+    patience: Patience,
+    /// All are to notice how the server stands.
+    wait: Option<Box<dyn StateWait>>,
+}
+
+impl AskedCommand {
+    /// The command, which wasn't tried yet.
+    pub(super) fn new(command: ControlCommand) -> AskedCommand {
+        AskedCommand {
+            command,
+            patience: Patience::default(),
+            wait: None,
+        }
+    }
+
+    /// Makes the next step.
+    pub(super) fn advance(&mut self, control: &mut Controller) -> Result<Advance, Refusal> {
+        if self.wait.is_none() {
+            match control.make(self.command) {
+                Err(refusal) if refusal.is_passing() && self.patience.lasts(control.now()) => {
+                    return Ok(Advance::soon());
+                }
+                made => made?,
+            }
+            self.wait = self.made(control)?;
+        }
+        match self.wait.as_ref().map_or(Ok(true), |it| it.is_over())? {
+            true => Ok(Advance::Done(ControlAnswer::Done)),
+            false => Ok(Advance::After(LOOK)),
+        }
+    }
+
+    /// Goes on from the command, which was made: a shard that it moves stays there. Returns what is to be waited for.
+    fn made(&self, control: &mut Controller) -> Result<Option<Box<dyn StateWait>>, Refusal> {
+        match self.command.subject() {
+            Subject::Shard(shard) if self.command.taker().is_some() => {
+                control.forget_home(shard)?;
+                Ok(None)
+            }
+            Subject::Shard(_) => Ok(None),
+            Subject::Server(server) => Ok(control.backend.wait_for_state(server)),
+        }
+    }
+}
