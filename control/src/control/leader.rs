@@ -58,10 +58,7 @@ impl Leader {
         }
         control.take_waiting(waiting, self.watch.has_begun);
         control.run_tasks();
-        if let Err(refusal) = self.watch.look(control) {
-            tracing::warn!(%refusal, "the control doesn't go on for now");
-            self.watch.due = control.now() + PAUSE;
-        }
+        self.watch.go_on(control);
         if control.is_lost || self.watch.is_led_elsewhere(&*self.peers) {
             control.leave();
             return false;
@@ -128,6 +125,15 @@ impl LeaderWatch {
         let leads = peers.member().leader() == Some(peers.member().process());
         self.is_known |= leads;
         self.is_known && !leads
+    }
+
+    /// Looks, if it is time. It may be that another process led before this one saw that it was elected itself.
+    fn go_on(&mut self, control: &mut Controller) {
+        if let Err(refusal) = self.look(control) {
+            tracing::warn!(%refusal, "the control doesn't go on for now");
+            control.is_lost |= refusal.is_of_leader();
+            self.due = control.now() + PAUSE;
+        }
     }
 
     fn look(&mut self, control: &mut Controller) -> Result<(), Refusal> {
@@ -346,8 +352,11 @@ mod tests {
         fn compact(&self, _reply_to: Box<dyn ReplyTo>) {}
     }
 
-    /// Two servers without shards, of which the second is always back as it is said to have failed.
-    struct Returning;
+    /// Two servers without shards, of which the second is always back as it is said to have failed; if another process
+    /// leads, it tells nothing.
+    struct Returning {
+        is_led_elsewhere: bool,
+    }
 
     impl Backend for Returning {
         fn servers(&self) -> u16 {
@@ -388,7 +397,10 @@ mod tests {
         }
 
         fn state_of(&mut self, _server: u16) -> Result<ServerState, BackendFault> {
-            Ok(ServerState::Up)
+            match self.is_led_elsewhere {
+                true => Err(Refused::NotLeader.into()),
+                false => Ok(ServerState::Up),
+            }
         }
 
         fn show_state(&mut self, _server: u16, _state: ServerState) {}
@@ -398,12 +410,28 @@ mod tests {
         }
     }
 
-    #[test]
-    fn a_server_that_is_back_holds_up_nothing() {
+    /// A control of these servers and what it looks after, at a moment that doesn't pass.
+    fn begun(backend: Returning) -> (Controller, LeaderWatch, Instant) {
         let began = Clock::default().now();
         let clock = Clock::new(move || began);
-        let mut control = Controller::new(Arc::new(Silent), Box::new(Returning), clock);
-        let mut watch = LeaderWatch::new(false, Arc::default(), began);
+        let control = Controller::new(Arc::new(Silent), Box::new(backend), clock);
+        let watch = LeaderWatch::new(false, Arc::default(), began);
+        (control, watch, began)
+    }
+
+    #[test]
+    fn who_never_saw_that_it_led_leaves_once_another_process_leads() {
+        for is_led_elsewhere in [false, true] {
+            let (mut control, mut watch, _) = begun(Returning { is_led_elsewhere });
+            watch.go_on(&mut control);
+            assert_eq!(control.is_lost, is_led_elsewhere);
+        }
+    }
+
+    #[test]
+    fn a_server_that_is_back_holds_up_nothing() {
+        let is_led_elsewhere = false;
+        let (mut control, mut watch, began) = begun(Returning { is_led_elsewhere });
         watch.have_fail(&mut control).unwrap();
         // Who is there is read again at the next look, which comes no sooner.
         assert_eq!(watch.due, began + PAUSE);

@@ -8,6 +8,8 @@ use std::fmt;
 
 /// The name of what it may do later.
 const NOT_NOW: &str = "NotNow";
+/// The name where another process leads, or none does.
+const NOT_LEADER: &str = "NotLeader";
 /// The name where a server is there that is said to have failed.
 const STILL_THERE: &str = "StillThere";
 /// The name where a shard has no generations left.
@@ -117,13 +119,13 @@ impl Refusal {
     /// That no process leads.
     pub fn no_leader() -> Refusal {
         let reason = "no process of the cluster leads for now";
-        Refusal::new("NotLeader", reason, "try again")
+        Refusal::new(NOT_LEADER, reason, "try again")
     }
 
     /// That another process leads from now on.
     pub fn led_elsewhere() -> Refusal {
         let reason = "another process leads from now on, and goes on with what is under way";
-        Refusal::new("NotLeader", reason, "SM SERVERS tells how far it is")
+        Refusal::new(NOT_LEADER, reason, "SM SERVERS tells how far it is")
     }
 
     /// That the process ends.
@@ -220,7 +222,7 @@ impl Refusal {
             Refused::Write(WriteError::Full(_)) => {
                 ("StoreFull", "make room, as by DEL and SM COMPACT")
             }
-            Refused::NotLeader | Refused::OtherSettings => ("NotLeader", "ask the other process"),
+            Refused::NotLeader | Refused::OtherSettings => (NOT_LEADER, "ask the other process"),
             Refused::StillThere(_) => (
                 STILL_THERE,
                 "SM RESTART it, or end its process: it has failed once its lease has ended",
@@ -236,6 +238,11 @@ impl Refusal {
     /// Whether it may be done later, as a process is still to read what is there already.
     pub fn is_for_now(&self) -> bool {
         self.name == NOT_NOW
+    }
+
+    /// Whether another process leads, so that this one's control makes nothing more.
+    pub(super) fn is_of_leader(&self) -> bool {
+        self.name == NOT_LEADER
     }
 
     /// Whether a server was said to have failed that is there.
