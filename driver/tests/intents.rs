@@ -1,13 +1,15 @@
-//! What whoever leads goes on with lies in the store, also where outcomes aren't known; nobody else changes it.
+//! What whoever leads goes on with lies in the store, also where outcomes aren't known; nobody else changes it. No command
+//! is made that was given up.
 mod common;
 
 use common::cluster::{campaign, kill, Net};
 use common::handing::{Handed, Handing};
 use common::{line, opened};
+use durkenzo::Stand;
 use durkenzo_driver::{keys, ControlCommand, DurableControl, Intent, Refused};
 use durkenzo_store::{Done, Embedded, Outcome, Store, Transaction, WriteError};
-use std::sync::atomic::{AtomicU64, Ordering};
-use std::sync::Arc;
+use std::sync::atomic::{AtomicBool, AtomicU64, Ordering};
+use std::sync::{Arc, Mutex};
 
 /// A store that doesn't tell what became of two of three transactions on intents, or of commands: it makes one of these
 /// two.
@@ -107,6 +109,60 @@ fn a_command_that_was_made_is_not_refused() {
     // What isn't to be made is refused as ever.
     let again = control.command(ControlCommand::Back(1));
     assert!(matches!(again, Err(Refused::Judged(_))), "{again:?}");
+}
+
+/// A store that withholds commands for a while, and doesn't know what becomes of them.
+struct Withholding {
+    store: Embedded,
+    withholds: Arc<AtomicBool>,
+    withheld: Arc<Mutex<Vec<Transaction>>>,
+}
+
+impl Handing for Withholding {
+    fn store(&self) -> &dyn Store {
+        &self.store
+    }
+
+    fn submit(&self, transaction: Transaction, done: Done) {
+        let is_command = transaction.puts.iter().any(|it| it.key == keys::COMMANDS);
+        if !is_command || !self.withholds.load(Ordering::Acquire) {
+            return self.store.submit(transaction, done);
+        }
+        self.withheld.lock().unwrap().push(transaction);
+        done(Err(WriteError::Unknown("a test".to_owned())));
+    }
+}
+
+#[test]
+fn a_command_that_was_given_up_is_not_made_once_the_control_goes_on() {
+    let (withholds, withheld) = (Arc::new(AtomicBool::new(false)), Arc::default());
+    let store: Arc<dyn Store> = Arc::new(Handed(Withholding {
+        store: Embedded::in_memory(),
+        withholds: withholds.clone(),
+        withheld: Arc::clone(&withheld),
+    }));
+    let durable = Arc::new(opened(&store, 1));
+    let mut control = DurableControl::lead(durable, &line(1)).unwrap();
+    control.command(ControlCommand::Assign(0, 1)).unwrap();
+    withholds.store(true, Ordering::Release);
+    let given_up = control.command(ControlCommand::PrepareAddShard(0, 2));
+    let is_unknown = |it| matches!(it, Err(Refused::Write(WriteError::Unknown(_))));
+    assert!(is_unknown(given_up));
+    // What stands isn't told while that may change.
+    assert!(is_unknown(control.record(0).map(drop)));
+    withholds.store(false, Ordering::Release);
+    let stands = control.record(0).unwrap().map(|it| it.stand);
+    assert_eq!(stands, Some(Stand::Serving(1)));
+    let late = std::mem::take(&mut *withheld.lock().unwrap());
+    assert!(!late.is_empty());
+    for transaction in late {
+        if transaction.puts.len() > 1 {
+            let made = store.make(transaction);
+            assert!(matches!(made, Ok(Outcome::Lost(_))), "{made:?}");
+        }
+    }
+    let prepared = ControlCommand::PrepareAddShard(0, 2);
+    control.command(prepared).unwrap();
 }
 
 #[test]

@@ -11,6 +11,8 @@ use std::sync::Arc;
 
 /// How often a command is sent again that another one came before, or of which it isn't known what became.
 const TRIES: u32 = 8;
+/// How often it is tried at once that what was given up isn't made.
+const OUTDATES: u32 = 2;
 
 /// The control over a store for this process: what it sends and what comes next, the proved one decides.
 pub struct DurableControl {
@@ -25,6 +27,8 @@ pub struct DurableControl {
     written: WrittenRevisions,
     /// Whether all is to be read again.
     is_behind: bool,
+    /// What the latest command wrote to the key of commands, if that command may still be made.
+    doubtful: Option<Vec<u8>>,
     /// How often servers' keys had changed when it was read who follows; none where that is to be read again.
     followers: Option<u64>,
 }
@@ -68,6 +72,7 @@ impl DurableControl {
             elected,
             written: WrittenRevisions::default(),
             is_behind: true,
+            doubtful: None,
             followers: None,
         };
         if control.director.shards() != usize::from(control.durable.shards()) {
@@ -99,8 +104,14 @@ impl DurableControl {
         self.durable.shards()
     }
 
-    /// Reads records and states where that is due.
+    /// Reads records and states where that is due, once no command may still be made that was given up.
     fn catch_up(&mut self) -> Result<(), Refused> {
+        self.outdate()?;
+        self.read_again()
+    }
+
+    /// Reads records and states where that is due. A command may still be made that is tried again.
+    fn read_again(&mut self) -> Result<(), Refused> {
         let member = self.durable.member();
         if member.is_some_and(|it| !it.leads(self.elected)) {
             return Err(Refused::NotLeader);
@@ -115,6 +126,29 @@ impl DurableControl {
             }
         }
         Ok(())
+    }
+
+    /// Writes the key of commands anew if a command may still be made: it compares that key, so from then on it isn't.
+    fn outdate(&mut self) -> Result<(), Refused> {
+        let Some(commands) = self.doubtful.clone() else {
+            return Ok(());
+        };
+        for _ in 0..OUTDATES {
+            let transaction = Transaction::new()
+                .compare(keys::LEADER, self.elected)
+                .put(keys::COMMANDS, commands.clone())
+                .with_kept_room();
+            match self.durable.store().make(transaction) {
+                Ok(Outcome::Made(_)) => {
+                    (self.is_behind, self.doubtful) = (true, None);
+                    return Ok(());
+                }
+                Ok(Outcome::Lost(_)) => self.look_at_leader()?,
+                Err(WriteError::Unknown(_)) => {}
+                Err(error) => return Err(error.into()),
+            }
+        }
+        Err(Refused::in_vain())
     }
 
     fn read_all(&self) -> Result<Reading, Refused> {
@@ -184,7 +218,7 @@ impl DurableControl {
 
     /// Reads who follows where the shard is taken: it is dropped once all do.
     fn follow_if_taken(&mut self, shard: u16) -> Result<(), Refused> {
-        match self.record(shard)?.map(|it| it.stand) {
+        match self.record_read(shard)?.map(|it| it.stand) {
             Some(Stand::Taken { .. }) => self.follow(),
             _ => Ok(()),
         }
@@ -196,11 +230,19 @@ impl DurableControl {
     ///
     /// As [`Refused`] says.
     pub fn command(&mut self, command: ControlCommand) -> Result<(), Refused> {
+        self.outdate()?;
+        let made = self.tried(command);
+        // If the store doesn't take that now, it does before the control goes on.
+        made.inspect_err(|_| drop(self.outdate()))
+    }
+
+    /// Makes the command, again as often as another one comes before, or it isn't known what became of it.
+    fn tried(&mut self, command: ControlCommand) -> Result<(), Refused> {
         let mut doubtful = None;
         for _ in 0..TRIES {
-            self.catch_up()?;
+            self.read_again()?;
             if self.lies(&doubtful)? {
-                self.is_behind = true;
+                (self.is_behind, self.doubtful) = (true, None);
                 return Ok(());
             }
             if let ControlCommand::DropShard(shard) = command {
@@ -210,11 +252,14 @@ impl DurableControl {
             let sending = self.director.sending().map_err(Refused::of)?;
             let (number, is_state, absent) = (sending.number, sending.is_state, sending.absent);
             let sent = (sending.key(), sending.written.clone());
+            let commands = sending.commands.clone();
             self.is_behind = true;
             match self.send(sending) {
                 Ok(Outcome::Made(revision)) => return self.made(number, is_state, revision),
                 Ok(Outcome::Lost(reading)) => self.look_at_lost(absent, &reading)?,
-                Err(WriteError::Unknown(_)) => doubtful = Some(sent),
+                Err(WriteError::Unknown(_)) => {
+                    (doubtful, self.doubtful) = (Some(sent), Some(commands));
+                }
                 Err(error) => return Err(error.into()),
             }
         }
@@ -235,7 +280,7 @@ impl DurableControl {
     fn made(&mut self, number: u16, is_state: bool, revision: Revision) -> Result<(), Refused> {
         self.director.made(revision).map_err(Refused::of)?;
         self.written.note(number, is_state, revision);
-        (self.is_behind, self.followers) = (false, None);
+        (self.is_behind, self.doubtful, self.followers) = (false, None, None);
         match self.durable.member() {
             None => self.follow_all(revision),
             Some(_) => Ok(()),
@@ -333,6 +378,11 @@ impl DurableControl {
     /// The shard's record, none of whose changes by this control is missing.
     pub fn record(&mut self, shard: u16) -> Result<Option<Record>, Refused> {
         self.catch_up()?;
+        self.record_read(shard)
+    }
+
+    fn record_read(&mut self, shard: u16) -> Result<Option<Record>, Refused> {
+        self.read_again()?;
         let word = self.director.word_of(shard).map_err(Refused::of)?;
         Ok(word::record(word))
     }
