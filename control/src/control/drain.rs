@@ -18,8 +18,10 @@ pub(super) struct Drain {
     server: u16,
     /// Whether shards come home when the server is back.
     is_restart: bool,
-    /// Whether it is an intent, so that whoever leads next goes on with it.
+    /// Whether it is an intent, or may be one, so that whoever leads next goes on with it.
     is_intended: bool,
+    /// Whether that is known.
+    is_kept: bool,
     /// How many shards there are to move; none before it has begun.
     of: Option<usize>,
     planned: PlannedMoves,
@@ -38,6 +40,7 @@ impl Drain {
             server,
             is_restart,
             is_intended: false,
+            is_kept: false,
             of: None,
             planned: PlannedMoves::of(server),
             current: None,
@@ -50,6 +53,7 @@ impl Drain {
     pub(super) fn going_on(server: u16) -> Drain {
         Drain {
             is_intended: true,
+            is_kept: true,
             ..Drain::new(server, false)
         }
     }
@@ -229,9 +233,14 @@ impl Drain {
                 _ => Ok(()),
             };
         }
-        if !self.is_intended {
-            control.backend.intend(&[Intent::Drain(self.server)])?;
-            self.is_intended = control.backend.lasts();
+        if !self.is_kept {
+            let intended = control.backend.intend(&[Intent::Drain(self.server)]);
+            let intended = intended.map_err(Refusal::from);
+            // The store may keep it, whatever it says.
+            let may_lie = intended.as_ref().err().is_none_or(Refusal::is_of_store);
+            self.is_intended = may_lie && control.backend.lasts();
+            intended?;
+            self.is_kept = true;
         }
         Ok(())
     }
@@ -314,6 +323,17 @@ mod tests {
         backend.plain().lasts = true;
         drained(&backend).unwrap();
         assert!(backend.plain().plans > 5, "{}", backend.plain().plans);
+    }
+
+    #[test]
+    fn a_drain_goes_on_that_the_store_may_have_kept() {
+        let backend = PlainBackend::of(2, Stand::Serving(1));
+        (backend.plain().lasts, backend.plain().doubts) = (true, 1);
+        let (mut control, mut drain) = (backend.control(), Drain::new(1, false));
+        let doubtful = drain.advance(&mut control).unwrap_err();
+        assert!(doubtful.is_of_store() && drain.is_intended(), "{doubtful}");
+        let told = ended(&backend, drain).unwrap();
+        assert_eq!(told, ControlAnswer::of_moves([(0, 2), (1, 2)]));
     }
 
     #[test]

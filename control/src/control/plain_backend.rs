@@ -4,7 +4,8 @@ use super::controller::Controller;
 use super::progress::Doing;
 use super::{ControlHost, ReplyTo};
 use durkenzo::{ChangeFault, Move, Plan, Record, RestartFault, Stand};
-use durkenzo_driver::{Clock, ControlCommand, Next, ServerState, Subject};
+use durkenzo_driver::{Clock, ControlCommand, Intent, Next, Refused, ServerState, Subject};
+use durkenzo_store::WriteError;
 use std::collections::{BTreeMap, BTreeSet};
 use std::sync::{Arc, Mutex, MutexGuard};
 use std::time::{Duration, Instant};
@@ -23,6 +24,8 @@ pub(super) struct Plain {
     pub(super) plans: usize,
     /// The shards of which no change begins.
     pub(super) spent: BTreeSet<u16>,
+    /// How many intents the store doesn't say that it keeps.
+    pub(super) doubts: u32,
     /// The shards that are busy, and for how many tries.
     pub(super) busy: BTreeMap<u16, u32>,
 }
@@ -37,6 +40,7 @@ impl PlainBackend {
             lasts: false,
             plans: 0,
             spent: BTreeSet::new(),
+            doubts: 0,
             busy: BTreeMap::new(),
         };
         PlainBackend(Arc::new(Mutex::new(plain)))
@@ -177,6 +181,17 @@ impl Backend for PlainBackend {
     }
 
     fn show_state(&mut self, _server: u16, _state: ServerState) {}
+
+    fn intend(&mut self, _intents: &[Intent]) -> Result<(), BackendFault> {
+        let mut plain = self.plain();
+        match plain.doubts.checked_sub(1) {
+            None => Ok(()),
+            Some(left) => {
+                plain.doubts = left;
+                Err(Refused::Write(WriteError::Unknown("a test".to_owned())).into())
+            }
+        }
+    }
 }
 
 /// A host that shows nothing, and has no pace.
