@@ -34,9 +34,29 @@ pub enum Bug {
     EarlyDeletion,
     /// A base is named for one batch more than it holds: the keys of its parts and the head that names it say so.
     ShortBase,
+    /// A control forgets a command that it passes on to the one that leads.
+    ForgottenCommand,
+    /// A leader takes servers for there that are gone: it reads their keys so.
+    BlindLeader,
+    /// A process doesn't see that nobody leads any more: it isn't told that the leader's key is gone.
+    DeafFollower,
+    /// A leader keeps what it is to go on with, once that is done: its keys aren't deleted.
+    KeptIntent,
+    /// A leader doesn't have servers be up again: it is told that the store doesn't take that.
+    NoReturn,
 }
 
-pub const BUGS: [Bug; 16] = [
+impl Bug {
+    /// Returns whether it is one of the control that ships.
+    pub fn is_of_control(self) -> bool {
+        BUGS[FIRST_OF_CONTROL..].contains(&self)
+    }
+}
+
+/// The first of those of the control that ships.
+const FIRST_OF_CONTROL: usize = 16;
+
+pub const BUGS: [Bug; 21] = [
     Bug::NoRecordCompare,
     Bug::NoHeadCompare,
     Bug::NoLeaderCompare,
@@ -53,4 +73,9 @@ pub const BUGS: [Bug; 16] = [
     Bug::TornReading,
     Bug::EarlyDeletion,
     Bug::ShortBase,
+    Bug::ForgottenCommand,
+    Bug::BlindLeader,
+    Bug::DeafFollower,
+    Bug::KeptIntent,
+    Bug::NoReturn,
 ];

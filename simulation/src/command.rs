@@ -2,14 +2,28 @@
 use crate::chance::Chance;
 use durkenzo_driver::{ControlCommand, DurableControl, Next, Refused};
 
-/// The settings of the store: two shards, and three servers, one of which may be away at a time.
-pub const SETTINGS: &str = concat!(
-    r#"{"version":1,"bounds":["","m"],"#,
-    r#""servers":[{"id":1,"domain":0,"capacity":9},{"id":2,"domain":1,"capacity":9},"#,
-    r#"{"id":3,"domain":2,"capacity":9}],"groups":[{"limit":9,"down":9}],"#,
-    r#""shards":[{"group":0,"load":1,"cap":1},{"group":0,"load":1,"cap":1}],"#,
-    r#""ops":1,"kept":1,"ceiling":100000,"workers":1}"#
-);
+/// The settings of the store: so many shards, below 26, and three servers with room for so many, one of which may be
+/// away at a time.
+pub fn settings(shards: u16, capacity: u16) -> String {
+    let bounds = (b'm'..=b'z').take(usize::from(shards) - 1);
+    let bounds: String = bounds
+        .map(|it| format!(r#","{}""#, char::from(it)))
+        .collect();
+    let servers = [1, 2, 3].map(|it| {
+        let domain = it - 1;
+        format!(r#"{{"id":{it},"domain":{domain},"capacity":{capacity}}}"#)
+    });
+    let shards = vec![r#"{"group":0,"load":1,"cap":1}"#; usize::from(shards)];
+    format!(
+        concat!(
+            r#"{{"version":1,"bounds":[""{}],"servers":[{}],"groups":[{{"limit":9,"down":9}}],"#,
+            r#""shards":[{}],"ops":1,"kept":1,"ceiling":100000,"workers":1}}"#
+        ),
+        bounds,
+        servers.join(","),
+        shards.join(",")
+    )
+}
 
 /// Asks a control for something, of these many shards.
 pub fn command(

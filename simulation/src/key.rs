@@ -13,6 +13,9 @@ pub enum DecodedKey {
     State(u16),
     /// A process that runs this server, and up to which revision it has read.
     Server(u16),
+    /// That a server is drained, and where a shard comes home.
+    Drain(u16),
+    Home(u16),
     /// The first number by which a server's process still has requests.
     Lowest(u16),
     Head(u16),
@@ -35,12 +38,19 @@ impl DecodedKey {
             ("record", 1) => DecodedKey::Record(place(0)?),
             ("state", 1) => DecodedKey::State(place(0)?),
             ("server", 1) => DecodedKey::Server(place(0)?),
+            ("drain", 1) => DecodedKey::Drain(place(0)?),
+            ("home", 1) => DecodedKey::Home(place(0)?),
             ("lowest", 1) => DecodedKey::Lowest(place(0)?),
             ("head", 1) => DecodedKey::Head(place(0)?),
             ("batch", 2) => DecodedKey::Batch(place(0)?, numbers[1]),
             ("base", 3) => DecodedKey::Part(place(0)?, numbers[1], numbers[2]),
             _ => return None,
         })
+    }
+
+    /// Returns whether it is of work that whoever leads goes on with.
+    pub fn is_intent(self) -> bool {
+        matches!(self, DecodedKey::Drain(_) | DecodedKey::Home(_))
     }
 }
 

@@ -127,6 +127,7 @@ impl WorldModel {
         for (key, bytes) in &txn.puts {
             match *key {
                 DecodedKey::Process | DecodedKey::Commands | DecodedKey::Lowest(_) => {}
+                DecodedKey::Drain(_) | DecodedKey::Home(_) => {}
                 DecodedKey::Leader => self.leader = found(reading::process(bytes), txn)?,
                 DecodedKey::Server(server) => self.follow(server, bytes),
                 DecodedKey::State(server) => self.restart(u64::from(server), bytes, txn)?,
@@ -299,6 +300,8 @@ impl WorldModel {
                 self.followed.remove(&server);
                 true
             }
+            // They are withdrawn.
+            DecodedKey::Drain(_) | DecodedKey::Home(_) => true,
             _ => false,
         };
         if is_behind {

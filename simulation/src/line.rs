@@ -77,7 +77,10 @@ impl Store for Line {
     fn make(&self, transaction: Transaction) -> Result<Outcome, WriteError> {
         let mut store = self.store();
         let transaction = store.spoilt(transaction);
-        store.called(transaction)
+        match store.refused(&transaction) {
+            Some(error) => Err(error),
+            None => store.called(transaction),
+        }
     }
 
     fn read(&self, keys: &[&[u8]]) -> Result<Reading, ReadError> {
@@ -89,6 +92,8 @@ impl Store for Line {
     fn read_all(&self, prefix: &[u8]) -> Result<Reading, ReadError> {
         let store = self.reached()?;
         let mut reading = store.range(prefix, |it| it.starts_with(prefix), usize::MAX);
+        reading.pairs.extend(store.gone(prefix));
+        reading.pairs.sort_by(|one, other| one.key.cmp(&other.key));
         if store.bug == Some(Bug::EarlyDrop) && prefix == b"server/" {
             let read = store.revision.to_be_bytes();
             let told = reading

@@ -1,4 +1,5 @@
 //! What processes send to one another: steps that another one's server executes, and what became of them there.
+use crate::command_mail::{CommandAnswer, CommandMessage};
 use durkenzo_driver::{Elsewhere, MapReply, MapRequest, NotDone, Work, WorkOutcome, WorkStep};
 use std::sync::{Arc, Mutex};
 
@@ -28,6 +29,17 @@ pub struct StepAnswer {
 pub struct Mail {
     pub messages: Vec<Message>,
     pub answers: Vec<StepAnswer>,
+    /// Commands for the controls of other processes, and what became of them.
+    pub commands: Vec<CommandMessage>,
+    pub commands_back: Vec<CommandAnswer>,
+}
+
+impl Mail {
+    /// Returns whether nothing is on its way.
+    pub fn is_empty(&self) -> bool {
+        let is_of_steps = self.messages.is_empty() && self.answers.is_empty();
+        is_of_steps && self.commands.is_empty() && self.commands_back.is_empty()
+    }
 }
 
 /// All that is on its way.

@@ -1,6 +1,7 @@
 //! Runs schedules, and says what was broken, with the seed that shows it again.
 //!
 //!     simulation [--schedules N] [--seed S] [--bug NAME] [--seconds T]
+use rustix::time::{clock_gettime, ClockId};
 use simulation::bug::{Bug, BUGS};
 use simulation::tally::Tally;
 use simulation::world::run;
@@ -56,5 +57,12 @@ fn main() -> ExitCode {
         }
     }
     println!("{count} schedules kept the law: {all:?}");
+    let spent = clock_gettime(ClockId::ProcessCPUTime);
+    let spent = spent.tv_sec as f64 + spent.tv_nsec as f64 / 1e9;
+    let passed = all.passed_time as f64 / 1e3;
+    println!(
+        "{passed:.0} s passed in {spent:.1} s of a processor: {:.0} s each",
+        passed / spent
+    );
     ExitCode::SUCCESS
 }

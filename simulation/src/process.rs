@@ -1,10 +1,16 @@
+use crate::control_shape::ControlShape;
 use crate::line::Line;
 use crate::mail::{Mails, Message, Sender};
+use crate::simulated_host::SimulatedHost;
+use crate::simulated_peers::SimulatedPeers;
 use crate::simulated_store::SharedStore;
 use crate::time::Time;
+use durkenzo_control::control::{Asked, Campaigner};
 use durkenzo_driver::{
     Addresses, Chores, Clock, Durable, DurableControl, HandOver, JoinFault, Member, Own, Tuning,
 };
+use std::collections::VecDeque;
+use std::sync::atomic::AtomicBool;
 use std::sync::Arc;
 use std::time::Duration;
 
@@ -18,6 +24,13 @@ pub struct Process {
     pub durable: Arc<Durable>,
     pub chores: Chores,
     pub control: Option<DurableControl>,
+    /// The control that ships, in schedules that have it, and what it is asked.
+    pub campaigner: Option<Campaigner>,
+    pub inbox: VecDeque<Asked>,
+    /// Whether it is to stop.
+    pub is_stopping: Arc<AtomicBool>,
+    /// Until when it does nothing.
+    pub paused_until: Duration,
     /// What was read, and isn't told yet.
     pub read: Vec<Box<dyn FnOnce() + Send>>,
 }
@@ -55,8 +68,45 @@ impl Process {
             durable: Arc::new(durable),
             chores,
             control: None,
+            campaigner: None,
+            inbox: VecDeque::new(),
+            is_stopping: Arc::default(),
+            paused_until: Duration::ZERO,
             read: Vec::new(),
         })
+    }
+
+    /// Gives it the control that ships.
+    pub fn have_control(&mut self, mails: &Mails, shape: &ControlShape) {
+        let host = SimulatedHost {
+            is_stopping: self.is_stopping.clone(),
+            pace: shape.pace,
+        };
+        let peers = SimulatedPeers {
+            member: self.member.clone(),
+            mails: mails.clone(),
+            sender: self.sender,
+            bug: shape.bug,
+        };
+        let (host, peers) = (Arc::new(host), Arc::new(peers));
+        let (durable, line) = (self.durable.clone(), shape.settings.clone());
+        self.campaigner = Some(Campaigner::new(host, durable, peers, line, true));
+    }
+
+    /// Its control takes what it was asked first, and does what is due.
+    pub fn take_turn(&mut self) {
+        if let Some(campaigner) = &mut self.campaigner {
+            campaigner.turn(self.inbox.pop_front());
+        }
+    }
+
+    /// Does what its threads would do.
+    pub fn do_chores(&mut self) {
+        self.read.drain(..).for_each(|tell| tell());
+        while let Some(tell) = self.chores.read(0) {
+            tell();
+        }
+        self.chores.tick();
     }
 }
 

@@ -99,6 +99,34 @@ impl SimulatedStore {
         self.revision_of(key) > Revision::NEVER
     }
 
+    /// Returns what the key held at these revisions, and between them.
+    pub fn between(&self, key: &[u8], since: u64, until: u64) -> Vec<Option<&[u8]>> {
+        let versions = self.held.get(key).map_or(&[][..], Vec::as_slice);
+        let first = versions.iter().rposition(|it| it.since <= since);
+        let mut values = match first {
+            Some(_) => Vec::new(),
+            None => vec![None],
+        };
+        let later = versions[first.unwrap_or(0)..].iter();
+        let later = later.take_while(|it| it.since <= until);
+        values.extend(later.map(|it| it.value.as_deref()));
+        values
+    }
+
+    /// Returns what keys held last that begin so and hold nothing any more.
+    pub fn gone_of(&self, prefix: &[u8]) -> Vec<Pair> {
+        let versions = self.held.iter().filter(|it| it.0.starts_with(prefix));
+        let gone = versions.filter(|it| !self.has(it.0));
+        let last = gone.filter_map(|it| self.pair_at(it.0, it.1.last()?.since - 1));
+        last.collect()
+    }
+
+    /// Returns all keys that hold something.
+    pub fn keys(&self) -> impl Iterator<Item = &[u8]> {
+        let keys = self.held.keys().map(Vec::as_slice);
+        keys.filter(|it| self.has(it))
+    }
+
     fn revision_of(&self, key: &[u8]) -> Revision {
         let last = self.held.get(key).and_then(|it| it.last());
         last.filter(|it| it.value.is_some())
@@ -376,7 +404,8 @@ impl SimulatedStore {
         if let Some(all) = all {
             hearing.untold = VecDeque::from([Seen::All(all)]);
         }
-        Some((number, hearing.watcher.take()?, hearing.untold.pop_front()?))
+        let (watcher, seen) = (hearing.watcher.take()?, hearing.untold.pop_front()?);
+        Some((number, watcher, self.misheard(seen)))
     }
 
     /// Has the watch go on, which has told something.

@@ -4,7 +4,7 @@ use crate::flight::{Became, Flight};
 use crate::key::DecodedKey;
 use crate::reading;
 use crate::simulated_store::SimulatedStore;
-use durkenzo_store::{Outcome, Reading, Revision, Transaction, WriteError};
+use durkenzo_store::{Outcome, Pair, Reading, Revision, Seen, Transaction, WriteError};
 
 /// Whether it is of a shard's server: it compares the head of a log.
 fn is_of_server(transaction: &Transaction) -> bool {
@@ -42,6 +42,7 @@ impl SimulatedStore {
                 transaction
             }
             Bug::ShortBase => short(transaction),
+            Bug::KeptIntent => kept(transaction),
             _ => transaction,
         }
     }
@@ -59,6 +60,31 @@ impl SimulatedStore {
             done: None,
             became: None,
         });
+    }
+
+    /// Returns why a control is told that its transaction isn't made, if it is told so.
+    pub fn refused(&self, transaction: &Transaction) -> Option<WriteError> {
+        let is_so = self.bug == Some(Bug::NoReturn) && has_be_up(transaction);
+        is_so.then(|| WriteError::Unavailable("by a bug".to_owned()))
+    }
+
+    /// Returns the values of servers' keys that are gone, if a leader takes these for there.
+    pub fn gone(&self, prefix: &[u8]) -> Vec<Pair> {
+        match self.bug {
+            Some(Bug::BlindLeader) if prefix == b"server/" => self.gone_of(prefix),
+            _ => Vec::new(),
+        }
+    }
+
+    /// Returns a change of the leader's key as a process hears of it.
+    pub fn misheard(&self, seen: Seen) -> Seen {
+        match seen {
+            Seen::Changes(revision, mut changes) if self.bug == Some(Bug::DeafFollower) => {
+                changes.retain(|it| it.key != b"leader" || it.value.is_some());
+                Seen::Changes(revision, changes)
+            }
+            seen => seen,
+        }
     }
 
     /// Returns what is told of a transaction before it is made, if that is done.
@@ -106,6 +132,22 @@ impl SimulatedStore {
         }
         reading
     }
+}
+
+/// Has it delete no intents.
+fn kept(mut transaction: Transaction) -> Transaction {
+    let is_intent = |it: &[u8]| DecodedKey::of(it).is_some_and(DecodedKey::is_intent);
+    transaction.deletes.retain(|it| !is_intent(it));
+    transaction
+}
+
+/// Whether by this a server is up again.
+fn has_be_up(transaction: &Transaction) -> bool {
+    let mut puts = transaction.puts.iter();
+    puts.any(|it| {
+        let is_state = matches!(DecodedKey::of(&it.key), Some(DecodedKey::State(_)));
+        is_state && reading::state(&it.value).is_some_and(|it| it.0 == 0)
+    })
 }
 
 /// Has a head have a batch less behind its base.

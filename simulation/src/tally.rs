@@ -20,6 +20,13 @@ pub struct Tally {
     pub bases: u64,
     pub deleted: u64,
     pub by_lease: u64,
+    /// Turns of controls that ship, what operators asked, how much of that was answered, and how much was done.
+    pub turns: u64,
+    pub operated: u64,
+    pub told: u64,
+    pub done: u64,
+    /// The time that passed, in milliseconds.
+    pub passed_time: u64,
 }
 
 impl Tally {
@@ -41,6 +48,11 @@ impl Tally {
         self.bases += more.bases;
         self.deleted += more.deleted;
         self.by_lease += more.by_lease;
+        self.turns += more.turns;
+        self.operated += more.operated;
+        self.told += more.told;
+        self.done += more.done;
+        self.passed_time += more.passed_time;
     }
 
     /// Counts what a transaction wrote.

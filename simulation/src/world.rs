@@ -1,10 +1,14 @@
 //! Three servers, one of which may run twice, clients and a store, and what happens to them by chance.
+mod controls;
+
 use crate::bug::Bug;
 use crate::chance::Chance;
 use crate::client::{Asking, Claims, Client};
-use crate::command::{command, SETTINGS};
+use crate::command::{command, settings};
+use crate::control_shape::ControlShape;
 use crate::key::Written;
 use crate::law::{check, Broken};
+use crate::ledger::SharedLedger;
 use crate::mail::{broken, visiting, Mails, Message, Sender, StepAnswer};
 use crate::process::{Process, LEASE};
 use crate::simulated_store::{locked, SharedStore, SimulatedStore};
@@ -22,8 +26,14 @@ const SERVERS: u16 = 3;
 /// One more than there are servers: one that is believed dead goes on.
 const PROCESSES: usize = 4;
 const SHARDS: u16 = 2;
+/// How many there are where processes have the control that ships.
+const CONTROLLED_SHARDS: u16 = 4;
+/// How many shards a server has room for where the schedule commands.
+const ROOM: u16 = 9;
 const CLIENTS: u64 = 2;
 const EVENTS: u64 = 500;
+/// How many there are where processes have the control that ships.
+const CONTROLLED_EVENTS: u64 = 2_500;
 /// How many batches a log has at most before a base stands for them.
 const MOST_BATCHES: u64 = 3;
 /// How long it takes at most until all is over once nothing fails: so many times so many milliseconds, in each of which
@@ -37,7 +47,7 @@ const WAIT: Duration = Duration::from_millis(300);
 type Happening = fn(&mut World);
 
 /// What happens, and how often beside the others.
-const HAPPENINGS: [(Happening, u64); 17] = [
+const HAPPENINGS: [(Happening, u64); 15] = [
     (World::ask, 16),
     (World::fly, 30),
     (World::read, 14),
@@ -48,8 +58,6 @@ const HAPPENINGS: [(Happening, u64); 17] = [
     (World::tick, 4),
     (World::keep_leases, 2),
     (World::tell_followed, 4),
-    (World::command, 11),
-    (World::elect, 1),
     (World::lapse, 2),
     (World::crash, 1),
     (World::start_one, 3),
@@ -57,10 +65,29 @@ const HAPPENINGS: [(Happening, u64); 17] = [
     (World::pass_time, 7),
 ];
 
+/// What happens beside that where the schedule commands.
+const COMMANDED: [(Happening, u64); 2] = [(World::command, 11), (World::elect, 1)];
+
+/// What happens beside that where processes have the control that ships.
+const CONTROLLED: [(Happening, u64); 8] = [
+    (World::take_turn, 100),
+    (World::operate, 5),
+    (World::leave_control, 1),
+    (World::deliver_command, 6),
+    (World::answer_command, 6),
+    (World::pause, 1),
+    (World::stop, 1),
+    (World::renew_stopped, 2),
+];
+
 pub struct World {
     chance: Chance,
-    /// How often each happens in this schedule.
-    weights: [u64; HAPPENINGS.len()],
+    /// What happens in this schedule, and how often.
+    happenings: Vec<(Happening, u64)>,
+    shards: u16,
+    /// How the control is that processes have; none where the schedule commands.
+    control: Option<ControlShape>,
+    ledger: SharedLedger,
     bug: Option<Bug>,
     time: Time,
     store: SharedStore,
@@ -83,12 +110,17 @@ pub struct World {
 /// Runs one schedule and checks it.
 pub fn run(seed: u64, bug: Option<Bug>) -> (Tally, Result<(), Broken>) {
     let mut world = World::new(seed, bug);
-    world.begin();
-    for _ in 0..EVENTS {
-        world.happen();
-    }
-    world.settle();
+    world.pass();
     world.end()
+}
+
+/// Runs one schedule, and returns all that was made and told.
+pub fn transcript(seed: u64) -> String {
+    let mut world = World::new(seed, None);
+    world.pass();
+    let (store, ledger) = (locked(&world.store), world.ledger.lock().expect("no panic"));
+    let told = world.told.lock().expect("no panic");
+    format!("{:?} {told:?} {ledger:?}", store.made)
 }
 
 impl World {
@@ -97,24 +129,36 @@ impl World {
         let time = Time::new();
         let of_store = Chance::new(chance.drawn());
         let store = SimulatedStore::new(of_store, bug, time.clone());
-        let weights = HAPPENINGS.map(|it| it.1 * [1, 2, 2, 2, 4][chance.below(5) as usize]);
-        let reads = match chance.is_true(1, 3) {
-            true => Reads::Lease,
-            false => Reads::Exact,
+        let is_controlled = match bug {
+            Some(bug) => bug.is_of_control(),
+            None => chance.is_true(1, 4),
+        };
+        let (shards, more): (_, &[(Happening, u64)]) = match is_controlled {
+            true => (CONTROLLED_SHARDS, &CONTROLLED),
+            false => (SHARDS, &COMMANDED),
+        };
+        let happenings = drawn(&mut chance, more);
+        let control = is_controlled.then(|| ControlShape::new(&mut chance, shards, bug));
+        let tuning = Tuning {
+            wait: WAIT,
+            most_batches: MOST_BATCHES,
+            reads: match chance.is_true(1, 3) {
+                true => Reads::Lease,
+                false => Reads::Exact,
+            },
         };
         World {
             chance,
-            weights,
+            happenings,
+            shards,
+            control,
+            ledger: SharedLedger::default(),
             bug,
             time,
             store: Arc::new(Mutex::new(store)),
             mails: Mails::default(),
             told: Claims::default(),
-            tuning: Tuning {
-                wait: WAIT,
-                most_batches: MOST_BATCHES,
-                reads,
-            },
+            tuning,
             processes: (0..PROCESSES).map(|_| None).collect(),
             lives: 0,
             clients: (1..=CLIENTS).map(Client::new).collect(),
@@ -125,11 +169,29 @@ impl World {
         }
     }
 
-    /// Each server runs, a control leads, and each shard has an owner: so that schedules aren't spent on that.
-    fn begin(&mut self) {
+    /// Each server runs; then all happens that chance has happen, and comes to its end.
+    fn pass(&mut self) {
         (0..usize::from(SERVERS)).for_each(|it| self.start(it));
+        let (is_controlled, events) = match self.control {
+            Some(_) => (true, CONTROLLED_EVENTS),
+            None => (false, EVENTS),
+        };
+        match is_controlled {
+            true => self.begin_controls(),
+            false => self.begin_commands(),
+        }
+        self.store().is_calm = false;
+        (0..events).for_each(|_| self.happen());
+        match is_controlled {
+            true => self.settle_controls(),
+            false => self.settle(),
+        }
+    }
+
+    /// A control leads, and each shard has an owner: so that schedules aren't spent on that.
+    fn begin_commands(&mut self) {
         let process = self.processes[0].as_mut().expect("it has started");
-        let led = DurableControl::lead(process.durable.clone(), SETTINGS);
+        let led = DurableControl::lead(process.durable.clone(), &settings(SHARDS, ROOM));
         let mut control = led.expect("nothing is lost so far");
         for shard in 0..SHARDS {
             let owner = 1 + self.chance.below(u64::from(SERVERS)) as u16;
@@ -139,7 +201,6 @@ impl World {
         process.control = Some(control);
         while self.has_heard() {}
         self.tell_followed();
-        self.store().is_calm = false;
     }
 
     /// Nothing fails any more, so within some time all that was asked is over: it is answered or refused.
@@ -161,18 +222,9 @@ impl World {
 
     /// All that is on its way comes to its end, and each process does what is due.
     fn settle_once(&mut self) {
-        for _ in 0..PERIOD {
-            self.fly();
-            self.deliver();
-            self.answer();
-            self.has_heard();
-        }
+        (0..PERIOD).for_each(|_| self.settle_message());
         for process in self.processes.iter_mut().flatten() {
-            process.read.drain(..).for_each(|tell| tell());
-            while let Some(tell) = process.chores.read(0) {
-                tell();
-            }
-            process.chores.tick();
+            process.do_chores();
             process.member.keep_lease();
             process.member.tell_followed();
         }
@@ -180,10 +232,30 @@ impl World {
         self.lapse();
     }
 
+    /// Something that is on its way comes to its end, of each kind.
+    fn settle_message(&mut self) {
+        self.fly();
+        self.deliver();
+        self.answer();
+        self.has_heard();
+    }
+
+    /// All that is on its way comes to its end, as far as that leads to no end of more.
+    fn settle_messages(&mut self) {
+        for _ in 0..PERIOD {
+            if self.store().flights.is_empty() && self.mails.lock().expect("no panic").is_empty() {
+                return;
+            }
+            self.settle_message();
+        }
+    }
+
     /// Checks all that was made and told.
     fn end(mut self) -> (Tally, Result<(), Broken>) {
-        for process in std::mem::take(&mut self.processes).into_iter().flatten() {
-            self.tally.by_lease += process.durable.read_by_lease();
+        self.tally.passed_time = self.time.passed().as_millis() as u64;
+        self.judge_operators();
+        for place in 0..PROCESSES {
+            self.crash_at(place);
         }
         let mut told = std::mem::take(&mut *self.told.lock().expect("no panic"));
         let store = locked(&self.store);
@@ -206,20 +278,31 @@ impl World {
     /// Something happens, by the weights of this schedule.
     fn happen(&mut self) {
         self.tally.events += 1;
-        let all: u64 = self.weights.iter().sum();
+        let all: u64 = self.happenings.iter().map(|it| it.1).sum();
         let mut at = self.chance.below(all);
-        for ((happens, _), weight) in HAPPENINGS.iter().zip(self.weights) {
-            match at.checked_sub(weight) {
-                Some(rest) => at = rest,
-                None => return happens(self),
-            }
+        let happens = self
+            .happenings
+            .iter()
+            .find(|it| match at.checked_sub(it.1) {
+                Some(rest) => {
+                    at = rest;
+                    false
+                }
+                None => true,
+            });
+        if let Some((happens, _)) = happens.copied() {
+            happens(self);
         }
     }
 
-    /// The place of a process that runs, if there is one where chance looks.
+    /// The place of a process that runs, and isn't paused, if there is one where chance looks.
     fn place(&mut self) -> Option<usize> {
         let at = self.chance.below(PROCESSES as u64) as usize;
-        self.processes[at].is_some().then_some(at)
+        let now = self.time.passed();
+        let process = self.processes[at].as_ref();
+        process
+            .is_some_and(|it| it.paused_until <= now)
+            .then_some(at)
     }
 
     fn process(&mut self) -> Option<&mut Process> {
@@ -302,9 +385,11 @@ impl World {
 
     fn keep_leases(&mut self) {
         let left_out = self.chance.below(2 * PROCESSES as u64) as usize;
+        let now = self.time.passed();
         let others = self.processes.iter().enumerate();
         let others = others.filter(|it| it.0 != left_out);
-        for process in others.filter_map(|it| it.1.as_ref()) {
+        let others = others.filter_map(|it| it.1.as_ref());
+        for process in others.filter(|it| it.paused_until <= now) {
             process.member.keep_lease();
         }
     }
@@ -317,6 +402,11 @@ impl World {
     /// A process starts, of a server whose key isn't there.
     fn start_one(&mut self) {
         let at = self.chance.below(PROCESSES as u64) as usize;
+        self.start_at(at);
+    }
+
+    /// A process starts at this place, unless one runs there or the key of its server is there.
+    fn start_at(&mut self, at: usize) {
         let key = format!("server/{:05}", server_of(at));
         if self.processes[at].is_none() && !self.store().has(key.as_bytes()) {
             self.start(at);
@@ -336,17 +426,34 @@ impl World {
             self.store().begin_processes(others);
         }
         let surroundings = (&self.store, &self.mails, &self.time);
-        let started = Process::start(surroundings, sender, server_of(place), SHARDS, self.tuning);
-        self.processes[place] = Some(started.expect("nobody has its name"));
+        let (server, shards) = (server_of(place), self.shards);
+        let started = Process::start(surroundings, sender, server, shards, self.tuning);
+        let mut process = started.expect("nobody has its name");
+        if let Some(control) = &self.control {
+            process.have_control(&self.mails, control);
+        }
+        self.processes[place] = Some(process);
         self.store().is_calm = was_calm;
     }
 
     /// A process stops and has forgotten everything. Its lease goes on until it ends by itself.
     fn crash(&mut self) {
         if let Some(at) = self.place() {
-            let process = self.processes[at].take();
-            self.tally.by_lease += process.map_or(0, |it| it.durable.read_by_lease());
+            self.crash_at(at);
         }
+    }
+
+    fn crash_at(&mut self, place: usize) {
+        let process = self.processes[place].take();
+        process.into_iter().for_each(|it| self.bury(it));
+    }
+
+    /// A process has ended.
+    fn bury(&mut self, process: Process) {
+        let mut ledger = self.ledger.lock().expect("no panic");
+        ledger.ended.insert(process.sender.life);
+        drop(ledger);
+        self.tally.by_lease += process.durable.read_by_lease();
     }
 
     /// A process leads, if nobody does, or takes that over.
@@ -355,10 +462,10 @@ impl World {
         let Some(process) = self.process() else {
             return;
         };
-        let durable = process.durable.clone();
+        let (durable, line) = (process.durable.clone(), settings(SHARDS, ROOM));
         let led = match takes_over {
-            true => DurableControl::lead(durable, SETTINGS).map(Some),
-            false => DurableControl::campaign(durable, SETTINGS),
+            true => DurableControl::lead(durable, &line).map(Some),
+            false => DurableControl::campaign(durable, &line),
         };
         match led {
             Ok(Some(control)) => process.control = Some(control),
@@ -416,7 +523,7 @@ impl World {
 
     /// Somebody asks a process for something, or for what a client numbered: again, or anew.
     fn ask(&mut self) {
-        let shard = self.chance.below(u64::from(SHARDS)) as u16;
+        let shard = self.chance.below(u64::from(self.shards)) as u16;
         let (shard, begins) = match self.chance.below(3) {
             0 => self.numbered(shard),
             _ => {
@@ -595,6 +702,13 @@ impl World {
         let at = self.chance.below(mail.answers.len().max(1) as u64) as usize;
         (at < mail.answers.len()).then(|| mail.answers.swap_remove(at))
     }
+}
+
+/// What happens, and this beside it, as often as chance has it.
+fn drawn(chance: &mut Chance, more: &[(Happening, u64)]) -> Vec<(Happening, u64)> {
+    let all = HAPPENINGS.iter().chain(more);
+    let all = all.map(|it| (it.0, it.1 * [1, 2, 2, 2, 4][chance.below(5) as usize]));
+    all.collect()
 }
 
 /// The server of a process at this place.

@@ -1,0 +1,116 @@
+//! What controls of processes send to one another: commands, and what became of them there.
+use crate::mail::{Mails, Sender};
+use crate::operator_reply::text;
+use durkenzo_control::control::{Again, Asked, ControlAnswer, Refusal, ReplyTo};
+use std::fmt;
+
+/// A command that went to the control of another process.
+pub struct PassedCommand {
+    pub asked: Asked,
+    /// Where it waits again if nothing is done of it.
+    pub again: Option<Again>,
+}
+
+impl PassedCommand {
+    /// Has the command, of which nothing was done, wait again if it may. Otherwise refuses it.
+    pub fn give_back(self, why: &str) {
+        let held = match self.again {
+            Some(again) => again.hold(self.asked),
+            None => Err(self.asked),
+        };
+        if let Err(asked) = held {
+            asked.reply_to.pass_on(why.as_bytes().to_vec());
+        }
+    }
+
+    /// Tells that the command may have been done, or not.
+    pub fn lose(self) {
+        let told = "UNKNOWN the connection broke: look before you try again";
+        self.asked.reply_to.pass_on(told.as_bytes().to_vec());
+    }
+
+    /// Tells what became of it.
+    pub fn end(self, became: CommandBecame) {
+        match became {
+            CommandBecame::Answered(answer) => self.asked.reply_to.pass_on(answer),
+            CommandBecame::GivenBack => self.give_back(&Refusal::no_leader().to_string()),
+            CommandBecame::Lost => self.lose(),
+        }
+    }
+}
+
+/// A command on its way to the control of this process, if the sender knows one of the server.
+pub struct CommandMessage {
+    pub sender: Sender,
+    pub process: Option<u64>,
+    pub command: PassedCommand,
+}
+
+/// What became of a command at another process.
+pub enum CommandBecame {
+    Answered(Vec<u8>),
+    GivenBack,
+    Lost,
+}
+
+/// What became of a command, on its way back.
+pub struct CommandAnswer {
+    pub sender: Sender,
+    pub command: PassedCommand,
+    pub became: CommandBecame,
+}
+
+/// Where the answer goes to a command that came from another process. If this one crashes, that one hears that its
+/// connection broke.
+pub struct VisitorReply {
+    pub mails: Mails,
+    /// The command, unless that process doesn't hear of it any more.
+    pub visits: Option<(Sender, PassedCommand)>,
+}
+
+impl VisitorReply {
+    fn end(&mut self, became: CommandBecame) {
+        let Some((sender, command)) = self.visits.take() else {
+            return;
+        };
+        let mut mail = self
+            .mails
+            .lock()
+            .expect("no schedule goes on after a panic");
+        mail.commands_back.push(CommandAnswer {
+            sender,
+            command,
+            became,
+        });
+    }
+}
+
+impl ReplyTo for VisitorReply {
+    fn send(mut self: Box<Self>, answer: Result<ControlAnswer, Refusal>) {
+        self.end(CommandBecame::Answered(text(answer).into_bytes()));
+    }
+
+    fn asks_elsewhere(&self) -> bool {
+        true
+    }
+
+    fn give_back(mut self: Box<Self>) {
+        self.end(CommandBecame::GivenBack);
+    }
+
+    fn pass_on(mut self: Box<Self>, answer: Vec<u8>) {
+        self.end(CommandBecame::Answered(answer));
+    }
+}
+
+impl Drop for VisitorReply {
+    fn drop(&mut self) {
+        self.end(CommandBecame::Lost);
+    }
+}
+
+impl fmt::Debug for VisitorReply {
+    fn fmt(&self, f: &mut fmt::Formatter<'_>) -> fmt::Result {
+        f.write_str("VisitorReply")
+    }
+}

@@ -1,0 +1,109 @@
+use crate::reading::{self, DecodedRecord};
+use crate::simulated_store::{locked, SharedStore};
+use std::sync::atomic::{AtomicBool, Ordering};
+use std::sync::Arc;
+
+/// A command of an operator.
+#[derive(Debug)]
+pub struct OperatorCommand {
+    pub words: Vec<String>,
+    /// The process to which it was given.
+    pub life: u64,
+    /// The store's revision when it was asked, and when it was answered.
+    pub since: u64,
+    pub told: Option<(u64, String)>,
+    /// Whether nobody can answer it any more: its process has ended.
+    pub is_over: bool,
+    pub is_awaited: Arc<AtomicBool>,
+}
+
+impl OperatorCommand {
+    /// Returns whether it is still to be answered.
+    pub fn is_open(&self) -> bool {
+        let is_awaited = self.is_awaited.load(Ordering::Relaxed);
+        is_awaited && self.told.is_none() && !self.is_over
+    }
+
+    /// Returns whether it was told that it was done.
+    pub fn is_done(&self) -> bool {
+        let told = self.told.as_ref().map(|it| it.1.as_str());
+        told.is_some_and(|it| !NOT_DONE.iter().any(|begin| it.starts_with(begin)))
+    }
+
+    /// Returns whether what was told of it was so at some moment between the command and the answer.
+    pub fn is_true(&self, store: &SharedStore) -> bool {
+        let Some((at, told)) = self.told.as_ref().filter(|_| self.is_done()) else {
+            return true;
+        };
+        let past = Past {
+            store,
+            since: self.since,
+            until: *at,
+        };
+        let number = |at: usize| self.words.get(at).and_then(|it| it.parse().ok());
+        let (first, second) = (number(2).unwrap_or(0), number(3).unwrap_or(0));
+        match self.words[1].as_str() {
+            "MIGRATE" | "REASSIGN" => past.has_record(first, |it| it.owner == u64::from(second)),
+            "PAUSE" => past.has_record(first, |it| it.phase == PAUSED),
+            "RESUME" | "CANCEL" => past.has_record(first, |it| it.phase == SERVING),
+            "FAIL" => past.has_state(first, FAILED),
+            "BACK" => past.has_state(first, UP),
+            "RESTART" => past.has_state(first, STOPPED) || !told.contains(" is stopped"),
+            "DRAIN" | "SPREAD" | "PLACE" => told.lines().filter_map(moved).all(|it| {
+                let (shard, server) = it;
+                past.has_record(shard, |it| it.owner == u64::from(server))
+            }),
+            _ => true,
+        }
+    }
+}
+
+/// What lay in the store between two revisions.
+struct Past<'a> {
+    store: &'a SharedStore,
+    since: u64,
+    until: u64,
+}
+
+impl Past<'_> {
+    /// Whether the shard's record was such.
+    fn has_record(&self, shard: u16, is_so: impl Fn(DecodedRecord) -> bool) -> bool {
+        let key = format!("record/{shard:05}");
+        self.has(&key, |it| DecodedRecord::of(it).is_some_and(&is_so))
+    }
+
+    /// Whether the server's state was this one.
+    fn has_state(&self, server: u16, state: u64) -> bool {
+        let key = format!("state/{server:05}");
+        self.has(&key, |it| {
+            reading::state(it).is_some_and(|it| it.0 == state)
+        })
+    }
+
+    fn has(&self, key: &str, is_so: impl Fn(&[u8]) -> bool) -> bool {
+        let store = locked(self.store);
+        let values = store.between(key.as_bytes(), self.since, self.until);
+        values.into_iter().any(|it| is_so(it.unwrap_or(&VACANT)))
+    }
+}
+
+/// How answers begin that don't tell what was done.
+const NOT_DONE: [&str; 3] = ["REFUSED", "UNKNOWN", "PEERDOWN"];
+/// A record or a state that was never written.
+const VACANT: [u8; 17] = {
+    let mut bytes = [0; 17];
+    bytes[0] = 1;
+    bytes
+};
+/// The phases of records, and the states of servers.
+const SERVING: u64 = 1;
+const PAUSED: u64 = 5;
+const UP: u64 = 0;
+const STOPPED: u64 = 3;
+const FAILED: u64 = 4;
+
+/// The shard and the server of a line that tells where a shard went.
+fn moved(line: &str) -> Option<(u16, u16)> {
+    let (shard, server) = line.split_once('>')?;
+    Some((shard.parse().ok()?, server.parse().ok()?))
+}

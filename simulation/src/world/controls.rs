@@ -1,0 +1,394 @@
+//! The controls that ship, in schedules whose processes have them: operators ask them, and all is well in the end.
+use super::{server_of, World, PROCESSES, SERVERS};
+use crate::command_mail::{CommandAnswer, CommandMessage, VisitorReply};
+use crate::key::DecodedKey;
+use crate::law::Broken;
+use crate::operator;
+use crate::operator_reply::OperatorReply;
+use crate::process::{Process, LEASE};
+use crate::reading::{self, DecodedRecord};
+use durkenzo_control::control::{Asked, Words};
+use std::sync::atomic::Ordering;
+use std::time::Duration;
+
+/// How long a round is, in milliseconds, in which all that is due is done.
+const ROUND: u64 = 10;
+/// Within how many rounds the first shards have owners, all is well with a process less, and all is over.
+const BEGINNING: u64 = 1_000;
+const WELL: u64 = 4_000;
+const OVER: u64 = 8_000;
+/// In how many rounds leases are kept, and operators look at what waits for them.
+const KEEPING: u64 = 30;
+const LOOKING: u64 = 300;
+/// For how many milliseconds a process is paused at most.
+const PAUSE: u64 = 3_000;
+/// The numbers of states: a server is up, a restart of it is asked for or approved, and it is stopped.
+const UP: u64 = 0;
+const ASKED: u64 = 1;
+const APPROVED: u64 = 2;
+const STOPPED: u64 = 3;
+/// The phases of records.
+const SERVING: u64 = 1;
+const PAUSED: u64 = 5;
+
+impl World {
+    /// Has the processes campaign, until one leads and all shards have owners.
+    pub(super) fn begin_controls(&mut self) {
+        for round in 0..BEGINNING {
+            if (0..self.shards).all(|it| self.is_served(it)) {
+                return;
+            }
+            self.pass_round(round);
+        }
+        self.find("shards get owners at the beginning", String::new());
+    }
+
+    /// The control of a process has its turn.
+    pub(super) fn take_turn(&mut self) {
+        if let Some(process) = self.process() {
+            process.take_turn();
+            self.tally.turns += 1;
+        }
+    }
+
+    /// An operator asks a process for something.
+    pub(super) fn operate(&mut self) {
+        let words = operator::asked(&mut self.chance, self.shards, SERVERS);
+        if let Some(place) = self.place() {
+            self.ask_control(place, &words);
+        }
+    }
+
+    fn ask_control(&mut self, place: usize, words: &[String]) {
+        self.tally.operated += 1;
+        let Some(process) = self.processes[place].as_mut() else {
+            return;
+        };
+        let life = process.sender.life;
+        let reply_to = OperatorReply::of((&self.ledger, &self.store), words, life);
+        process.inbox.push_back(Asked {
+            words: Words::of(words),
+            reply_to: Box::new(reply_to),
+        });
+    }
+
+    /// An operator doesn't wait any more.
+    pub(super) fn leave_control(&mut self) {
+        let at = self.chance.drawn() as usize;
+        let ledger = self.ledger.lock().expect("no panic");
+        let open: Vec<_> = ledger.commands.iter().filter(|it| it.is_open()).collect();
+        if let Some(command) = open.get(at % open.len().max(1)) {
+            command.is_awaited.store(false, Ordering::Relaxed);
+        }
+    }
+
+    /// A command reaches the control of another process, or doesn't.
+    pub(super) fn deliver_command(&mut self) {
+        let Some(message) = self.command_message() else {
+            return;
+        };
+        let CommandMessage {
+            sender,
+            process,
+            command,
+        } = message;
+        if !self.is_there(sender) {
+            return;
+        }
+        let is_calm = self.store().is_calm;
+        let fate = match is_calm {
+            true => 20,
+            false => self.chance.below(20),
+        };
+        let mut targets = self.processes.iter_mut().flatten();
+        let target = targets.find(|it| Some(it.member.process()) == process);
+        let Some(target) = target else {
+            return command.give_back("PEERDOWN nothing has changed");
+        };
+        if fate == 0 {
+            return command.give_back("PEERDOWN nothing has changed");
+        }
+        let (words, mails) = (command.asked.words.clone(), self.mails.clone());
+        let visits = match fate {
+            1 | 2 => {
+                command.lose();
+                None
+            }
+            _ => Some((sender, command)),
+        };
+        // One that is lost may have come there.
+        if fate > 1 {
+            let reply_to = Box::new(VisitorReply { mails, visits });
+            target.inbox.push_back(Asked { words, reply_to });
+        }
+    }
+
+    fn command_message(&mut self) -> Option<CommandMessage> {
+        let mut mail = self.mails.lock().expect("no panic");
+        let at = self.chance.below(mail.commands.len().max(1) as u64) as usize;
+        (at < mail.commands.len()).then(|| mail.commands.swap_remove(at))
+    }
+
+    /// What became of a command comes back to the process that passed it on, or is lost.
+    pub(super) fn answer_command(&mut self) {
+        let Some(answer) = self.command_answer() else {
+            return;
+        };
+        let CommandAnswer {
+            sender,
+            command,
+            became,
+        } = answer;
+        let is_lost = !self.store().is_calm && self.chance.is_true(1, 20);
+        match (self.is_there(sender), is_lost) {
+            (false, _) => {}
+            (true, true) => command.lose(),
+            (true, false) => command.end(became),
+        }
+    }
+
+    fn command_answer(&mut self) -> Option<CommandAnswer> {
+        let mut mail = self.mails.lock().expect("no panic");
+        let at = self.chance.below(mail.commands_back.len().max(1) as u64) as usize;
+        (at < mail.commands_back.len()).then(|| mail.commands_back.swap_remove(at))
+    }
+
+    /// A process is paused: it does nothing for a while, and then goes on.
+    pub(super) fn pause(&mut self) {
+        let time = Duration::from_millis(self.chance.below(PAUSE));
+        let until = self.time.passed() + time;
+        if let Some(process) = self.process() {
+            process.paused_until = until;
+        }
+    }
+
+    /// A process is to stop, or ends its stop.
+    pub(super) fn stop(&mut self) {
+        let Some(place) = self.place() else {
+            return;
+        };
+        let process = self.processes[place].as_mut();
+        let is_stopping = process.is_some_and(|it| it.is_stopping.swap(true, Ordering::Relaxed));
+        if is_stopping {
+            self.end_process(place);
+        }
+    }
+
+    /// A process ends: those who wait for its control are told so, and others see at once that it is gone.
+    fn end_process(&mut self, place: usize) {
+        let Some(mut process) = self.processes[place].take() else {
+            return;
+        };
+        process.is_stopping.store(true, Ordering::Relaxed);
+        while !process.inbox.is_empty() {
+            process.take_turn();
+        }
+        let campaigner = process.campaigner.take();
+        campaigner.into_iter().for_each(|it| it.end());
+        process.member.leave();
+        self.bury(process);
+    }
+
+    /// An operator ends the process of a server that is stopped; another one begins.
+    pub(super) fn renew_stopped(&mut self) {
+        let at = self.chance.below(PROCESSES as u64) as usize;
+        let server = server_of(at);
+        if self.state_of(server) == STOPPED && self.processes[at].is_some() {
+            self.end_process(at);
+            self.start_at(at);
+        }
+    }
+
+    /// Faults end, with a server less where chance has it so. Within some time all is well then; and once that server
+    /// is back too, all that was asked is over.
+    pub(super) fn settle_controls(&mut self) {
+        self.store().is_calm = true;
+        for place in 0..PROCESSES {
+            self.go_on_or_end(place);
+        }
+        let is_roomy = self.control.as_ref().is_some_and(|it| it.is_roomy);
+        let missing = match self.chance.is_true(1, 2) && is_roomy {
+            true => 1 + self.chance.below(u64::from(SERVERS)) as u16,
+            false => 0,
+        };
+        for place in (0..PROCESSES).filter(|it| server_of(*it) == missing) {
+            self.crash_at(place);
+        }
+        let is_well =
+            |it: &World| (0..it.shards).all(|shard| it.is_served(shard) || it.is_away(shard));
+        if !self.passes_until(WELL, missing, is_well) {
+            return self.find("shards get owners that run", self.shown());
+        }
+        if !self.passes_until(OVER, 0, World::is_over) {
+            self.find("all that is under way comes to its end", self.shown());
+        }
+    }
+
+    /// A process that was paused goes on, and one that was to stop ends.
+    fn go_on_or_end(&mut self, place: usize) {
+        let Some(process) = self.processes[place].as_mut() else {
+            return;
+        };
+        process.paused_until = Duration::ZERO;
+        if process.is_stopping.load(Ordering::Relaxed) {
+            self.end_process(place);
+        }
+    }
+
+    /// Lets rounds pass until that is so, so many at most, with no process of this server. Tells whether it is.
+    fn passes_until(&mut self, rounds: u64, missing: u16, is_so: fn(&World) -> bool) -> bool {
+        for round in 0..rounds {
+            if is_so(self) {
+                return true;
+            }
+            if round % LOOKING == 0 {
+                self.look_after(missing);
+            }
+            self.pass_round(round);
+        }
+        is_so(self)
+    }
+
+    /// What operators do: processes that are gone or to be ended begin again, and what was paused by hand is resumed.
+    fn look_after(&mut self, missing: u16) {
+        for place in 0..PROCESSES {
+            let server = server_of(place);
+            if self.state_of(server) == STOPPED && self.processes[place].is_some() {
+                self.end_process(place);
+            }
+            if server != missing {
+                self.start_at(place);
+            }
+        }
+        for shard in 0..self.shards {
+            let record = self.record_of(shard);
+            let is_left = record.phase == PAUSED && self.state_of(record.owner as u16) <= ASKED;
+            // One that another process replaced finds nobody who leads.
+            if let Some(place) = self.place().filter(|_| is_left) {
+                let words = ["SM", "RESUME", &shard.to_string()].map(str::to_owned);
+                self.ask_control(place, &words);
+            }
+        }
+    }
+
+    /// Some time passes, in which all that is due is done.
+    fn pass_round(&mut self, round: u64) {
+        self.time.pass(ROUND);
+        for process in self.processes.iter_mut().flatten() {
+            process.take_turn();
+        }
+        while self.has_commands() {
+            self.deliver_command();
+            self.answer_command();
+        }
+        self.settle_messages();
+        while self.has_heard() {}
+        for process in self.processes.iter_mut().flatten() {
+            process.do_chores();
+            if round % KEEPING == 0 {
+                process.member.keep_lease();
+            }
+            process.member.tell_followed();
+        }
+        self.lapse();
+    }
+
+    fn has_commands(&self) -> bool {
+        let mail = self.mails.lock().expect("no panic");
+        !mail.commands.is_empty() || !mail.commands_back.is_empty()
+    }
+
+    /// Returns whether the shard has an owner that runs.
+    fn is_served(&self, shard: u16) -> bool {
+        let record = self.record_of(shard);
+        let owner = record.owner as u16;
+        let key = format!("server/{owner:05}");
+        record.phase == SERVING
+            && self.state_of(owner) <= APPROVED
+            && self.store().has(key.as_bytes())
+    }
+
+    /// Returns whether the shard waits for the return of its owner, which was stopped for a restart.
+    fn is_away(&self, shard: u16) -> bool {
+        let record = self.record_of(shard);
+        record.phase == PAUSED && self.state_of(record.owner as u16) == STOPPED
+    }
+
+    /// Returns whether all that was asked and was under way is over, and all servers are up.
+    fn is_over(&self) -> bool {
+        let idle = |it: &Process| {
+            it.inbox.is_empty() && it.campaigner.as_ref().is_none_or(|it| it.is_idle())
+        };
+        let is_idle = self.processes.iter().flatten().all(idle);
+        let are_up = (1..=SERVERS).all(|it| self.state_of(it) == UP);
+        let is_told = self.ledger.lock().expect("no panic").open() == 0;
+        let is_asked = self.asked.iter().any(|it| it.2.strong_count() > 0);
+        let has_intents = self.store().keys().any(is_intent);
+        let has_mail = !self.mails.lock().expect("no panic").is_empty();
+        let is_quiet = !is_asked && !has_intents && !has_mail && is_told;
+        is_idle && are_up && is_quiet && (0..self.shards).all(|it| self.is_served(it))
+    }
+
+    /// What stands, of which something isn't as it is to be.
+    fn shown(&self) -> String {
+        let states: Vec<u64> = (1..=SERVERS).map(|it| self.state_of(it)).collect();
+        let records: Vec<_> = (0..self.shards).map(|it| self.record_of(it)).collect();
+        let ledger = self.ledger.lock().expect("no panic");
+        let open: Vec<_> = ledger.commands.iter().filter(|it| it.is_open()).collect();
+        let store = self.store();
+        let intents: Vec<_> = store.keys().filter(|it| is_intent(it)).collect();
+        let intents: Vec<_> = intents
+            .iter()
+            .map(|it| String::from_utf8_lossy(it))
+            .collect();
+        let there = store
+            .keys()
+            .filter(|it| it.starts_with(b"server/") || *it == b"leader");
+        let there: Vec<_> = there.map(String::from_utf8_lossy).collect();
+        format!(
+            "states {states:?}, {records:?}, open {open:?}, intents {intents:?}, there {there:?}"
+        )
+    }
+
+    fn state_of(&self, server: u16) -> u64 {
+        let (store, key) = (self.store(), format!("state/{server:05}"));
+        let pair = store.pair_at(key.as_bytes(), store.revision);
+        pair.and_then(|it| reading::state(&it.value))
+            .map_or(UP, |it| it.0)
+    }
+
+    fn record_of(&self, shard: u16) -> DecodedRecord {
+        let (store, key) = (self.store(), format!("record/{shard:05}"));
+        let pair = store.pair_at(key.as_bytes(), store.revision);
+        let record = pair.and_then(|it| DecodedRecord::of(&it.value));
+        record.unwrap_or_default()
+    }
+
+    /// Checks what operators were told.
+    pub(super) fn judge_operators(&mut self) {
+        let ledger = self.ledger.clone();
+        let ledger = ledger.lock().expect("no panic");
+        let commands = ledger.commands.iter();
+        self.tally.told += commands.clone().filter(|it| it.told.is_some()).count() as u64;
+        self.tally.done += commands.filter(|it| it.is_done()).count() as u64;
+        if let Some(forgotten) = &ledger.forgotten {
+            self.find("each command is answered once", forgotten.clone());
+        }
+        let untrue = ledger.commands.iter().find(|it| !it.is_true(&self.store));
+        if let Some(untrue) = untrue {
+            self.find("what operators are told is so", format!("{untrue:?}"));
+        }
+    }
+
+    fn find(&mut self, law: &'static str, by: String) {
+        self.fault.get_or_insert(Broken { law, by });
+    }
+}
+
+/// A lease is kept more than twice in its length.
+const _: () = assert!(LEASE.as_millis() as u64 > 2 * KEEPING * ROUND);
+
+/// Returns whether somebody is still to go on with what lies at this key.
+fn is_intent(key: &[u8]) -> bool {
+    DecodedKey::of(key).is_some_and(DecodedKey::is_intent)
+}
