@@ -1,4 +1,5 @@
-"""What schedules of chance over the driver of a shared store find, as it ships: nothing, and each planted bug."""
+"""What schedules of chance over the driver and the control of a shared store find, as they ship: nothing, and each
+planted bug."""
 import shutil
 
 import other_crates
