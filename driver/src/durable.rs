@@ -1,5 +1,6 @@
 use crate::base_parts::BaseParts;
 use crate::clock::Clock;
+use crate::durable_threads::threads;
 use crate::shard::{Action, Shard, Ticket};
 use crate::{
     keys, process, recovery, Came, Chores, CompactFault, Elsewhere, Member, NotDone, OpenFault,
@@ -11,13 +12,9 @@ use std::fmt;
 use std::sync::atomic::{AtomicBool, AtomicU64, AtomicUsize, Ordering};
 use std::sync::mpsc::{self, Receiver, Sender};
 use std::sync::{Arc, Mutex, MutexGuard, OnceLock, PoisonError, Weak};
-use std::thread::{self, JoinHandle};
+use std::thread::JoinHandle;
 use std::time::{Duration, Instant};
 
-/// How many threads read shards.
-const READERS: usize = 4;
-/// How often it is looked for what has waited in vain.
-const TICK: Duration = Duration::from_millis(10);
 /// How many parts of a base are written at once.
 const PARTS: usize = 4;
 /// How much more room a base takes than its bytes: so much of that many, and what SQLite's pages take at least.
@@ -25,8 +22,6 @@ const BASE_ROOM: (u64, u64) = (17, 16);
 const BASE_SLACK: u64 = 32 << 10;
 /// How many keys are deleted at once.
 const DELETES: usize = 64;
-/// How often it is looked whether the process is to take another number.
-const NUMBERING: Duration = Duration::from_secs(1);
 /// How long a stop waits for transactions that are under way.
 const STOP: Duration = Duration::from_secs(10);
 
@@ -304,7 +299,7 @@ impl Durable {
 
     /// The steps that may be done; the others come to their end. None where the process or the store has ended.
     fn taken(&self, steps: Vec<WorkStep>) -> Option<Vec<WorkStep>> {
-        let is_over = self.inner.is_stopping.load(Ordering::Acquire);
+        let is_over = self.inner.is_stopping();
         if is_over || self.inner.ended.get().is_some() {
             for step in steps {
                 step.work.end(Err(NotDone::Stopped));
@@ -372,12 +367,12 @@ impl Durable {
     pub fn compact(&self) -> Result<(), CompactFault> {
         self.inner.store.compact()?;
         let mut left: Vec<u16> = (0..self.shards()).collect();
-        let end = Instant::now() + STOP;
+        let end = self.inner.now() + STOP;
         loop {
             let before = left.len();
             self.make_bases(&left, end);
             left.retain(|it| locked(&self.inner.shards[usize::from(*it)]).lacks_base());
-            if left.is_empty() || left.len() == before || Instant::now() >= end {
+            if left.is_empty() || left.len() == before || self.inner.now() >= end {
                 break;
             }
         }
@@ -397,9 +392,8 @@ impl Durable {
             });
         }
         let makes_base = |it: &u16| locked(&self.inner.shards[usize::from(*it)]).makes_base();
-        while Instant::now() < end && shards.iter().any(makes_base) {
-            thread::sleep(TICK);
-        }
+        let are_made = || !shards.iter().any(makes_base);
+        self.inner.block_until(end, are_made);
     }
 
     /// How many requests that only read were answered without a transaction.
@@ -454,8 +448,13 @@ impl fmt::Debug for Durable {
 
 impl DurableInner {
     /// This moment, by the clock of the process.
-    fn now(&self) -> Instant {
+    pub(crate) fn now(&self) -> Instant {
         self.clock.now()
+    }
+
+    /// Whether the process ends.
+    pub(crate) fn is_stopping(&self) -> bool {
+        self.is_stopping.load(Ordering::Acquire)
     }
 
     /// Does something with the shard, and then what comes of it, with no lock.
@@ -693,17 +692,6 @@ impl DurableInner {
         }
     }
 
-    /// Does what readers are handed, until the process ends.
-    fn run_jobs(self: Arc<DurableInner>, jobs: &Mutex<Receiver<ReaderJob>>) {
-        loop {
-            let next = jobs.lock().unwrap_or_else(PoisonError::into_inner).recv();
-            match next {
-                Ok(next) => self.read(next)(),
-                Err(_) => return,
-            }
-        }
-    }
-
     /// Reads the store for this job, and returns what tells of it.
     pub(crate) fn read(self: &Arc<DurableInner>, job: ReaderJob) -> ReadBack {
         let inner = self.clone();
@@ -752,20 +740,6 @@ impl DurableInner {
         Box::new(move || self.with(shard, |it, actions| work(it, self.now(), actions)))
     }
 
-    /// Refuses what has waited in vain, until the process ends.
-    fn tick_all(self: Arc<DurableInner>) {
-        let mut numbered = Instant::now();
-        while !self.is_stopping.load(Ordering::Acquire) {
-            thread::sleep(TICK);
-            let now = Instant::now();
-            if now.duration_since(numbered) >= NUMBERING {
-                self.keep_number();
-                numbered = now;
-            }
-            self.tick_shards();
-        }
-    }
-
     /// Has each shard drop what nobody waits for, and refuse what has waited in vain.
     pub(crate) fn tick_shards(self: &Arc<DurableInner>) {
         let now = self.now();
@@ -793,10 +767,8 @@ impl DurableInner {
         if self.is_stopping.swap(true, Ordering::AcqRel) {
             return;
         }
-        let end = Instant::now() + STOP;
-        while self.under_way.load(Ordering::Acquire) > 0 && Instant::now() < end {
-            thread::sleep(Duration::from_millis(1));
-        }
+        let is_idle = || self.under_way.load(Ordering::Acquire) == 0;
+        self.block_until(self.now() + STOP, is_idle);
         *self.jobs.lock().unwrap_or_else(PoisonError::into_inner) = None;
         for shard in 0..self.shards.len() as u16 {
             self.with(shard, |it, actions| it.give_up(&NotDone::Stopped, actions));
@@ -806,28 +778,6 @@ impl DurableInner {
 
 fn locked<T>(it: &Mutex<T>) -> MutexGuard<'_, T> {
     it.lock().unwrap_or_else(PoisonError::into_inner)
-}
-
-fn spawn(name: &str, work: impl FnOnce() + Send + 'static) -> Result<JoinHandle<()>, OpenFault> {
-    let thread = thread::Builder::new().name(name.to_owned());
-    thread.spawn(work).map_err(OpenFault::Thread)
-}
-
-/// The threads that read shards, and the one that looks for what has waited in vain.
-fn threads(
-    inner: &Arc<DurableInner>,
-    jobs: Receiver<ReaderJob>,
-) -> Result<Vec<JoinHandle<()>>, OpenFault> {
-    let jobs = Arc::new(Mutex::new(jobs));
-    let mut threads = Vec::new();
-    for number in 0..READERS {
-        let (inner, jobs) = (inner.clone(), jobs.clone());
-        let reads = move || inner.run_jobs(&jobs);
-        threads.push(spawn(&format!("reader-{number}"), reads)?);
-    }
-    let ticking = inner.clone();
-    threads.push(spawn("waits", move || ticking.tick_all())?);
-    Ok(threads)
 }
 
 /// Watches all records, and where other processes have servers the states of those; nothing is missed from then on.

@@ -16,7 +16,10 @@ mod compact_fault;
 mod control;
 mod core_fault;
 mod decision;
+// Shards are told the time, so that they can be simulated: clippy.toml names what they don't call.
+#[deny(clippy::disallowed_methods)]
 mod durable;
+mod durable_threads;
 mod elsewhere;
 mod intent;
 mod join_fault;
@@ -39,7 +42,6 @@ mod round;
 mod round_step;
 mod run;
 mod server_state;
-// Shards are told the time, so that they can be simulated: clippy.toml names what they don't call.
 #[deny(clippy::disallowed_methods)]
 mod shard;
 mod size;
