@@ -41,6 +41,8 @@ pub struct Controller {
     pub(super) peers: Option<Arc<dyn OtherControls>>,
     /// Whether another process leads, as far as a command told.
     pub(super) is_lost: bool,
+    /// Whether a server may have failed since a leader went on with the shards of those that had.
+    pub(super) has_fallen: bool,
     /// The servers of which a step may be made that nobody noted, as the store didn't say so.
     unnoted: BTreeSet<u16>,
     /// The shards that migrations pause, as their owners have failed.
@@ -59,6 +61,7 @@ impl Controller {
             restarting: BTreeMap::new(),
             peers: None,
             is_lost: false,
+            has_fallen: false,
             unnoted: BTreeSet::new(),
             paused: BTreeSet::new(),
         }
@@ -140,6 +143,8 @@ impl Controller {
         let is_elsewhere =
             |it: &BackendFault| matches!(it, BackendFault::Refused(Refused::NotLeader));
         self.is_lost |= made.as_ref().is_err_and(is_elsewhere);
+        // It may be made, whatever the store says of it.
+        self.has_fallen |= matches!(command, ControlCommand::Fail(_));
         match command.subject() {
             Subject::Server(server) => {
                 let made = made.map_err(|fault| Refusal::of_command(&fault, command, None));

@@ -102,8 +102,6 @@ struct LeaderWatch {
     assigns: Option<Instant>,
     /// Whether others know that this process leads.
     is_known: bool,
-    /// Whether a server may have failed since it went on with the shards of those that had.
-    has_fallen: bool,
     /// Whether this process's server is back from a stop, and not up yet.
     is_back: Arc<AtomicBool>,
 }
@@ -115,7 +113,6 @@ impl LeaderWatch {
             has_begun: false,
             assigns: assigns.then_some(now + FIRST_WAIT),
             is_known: false,
-            has_fallen: false,
             is_back,
         }
     }
@@ -158,12 +155,10 @@ impl LeaderWatch {
         control.resume_left()
     }
 
-    /// Has servers have failed that aren't there any more, and goes on with their shards: at the next look where the
-    /// store doesn't let it now.
+    /// Has servers have failed that aren't there any more, and goes on with their shards, and with those of servers that
+    /// somebody had have failed: at the next look where the store doesn't let it now.
     fn have_fail(&mut self, control: &mut Controller) -> Result<(), Refusal> {
         while let Some(server) = control.backend.fallen()? {
-            // It may be made, whatever the store says of it.
-            self.has_fallen = true;
             match control.make(ControlCommand::Fail(server)) {
                 // It is back under a new lease: the next look reads anew who is there.
                 Err(refusal) if refusal.is_still_there() => {
@@ -173,9 +168,9 @@ impl LeaderWatch {
                 made => made?,
             }
         }
-        if self.has_fallen {
+        if control.has_fallen {
             go_on_with_shards(control)?;
-            self.has_fallen = false;
+            control.has_fallen = false;
         }
         Ok(())
     }
@@ -303,10 +298,11 @@ fn have_one_back(control: &mut Controller, server: u16) -> Result<(), Refusal> {
 #[cfg(test)]
 mod tests {
     use super::super::backend::{Backend, BackendFault};
+    use super::super::plain_backend::PlainBackend;
     use super::super::progress::Doing;
     use super::super::{ControlHost, ReplyTo};
     use super::*;
-    use durkenzo::{Plan, PlanFault, Record};
+    use durkenzo::{Plan, PlanFault, Record, Stand};
     use durkenzo_driver::{Clock, Refused};
 
     /// A program that shows nothing.
@@ -429,12 +425,26 @@ mod tests {
     }
 
     #[test]
+    fn shards_go_on_once_somebody_had_their_server_have_failed() {
+        let backend = PlainBackend::of(2, Stand::Serving(1));
+        backend.plain().stands[1] = Stand::Prepared { owner: 1, next: 2 };
+        let mut control = backend.control();
+        let mut watch = LeaderWatch::new(false, Arc::default(), control.now());
+        watch.have_fail(&mut control).unwrap();
+        assert!(control.tasks.is_empty());
+        control.make(ControlCommand::Fail(2)).unwrap();
+        watch.have_fail(&mut control).unwrap();
+        let going_on: Vec<_> = control.tasks.iter().map(Task::shard_going_on).collect();
+        assert_eq!(going_on, [Some(1)]);
+    }
+
+    #[test]
     fn a_server_that_is_back_holds_up_nothing() {
         let is_led_elsewhere = false;
         let (mut control, mut watch, began) = begun(Returning { is_led_elsewhere });
         watch.have_fail(&mut control).unwrap();
         // Who is there is read again at the next look, which comes no sooner.
         assert_eq!(watch.due, began + PAUSE);
-        assert!(!watch.has_fallen && !control.is_lost);
+        assert!(!control.has_fallen && !control.is_lost);
     }
 }
