@@ -1,10 +1,11 @@
 //! Runs schedules, and says what was broken, with the seed that shows it again.
 //!
 //!     simulation [--schedules N] [--seed S] [--bug NAME] [--seconds T]
+//!     simulation --transcript S
 use rustix::time::{clock_gettime, ClockId};
 use simulation::bug::{Bug, BUGS};
 use simulation::tally::Tally;
-use simulation::world::run;
+use simulation::world::{run, transcript};
 use std::process::ExitCode;
 use std::time::{Duration, Instant};
 
@@ -13,6 +14,8 @@ struct Options {
     seed: u64,
     seconds: u64,
     bug: Option<Bug>,
+    /// The seed of the schedule of which all is shown.
+    transcript: Option<u64>,
 }
 
 fn wanted() -> Option<Options> {
@@ -21,6 +24,7 @@ fn wanted() -> Option<Options> {
         seed: 1,
         seconds: u64::MAX,
         bug: None,
+        transcript: None,
     };
     let mut words = std::env::args().skip(1);
     while let Some(word) = words.next() {
@@ -30,6 +34,7 @@ fn wanted() -> Option<Options> {
             "--seed" => wanted.seed = value.parse().ok()?,
             "--seconds" => wanted.seconds = value.parse().ok()?,
             "--bug" => wanted.bug = Some(*BUGS.iter().find(|it| format!("{it:?}") == value)?),
+            "--transcript" => wanted.transcript = Some(value.parse().ok()?),
             _ => return None,
         }
     }
@@ -41,6 +46,10 @@ fn main() -> ExitCode {
         eprintln!("usage: simulation [--schedules N] [--seed S] [--seconds T] [--bug NAME]; bugs: {BUGS:?}");
         return ExitCode::from(2);
     };
+    if let Some(seed) = wanted.transcript {
+        println!("{}", transcript(seed));
+        return ExitCode::SUCCESS;
+    }
     let (begun, mut all, mut count) = (Instant::now(), Tally::default(), 0);
     let limit = Duration::from_secs(wanted.seconds.min(1 << 40));
     while count < wanted.schedules && begun.elapsed() < limit {
