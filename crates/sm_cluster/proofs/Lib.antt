@@ -1,8 +1,5 @@
-pub mod Calling
 pub mod Holding
 pub mod Placing
 pub mod Publishing
-pub mod Replying
 pub mod Stopping
 pub mod Telling
-pub mod Travelling

@@ -15,7 +15,7 @@ use Rattle.sm_rule.specs.Passes.{PassValue}
 use Rattle.sm_rule.specs.Views.{Begins}
 use Rattle.sm_rule.specs.lemmas.Passing.{begins_begins}
 use Rattle.sm_server.specs.Answers.{AnswerValue, IsAnswer}
-use Rattle.sm_cluster.specs.Calls.{ClientValue}
+use Rattle.sm_calls.specs.Calls.{ClientValue}
 use Rattle.sm_cluster.specs.Clusters.{ClusterValue, WasStopped}
 use Rattle.sm_cluster.specs.Holding.{AreEndedIn}
 use Rattle.sm_cluster.proofs.Placing.{stands_in}

@@ -11,7 +11,7 @@ use Rattle.sm_server.specs.declared.checkpoint_fault.CheckpointFault.TheVariants
 use Rattle.sm_cluster.specs.declared.hold_fault.HoldFault.{HoldFault}
 use Rattle.sm_cluster.specs.declared.hold_fault.HoldFault.TheVariants as hold
 use Rattle.sm_cluster.specs.Clusters.{ClusterValue, TellsMore}
-use Rattle.sm_cluster.specs.Passes.{IsNewPass}
+use Rattle.sm_calls.specs.Passes.{IsNewPass}
 
 -- why a shard makes no checkpoint, as the cluster says it
 abbrev pub hold_fault_of : CheckpointFault → HoldFault

@@ -13,9 +13,9 @@ use Rattle.sm_rule.specs.Passes.{PassAdds, PassLooks, PassValue}
 use Rattle.sm_rule.specs.Views.{Begins}
 use Rattle.sm_cluster.specs.declared.hold_fault.HoldFault.{HoldFault}
 use Rattle.sm_cluster.specs.declared.hold_fault.HoldFault.TheVariants as hold
-use Rattle.sm_cluster.specs.Calls.{ClientValue, client_seeing}
+use Rattle.sm_calls.specs.Calls.{ClientValue, client_seeing}
 use Rattle.sm_cluster.specs.Holding.{AreEndedIn, IsHold, IsTurnedAway, hold_at}
-use Rattle.sm_cluster.specs.Passes.{IsNewPass}
+use Rattle.sm_calls.specs.Passes.{IsNewPass}
 
 -- a cluster: its control, the published map, the bounds of the shards, the pass by which each shard is held, if any,
 -- and the history that it tells, which has what its calls have done

@@ -10,7 +10,7 @@ use Rattle.sm_rule.specs.Admissions.{PassAdmitted, RefusedBy, held_admission}
 use Rattle.sm_rule.specs.Boards.{BoardValue}
 use Rattle.sm_rule.specs.Passes.{PassAdds, PassLooks, PassValue}
 use Rattle.sm_rule.specs.Views.{Begins}
-use Rattle.sm_cluster.specs.Passes.{IsNewPass}
+use Rattle.sm_calls.specs.Passes.{IsNewPass}
 
 -- the pass by which the shard is held, if any
 abbrev pub hold_at : {Q : Type 0} → List (Option (PassValue Q)) → ℕ → Option (PassValue Q)

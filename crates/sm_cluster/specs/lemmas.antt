@@ -1,3 +1,2 @@
 -- Lemmas that the proofs of crates above cite.
-pub mod Calling
 pub mod Since

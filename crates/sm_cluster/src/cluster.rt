@@ -9,11 +9,9 @@ mod stopping;
 mod telling;
 
 use crate::crew::Crew;
-use crate::ground::Ground;
 use crate::holds::Holds;
-use crate::message::Message;
-use crate::network::Network;
 use sm_body::service::Service;
+use sm_calls::{Ground, Message, Network};
 use sm_control::Control;
 use sm_desk::Desk;
 use sm_publish::Publisher;

@@ -1,12 +1,9 @@
 //! The threads of a cluster: for each server a team of workers, which share an inbox.
 ghost use Rattle.std.specs.Prelude.{◌≢◌, IfErr};
 
-use crate::gate::Gate;
-use crate::message::Message;
-use crate::network::Network;
 use crate::start_fault::StartFault;
-use crate::worker::work;
 use sm_body::service::Service;
+use sm_calls::{Gate, Message, Network, work};
 use sm_inbox::Inbox;
 use sm_ranges::server_id::ServerId;
 use std::alloc::Global;

@@ -11,7 +11,7 @@ ghost use Rattle.sm_ranges.specs.Ranges.{shard_of};
 ghost use Rattle.sm_rule.specs.Bodies.{Keeps};
 ghost use Rattle.sm_rule.specs.Views.{Begins};
 ghost use Rattle.sm_server.specs.Answers.{AnswerValue, IsAnswer};
-ghost use Rattle.sm_cluster.specs.Calls.{ClientValue, Gives};
+ghost use Rattle.sm_calls.specs.Calls.{ClientValue, Gives};
 ghost use Rattle.sm_cluster.specs.Clusters.{ClusterValue, WasStopped};
 
 use sm_body::service::Service;

@@ -7,9 +7,9 @@ use Rattle.sm_ranges.specs.Ranges.{shard_of}
 use Rattle.sm_rule.specs.lemmas.Passing.{begins_begins}
 use Rattle.sm_server.specs.Answers.{AnswerValue, IsAnswer}
 use Rattle.sm_server.specs.lemmas.Beginnings.{none_begins}
-use Rattle.sm_cluster.specs.Calls.{ClientValue, Gives}
-use Rattle.sm_cluster.specs.Since.{IsClientSince}
-use Rattle.sm_cluster.specs.lemmas.Since.{since_since}
+use Rattle.sm_calls.specs.Calls.{ClientValue, Gives}
+use Rattle.sm_calls.specs.Since.{IsClientSince}
+use Rattle.sm_calls.specs.lemmas.Since.{since_since}
 use Rattle.sm_load.specs.Loads.{HasLearned, HasLearnedCount, HasLearnedCounts, HasLearnedReply}
 
 module _ {Q R : Type 0} (service : Meaning Q R) (request : Q) where

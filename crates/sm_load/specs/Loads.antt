@@ -4,8 +4,8 @@ use Rattle.std.specs.Prelude.{slice_index_or, unwrap_or}
 use Rattle.sm_body.specs.Service.{Meaning}
 use Rattle.sm_rule.specs.Views.{Begins}
 use Rattle.sm_server.specs.Answers.{AnswerValue}
-use Rattle.sm_cluster.specs.Calls.{ClientValue, Gives}
-use Rattle.sm_cluster.specs.Since.{IsClientSince}
+use Rattle.sm_calls.specs.Calls.{ClientValue, Gives}
+use Rattle.sm_calls.specs.Since.{IsClientSince}
 use Rattle.sm_load.specs.declared.loading.LoadReport.{LoadReport}
 
 -- each of the clients is of the same board with the same bounds, and has seen no less

@@ -1,16 +1,18 @@
 //! A load: many clients call at once.
 ghost use Rattle.std.specs.Prelude.{◌≡◌, ◌+◌, ◌-◌, ◌*◌, ◌<◌, ◌^◌, ◌⊎◌, IfErr, IfOk, IfSome, MatchBool, None, length};
 ghost use Rattle.sm_body.specs.Service.{meaning_of};
-ghost use Rattle.sm_cluster.specs.Calls.{HandsBack};
-ghost use Rattle.sm_cluster.specs.Since.{IsClientSince};
+ghost use Rattle.sm_calls.specs.Calls.{HandsBack};
+ghost use Rattle.sm_calls.specs.Since.{IsClientSince};
 ghost use Rattle.sm_load.specs.Loads.{AreClientsSince, HasAdded, HasLearnedCount, HasLearnedReply, HaveAdded};
 ghost use Rattle.sm_load.specs.Loads.{HaveLoaded, WasTold, WasToldTwice};
 
 use crate::counting::Counting;
 use crate::inc_counts::{IncCounts, count_all};
 use sm_body::service::Service;
-use sm_cluster::{AdmitRefusal, CallFault, CallRefused, Client, Refusal};
+use sm_calls::{CallFault, CallRefused, Client};
 use sm_ownership::admit_fault::AdmitFault;
+use sm_rule::admit_refusal::AdmitRefusal;
+use sm_server::Refusal;
 use std::alloc::Global;
 use std::sync::Wait;
 use std::thread::Threads;
@@ -128,7 +130,7 @@ fn inc_each<S: Service, C: Counting<S::Request, S::Reply>, R: Wait>(
 }
 
 // Makes an inc, and says whether it was answered by a count.
-#[tactic(auto, using(sm_cluster::specs::lemmas::Since::since_same, sm_cluster::specs::lemmas::Since::since_since))]
+#[tactic(auto, using(sm_calls::specs::lemmas::Since::since_same, sm_calls::specs::lemmas::Since::since_since))]
 fn inc<S: Service, C: Counting<S::Request, S::Reply>, R: Wait>(
     rt: &R,
     alloc: Global,
@@ -151,7 +153,7 @@ fn inc<S: Service, C: Counting<S::Request, S::Reply>, R: Wait>(
 }
 
 // The count that a call gives, 0 where it gives none; or nothing where it is refused.
-#[tactic(auto, using(sm_cluster::specs::lemmas::Since::since_same, sm_cluster::specs::lemmas::Since::since_since))]
+#[tactic(auto, using(sm_calls::specs::lemmas::Since::since_same, sm_calls::specs::lemmas::Since::since_since))]
 fn count<S: Service, C: Counting<S::Request, S::Reply>, R: Wait>(
     rt: &R,
     alloc: Global,
@@ -174,7 +176,7 @@ fn count<S: Service, C: Counting<S::Request, S::Reply>, R: Wait>(
 
 // The reply to the request, which is made anew where its shard was admitted for another one; or nothing where it is
 // refused.
-#[tactic(auto, using(sm_cluster::specs::lemmas::Since::since_same, sm_cluster::specs::lemmas::Since::since_since))]
+#[tactic(auto, using(sm_calls::specs::lemmas::Since::since_same, sm_calls::specs::lemmas::Since::since_since))]
 fn ask<S: Service, R: Wait>(
     rt: &R,
     alloc: Global,

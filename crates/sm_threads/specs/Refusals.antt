@@ -3,8 +3,8 @@ use Rattle.std.specs.Prelude.{Option, Some, None}
 use Rattle.sm_cluster.specs.AdmitRefusal.{AdmitRefusal}
 use Rattle.sm_cluster.specs.AdmitRefusal.TheVariants as admit
 use Rattle.sm_cluster.specs.Refusal.TheVariants as server
-use Rattle.sm_cluster.specs.declared.call_refused.CallFault.{CallFault}
-use Rattle.sm_cluster.specs.declared.call_refused.CallFault.TheVariants as call
+use Rattle.sm_cluster.specs.CallFault.{CallFault}
+use Rattle.sm_cluster.specs.CallFault.TheVariants as call
 use Rattle.sm_cluster.specs.declared.hold_fault.HoldFault.{HoldFault}
 use Rattle.sm_cluster.specs.declared.hold_fault.HoldFault.TheVariants as hold
 use Rattle.sm_cluster.specs.declared.start_fault.StartFault.{StartFault}

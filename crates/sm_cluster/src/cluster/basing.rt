@@ -2,7 +2,7 @@
 ghost use Rattle.std.specs.Prelude.{◌≡◌, ◌<◌};
 ghost use Rattle.sm_cluster.specs.Basing.{HasBased, IsBasedBy};
 ghost use Rattle.sm_cluster.specs.Clusters.{TellsMore};
-ghost use Rattle.sm_cluster.specs.Passes.{IsNewPass};
+ghost use Rattle.sm_calls.specs.Passes.{IsNewPass};
 
 use super::Cluster;
 use crate::hold_fault::HoldFault;

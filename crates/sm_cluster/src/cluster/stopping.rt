@@ -7,10 +7,9 @@ ghost use Rattle.sm_rule.specs.Views.{Begins};
 ghost use Rattle.sm_cluster.specs.Clusters.{IsClientOf, WasStopped};
 
 use super::Cluster;
-use crate::client::Client;
-use crate::ground::Ground;
 use crate::stop_fault::StopFault;
 use sm_body::service::Service;
+use sm_calls::{Client, Ground};
 use sm_control::Control;
 use sm_ownership::record::Record;
 use sm_rule::board::Board;

@@ -5,8 +5,8 @@ ghost use Rattle.sm_rule.specs.Views.{Begins};
 ghost use Rattle.sm_cluster.specs.Clusters.{HasTold};
 
 use super::Cluster;
-use crate::client::Client;
 use sm_body::service::Service;
+use sm_calls::Client;
 use sm_control::Control;
 use sm_rule::board::Board;
 use sm_rule::pass::Pass;

@@ -1,7 +1,7 @@
 use Rattle.std.proofs.Common.{refl, subst}
 use Rattle.sm_body.specs.Service.{meaning_of}
 use Rattle.sm_load.specs.Loads.{HasLearnedReply}
-use Rattle.sm_cluster.specs.lemmas.Since.{since_same}
+use Rattle.sm_calls.specs.lemmas.Since.{since_same}
 use Rattle.sm_load.proofs.Acking.{reply_before}
 use Rattle.sm_load.proofs.loading.ask.Goals as goal
 

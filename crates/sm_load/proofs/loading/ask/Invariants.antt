@@ -1,5 +1,5 @@
 use Rattle.std.proofs.Common.{◌≡◌}
-use Rattle.sm_cluster.specs.Since.{IsClientSince}
+use Rattle.sm_calls.specs.Since.{IsClientSince}
 use Rattle.sm_load.proofs.loading.ask.Given as goal
 
 -- the request is the one that was asked for, and the client has seen no less

@@ -1,7 +1,7 @@
 use Rattle.std.proofs.Common.{◌≡◌, rules, subst}
 use Rattle.std.specs.Option.{is_some}
 use Rattle.sm_body.specs.Service.{meaning_of}
-use Rattle.sm_cluster.specs.Since.{IsClientSince}
+use Rattle.sm_calls.specs.Since.{IsClientSince}
 use Rattle.sm_load.specs.Loads.{HasLearnedCount, HasLearnedReply}
 use Rattle.sm_load.proofs.Acking.{told_or_not}
 use Rattle.sm_load.proofs.loading.inc.Goals as goal

@@ -1,6 +1,6 @@
 use Rattle.std.proofs.Common.{subst}
 use Rattle.sm_body.specs.Service.{meaning_of}
-use Rattle.sm_cluster.specs.Calls.{ClientValue}
+use Rattle.sm_calls.specs.Calls.{ClientValue}
 use Rattle.sm_load.specs.Loads.{HasAdded}
 use Rattle.sm_load.proofs.Adding.{weaker}
 use Rattle.sm_load.proofs.loading.inc_all.Goals as goal

@@ -1,6 +1,6 @@
 use Rattle.std.proofs.Common.{refl}
 use Rattle.sm_body.specs.Service.{meaning_of}
-use Rattle.sm_cluster.specs.lemmas.Since.{since_same}
+use Rattle.sm_calls.specs.lemmas.Since.{since_same}
 use Rattle.sm_load.proofs.Acking.{one_more}
 use Rattle.sm_load.proofs.loading.inc_each.Goals as goal
 

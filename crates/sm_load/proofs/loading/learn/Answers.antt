@@ -1,7 +1,7 @@
 use Rattle.std.proofs.Common.{◌≡◌, rules}
 use Rattle.sm_body.specs.Service.{meaning_of}
 use Rattle.sm_rule.specs.lemmas.Passing.{met_begins}
-use Rattle.sm_cluster.specs.lemmas.Calling.{called_gives}
+use Rattle.sm_calls.specs.lemmas.Calling.{called_gives}
 use Rattle.sm_load.proofs.loading.learn.Goals as goal
 
 pub returns-in-Ok-clause-learned : goal.returns-in-Ok-clause-learned

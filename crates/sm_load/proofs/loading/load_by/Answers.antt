@@ -1,6 +1,6 @@
 use Rattle.sm_body.specs.Service.{meaning_of}
-use Rattle.sm_cluster.specs.Since.{IsClientSince}
-use Rattle.sm_cluster.specs.lemmas.Since.{since_since}
+use Rattle.sm_calls.specs.Since.{IsClientSince}
+use Rattle.sm_calls.specs.lemmas.Since.{since_since}
 use Rattle.sm_load.specs.Loads.{HasAdded}
 use Rattle.sm_load.proofs.Acking.{counts_since}
 use Rattle.sm_load.proofs.Adding.{as_many, at_each, sums_up}

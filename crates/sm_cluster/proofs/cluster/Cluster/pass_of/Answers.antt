@@ -1,7 +1,7 @@
 use Rattle.std.proofs.Common.{◌≡◌, rules, subst}
 use Rattle.sm_rule.specs.Views.{Begins}
 use Rattle.sm_cluster.specs.Clusters.{ClusterValue}
-use Rattle.sm_cluster.proofs.Travelling.{new_told}
+use Rattle.sm_calls.specs.lemmas.Passes.{new_told}
 use Rattle.sm_cluster.proofs.cluster.Cluster.pass_of.Goals as goal
 
 pub returns-clause-new : goal.returns-clause-new

@@ -4,7 +4,7 @@ use Rattle.std.specs.Prelude.{All, ℕ, map}
 use Rattle.std.proofs.lemmas.List.{map-append}
 use Rattle.sm_publish.specs.Seen.{RouterView}
 use Rattle.std.proofs.lemmas.List.Elements.{All-push}
-use Rattle.sm_cluster.specs.Calls.{ClientValue}
+use Rattle.sm_calls.specs.Calls.{ClientValue}
 use Rattle.sm_cluster.proofs.cluster.starting.clients_of.Goals as goal
 
 pub loop-router-preserved : goal.loop-router-preserved

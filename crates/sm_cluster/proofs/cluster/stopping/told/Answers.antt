@@ -4,9 +4,9 @@ use Rattle.std.proofs.lemmas.List.Elements.{All-cons, All-tail}
 use Rattle.sm_rule.specs.Passes.{PassValue}
 use Rattle.sm_rule.specs.Views.{Begins}
 use Rattle.sm_rule.specs.lemmas.Passing.{begins_begins, looks_begins, met_begins}
-use Rattle.sm_cluster.specs.Calls.{ClientValue}
+use Rattle.sm_calls.specs.Calls.{ClientValue}
 use Rattle.sm_cluster.proofs.Stopping.{all_of_nobody}
-use Rattle.sm_cluster.proofs.Travelling.{begins_same}
+use Rattle.sm_calls.specs.lemmas.Passes.{begins_same}
 use Rattle.sm_cluster.proofs.cluster.stopping.told.Goals as goal
 
 pub loop-client-init : goal.loop-client-init

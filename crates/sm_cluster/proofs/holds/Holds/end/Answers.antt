@@ -5,7 +5,7 @@ use Rattle.sm_rule.specs.Passes.{PassValue}
 use Rattle.sm_rule.specs.lemmas.Passing.{begins_begins}
 use Rattle.sm_cluster.specs.Holding.{AreEndedIn, HasEndedIn, HoldsShard}
 use Rattle.sm_cluster.proofs.Holding.{EachHold, each_front, each_more, each_slot, ended_last, ended_nothing}
-use Rattle.sm_cluster.proofs.Travelling.{begins_same}
+use Rattle.sm_calls.specs.lemmas.Passes.{begins_same}
 use Rattle.sm_cluster.proofs.holds.Holds.end.Goals as goal
 
 pub loop-slot-init : goal.loop-slot-init

@@ -1,0 +1,7 @@
+pub mod Calls
+pub mod Exchanging
+pub mod Passes
+pub mod Replies
+pub mod Since
+pub mod Telling
+pub mod lemmas

@@ -1,0 +1,89 @@
+-- What may be sent as the reply to a call.
+use Rattle.std.specs.Prelude.{ℕ, ◌≡◌, List, [], ◌∷◌, Option, Some, None, length}
+use mathlib.Core.Option.{some}
+use lib.ListN.{get_elem?}
+use Rattle.sm_body.specs.Service.{Meaning}
+use Rattle.sm_ownership.specs.declared.mode.Mode.{Mode}
+use Rattle.sm_ownership.specs.declared.entry.Entry.{Entry}
+use Rattle.sm_ownership.specs.History.{NoneBy}
+use Rattle.sm_rule.specs.Passes.{PassValue}
+use Rattle.sm_rule.specs.Views.{Begins}
+use Rattle.sm_server.specs.Answers.{AnswerValue, IsAnswer}
+use Rattle.sm_server.specs.declared.refusal.Refusal.{Refusal}
+use Rattle.sm_server.specs.declared.outcome.Outcome.TheVariants as outcome
+use Rattle.sm_server.specs.Serving.{Sent, Served, is_here}
+use Rattle.sm_calls.specs.declared.call_refused.CallFault.{CallFault}
+use Rattle.sm_calls.specs.declared.call_refused.CallFault.TheVariants as call
+use Rattle.sm_calls.specs.declared.reply.CallReply.{CallReply}
+use Rattle.sm_calls.specs.declared.reply.CallReply.TheVariants.{Answered, Refused}
+use Rattle.sm_calls.specs.Passes.{IsNewPass}
+
+-- a call: the bounds of the shards by which it is served, and its envelope
+pub record CallValue (Q : Type 0) : Type 0 where
+  pub bounds : List (List ℕ)
+  pub sent : Sent Q
+
+-- an answer to the call whose envelope was first sent so: its history extends what the envelope's note had seen, by
+-- the entries by which the request was executed among others
+pub record IsAnswerTo {Q R : Type 0} (service : Meaning Q R) (sent : Sent Q) (answer : AnswerValue Q R) : Type 0 where
+  pub number : answer.number ≡ sent.number
+  pub board : answer.note.board ≡ sent.note.board
+  pub told : Begins sent.note.seen answer.note.seen
+  pub untold : NoneBy answer.note.number sent.note.seen
+  pub mode : Mode
+  pub executed : IsAnswer service sent.shard mode sent.request answer
+
+-- the envelope of that call on its way: with its number, shard and request, and with a note that has seen what the
+-- first one had
+pub record IsOnTheWay {Q : Type 0} (sent envelope : Sent Q) : Type 0 where
+  pub number : envelope.number ≡ sent.number
+  pub shard : envelope.shard ≡ sent.shard
+  pub request : envelope.request ≡ sent.request
+  pub board : envelope.note.board ≡ sent.note.board
+  pub told : Begins sent.note.seen envelope.note.seen
+
+-- a server's step on the envelope of that call, on its way, refused it for this reason: by a new pass of the server,
+-- which had seen what the call's first note had. What the pass then has seen, and the note that the step gave back, is
+-- told
+pub record IsRefusalTo {Q R : Type 0} (service : Meaning Q R) (asked : CallValue Q) (refusal : Refusal)
+    (told : List (Entry Q)) : Type 0 where
+  pub envelope : Sent Q
+  pub back : Sent Q
+  pub server : ℕ
+  pub before : PassValue Q
+  pub way : IsOnTheWay asked.sent envelope
+  pub new : IsNewPass asked.sent.note.board server asked.sent.note.seen before
+  pub served : Served service (is_here service asked.bounds asked.sent.note.board.limits.count envelope) before
+      envelope (outcome.Refused refusal back)
+  pub given : Begins back.note.seen told
+
+-- what may hold a message up on its way: a shut door, or want of memory
+abbrev pub IsOfTheWay : CallFault → Type 0
+IsOfTheWay call.Unreachable = Unit {0}
+IsOfTheWay call.NoMemory = Unit {0}
+IsOfTheWay fault = ⊥
+
+-- why the envelope of that call comes back: a server's refusal comes with a note of all by which it was decided
+abbrev pub ComesBackFor : {Q R : Type 0} → Meaning Q R → CallValue Q → CallFault → Sent Q → Type 0
+ComesBackFor service asked (call.Refused refusal) back = IsRefusalTo service asked refusal back.note.seen
+ComesBackFor service asked fault back = IsOfTheWay fault
+
+-- what may be sent as the reply to a call: nothing before it is known
+abbrev pub Fits : {Q R : Type 0} → Meaning Q R → Option (CallValue Q) → CallReply (AnswerValue Q R) (Sent Q) → Type 0
+Fits service None reply = ⊥
+Fits service (Some asked) (Answered answer) = IsAnswerTo service asked.sent answer
+Fits service (Some asked) (Refused fault envelope) =
+    IsOnTheWay asked.sent envelope × ComesBackFor service asked fault envelope
+
+abbrev pub AllFit : {T : Type 0} → (T → Type 0) → List T → Type 0
+AllFit Fit [] = Unit {0}
+AllFit Fit (reply ∷ replies) = Fit reply × AllFit Fit replies
+
+-- the rule of a reply's channel: each pass knows the same call, and each reply fits it; before the call is known there
+-- is one pass
+pub record HoldsReplies {Q R : Type 0} (service : Meaning Q R) (replies : List (CallReply (AnswerValue Q R) (Sent Q)))
+    (views : List (Option (CallValue Q))) : Type 0 where
+  pub asked : Option (CallValue Q)
+  pub agree : (pass : ℕ) (view : Option (CallValue Q)) → get_elem? views pass ≡ some view → view ≡ asked
+  pub fit : AllFit (Fits service asked) replies
+  pub alone : asked ≡ None → length views ≡ 1

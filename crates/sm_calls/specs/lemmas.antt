@@ -1,0 +1,4 @@
+-- Lemmas that the proofs of crates above cite.
+pub mod Calling
+pub mod Passes
+pub mod Since

@@ -1,0 +1,177 @@
+//! The requests of calls on their way.
+ghost use Rattle.std.specs.Prelude.{◌≡◌, Some};
+ghost use Rattle.std.specs.Arc.{arc_value};
+ghost use Rattle.sm_body.specs.Service.{meaning_of};
+ghost use Rattle.sm_calls.specs.Replies.{CallValue, IsOnTheWay};
+ghost use Rattle.sm_calls.specs.Passes.{IsNewPass};
+ghost use Rattle.sm_calls.specs.Telling.{IsNotedAgain, Tells};
+
+use crate::call_refused::CallFault;
+use crate::ground::Ground;
+use crate::network::Network;
+use crate::reply::{CallReply, ReplySender};
+use sm_body::service::Service;
+use sm_counts::tally::Tally;
+use sm_envelope::envelope::Envelope;
+use sm_inbox::SendFault;
+use sm_ranges::server_id::ServerId;
+use sm_rule::admit_refusal::AdmitRefusal;
+use sm_rule::note::Note;
+use sm_rule::pass::Pass;
+use sm_server::{Answer, Outcome, Refusal, serve};
+use std::marker::Model;
+use std::sync::{Arc, Wait};
+
+/// A request on its way, with its board and layout, and the end on which its reply is sent. Contracts see the bounds by
+/// which it is served, and its envelope. By its type the note is of the board, and the bounds and the envelope are
+/// those of the call to which the reply goes.
+#[derive(Drop)]
+pub struct Message<S: Service> {
+    ground: Arc<Ground<S>>,
+    envelope: Envelope<S::Request, Note<S>>,
+    sender: ReplySender<S>,
+}
+
+impl<S: Service> Model for Message<S> {
+    ghost Value = { CallValue S.Request };
+
+    ghost view = { λ message. record { bounds = (arc_value message.ground).layout; sent = message.envelope } };
+
+    ghost invariant = { λ message. (message.envelope.note.board ≡ (arc_value message.ground).board)
+        × (asked : CallValue S.Request) × (message.sender ≡ Some asked)
+        × (asked.bounds ≡ (arc_value message.ground).layout)
+        × IsOnTheWay asked.sent message.envelope };
+}
+
+impl<S: Service> Message<S> {
+    /// The message of a new call.
+    pub(crate) fn new(
+        ground: Arc<Ground<S>>,
+        envelope: Envelope<S::Request, Note<S>>,
+        sender: ReplySender<S>,
+    ) -> Message<S>
+        requires board { envelope.note.board ≡ (arc_value ground).board }
+        requires sender { sender ≡ Some (record { bounds = (arc_value ground).layout; sent = envelope }) }
+        ensures { result ≡ record { bounds = (arc_value ground).layout; sent = envelope } }
+    {
+        Message {
+            ground,
+            envelope,
+            sender,
+        }
+    }
+
+    /// The number of the call.
+    pub(crate) fn number(&self) -> u64
+        ensures { result ≡ self.now.sent.number }
+    {
+        self.envelope.number()
+    }
+
+    /// The envelope; the call is let go.
+    pub(crate) fn into_envelope(self) -> Envelope<S::Request, Note<S>>
+        ensures { result ≡ self.sent }
+    {
+        self.envelope
+    }
+
+    /// Sends the fault of the way back with the envelope.
+    pub(crate) fn refuse<R: Wait>(self, rt: &R, fault: SendFault) {
+        let Message {
+            ground: _,
+            envelope,
+            sender,
+        } = self;
+        sender.send(rt, CallReply::Refused(CallFault::from(fault), envelope));
+    }
+
+    /// Has the server serve it by a new pass, which its tally counts, and sends the reply, or the message on to the
+    /// server that it goes to. Where another actor was quicker between the server's look and its admission, nothing was
+    /// done, and the message goes into the server's own inbox again.
+    pub(crate) fn serve<R: Wait>(
+        self,
+        rt: &R,
+        network: &Network<Message<S>>,
+        server: ServerId,
+        tally: Option<&Tally>,
+    ) {
+        let Message {
+            ground,
+            envelope,
+            sender,
+        } = self;
+        let outcome = serve_anew(&*ground, server, envelope);
+        if let Some(tally) = tally {
+            tally.count(&outcome);
+        }
+        match outcome {
+            Outcome::Answered(answer) => sender.send(rt, CallReply::Answered(answer)),
+            Outcome::Refused(refusal, envelope) => {
+                if is_overtaken(&refusal) {
+                    let message = Message {
+                        ground,
+                        envelope,
+                        sender,
+                    };
+                    message.forward(rt, network, server);
+                } else {
+                    sender.send(
+                        rt,
+                        CallReply::Refused(CallFault::Refused(refusal), envelope),
+                    );
+                }
+            }
+            Outcome::Forward(to, envelope) => {
+                let message = Message {
+                    ground,
+                    envelope,
+                    sender,
+                };
+                message.forward(rt, network, to);
+            }
+        }
+    }
+
+    // Sends it on to the server, or the fault back.
+    fn forward<R: Wait>(self, rt: &R, network: &Network<Message<S>>, to: ServerId) {
+        if let Err(unsent) = network.send(rt, to, self) {
+            unsent.message.refuse(rt, unsent.fault);
+        }
+    }
+}
+
+// Whether another actor was quicker between the server's look and its admission.
+fn is_overtaken(refusal: &Refusal) -> bool {
+    matches!(refusal, Refusal::Admit(AdmitRefusal::Raced { .. }))
+}
+
+// What a server makes of an envelope by a new pass, which is first told what the envelope's note had seen. A refused
+// envelope comes back with a note of all by which it was refused.
+fn serve_anew<S: Service>(
+    ground: &Ground<S>,
+    server: ServerId,
+    envelope: Envelope<S::Request, Note<S>>,
+) -> Outcome<Answer<S>, Envelope<S::Request, Note<S>>>
+    requires { envelope.note.board ≡ ground.now.board }
+    ensures { Tells (meaning_of S.initial S.next S.answer S.key_of)
+        (record { bounds = ground.now.layout; sent = envelope }) result }
+{
+    let (mut pass, envelope) = pass_for(ground, server, envelope);
+    serve(&ground.board, &ground.layout, &mut pass, envelope)
+}
+
+// A new pass of the server, which has seen what the envelope's note had, and the envelope with a note of that.
+fn pass_for<S: Service>(
+    ground: &Ground<S>,
+    server: ServerId,
+    envelope: Envelope<S::Request, Note<S>>,
+) -> (Pass<S>, Envelope<S::Request, Note<S>>)
+    requires { envelope.note.board ≡ ground.now.board }
+    ensures pass { IsNewPass ground.now.board server envelope.note.seen result.0 }
+    ensures envelope { IsNotedAgain envelope result.1 }
+{
+    let (request, note, shell) = envelope.parts();
+    let mut pass = ground.pass_told(server, note);
+    let note = ground.board.note(&mut pass);
+    (pass, shell.whole(request, note))
+}
