@@ -136,13 +136,9 @@ fn client(nodes: &[Node], number: u64, progress: &Progress, tolerates: bool) -> 
         };
         let place = usize::from(shard);
         match told {
-            Err(
-                NotDone::Unknown(_)
-                | NotDone::Stopped
-                | NotDone::Busy
-                | NotDone::Unread
-                | NotDone::NotMade(_),
-            ) if tolerates => answered.unknown[place] += i64::from(adds),
+            Err(NotDone::Unknown(_)) if tolerates => answered.unknown[place] += i64::from(adds),
+            Err(NotDone::Stopped | NotDone::Busy | NotDone::Unread | NotDone::NotMade(_))
+                if tolerates => {}
             Err(why) => panic!("it wasn't done: {why}"),
             Ok(_) => {
                 progress.answers.fetch_add(1, Ordering::Relaxed);
@@ -487,8 +483,20 @@ impl Handing for Hanging {
     }
 }
 
-/// Whether a server is there for two lengths of its lease while the store hangs at what it tells, which it then tells.
-fn is_there_though_the_store_hangs() -> bool {
+/// Sleeps for so long, and returns the longest time for which this process stood still meanwhile.
+fn sleep_for(length: Duration) -> Duration {
+    let (end, mut last, mut longest) = (Instant::now() + length, Instant::now(), Duration::ZERO);
+    while last < end {
+        thread::sleep(Duration::from_millis(20));
+        longest = longest.max(last.elapsed());
+        last = Instant::now();
+    }
+    longest
+}
+
+/// Whether a server is there for two lengths of its lease while the store hangs at what it tells, which it then tells;
+/// none if this process itself stood still, so that it kept no lease.
+fn is_there_though_the_store_hangs() -> Option<bool> {
     let store = in_memory();
     let hangs = Arc::new(AtomicBool::new(false));
     let net = Net::new(Reads::Exact, SHORT_LEASE);
@@ -504,16 +512,17 @@ fn is_there_though_the_store_hangs() -> bool {
     hangs.store(true, Ordering::Release);
     // It would tell that it has seen this.
     assign(&mut control, 1);
-    thread::sleep(2 * SHORT_LEASE);
+    let still = sleep_for(2 * SHORT_LEASE);
     let is_there = lies() == before;
     hangs.store(false, Ordering::Release);
     until("it tells something", || lies() != before);
-    is_there
+    (is_there || still < SHORT_LEASE / 2).then_some(is_there)
 }
 
 #[test]
 fn a_server_is_there_though_the_store_hangs_when_it_tells_something() {
-    assert!((0..TRIES).any(|_| is_there_though_the_store_hangs()));
+    let is_there = (0..TRIES).find_map(|_| is_there_though_the_store_hangs());
+    assert!(is_there.expect("the machine lets this process run"));
 }
 
 /// Moves shards about as long as it is let, and counts how often.

@@ -17,9 +17,10 @@ use std::time::{Duration, Instant};
 
 const SHARDS: u16 = 3;
 const CLIENTS: u64 = 6;
-/// How long clients go on at least, and how often each asks.
+/// How long clients go on at least, how often each asks, and for how much longer they go on for that.
 const LASTS: Duration = Duration::from_secs(5);
 const TIMES: u64 = 100;
+const LATEST: Duration = Duration::from_secs(120);
 
 /// What a client asked: of which shard, by which name, and whether it was answered.
 type Asked = (u16, String, bool);
@@ -41,7 +42,7 @@ fn migrate(mut control: DurableControl, stops: &AtomicBool) {
 /// Has a client ask any of the processes by a name of its own each time, as long as it is to.
 fn client(nodes: &[Node], client: u64, end: Instant) -> Vec<Asked> {
     let (mut dice, mut number, mut asked) = (Dice(client), 0, Vec::new());
-    while Instant::now() < end || number < TIMES {
+    while Instant::now() < end || (number < TIMES && Instant::now() < end + LATEST) {
         number += 1;
         let durable = &nodes[dice.below(3) as usize].durable;
         let shard = dice.below(u64::from(SHARDS)) as u16;

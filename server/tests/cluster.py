@@ -38,8 +38,10 @@ SLOW = 6
 PATIENCE = served.SECONDS
 # How soon it is told that a process isn't reached: connecting in vain takes longer.
 SOON = 1.8
-# Where etcd's data lies: in memory, if there is such a folder, so that no disk is waited for.
-ROOM = next((it for it in ("/dev/shm",) if os.access(it, os.W_OK)), None)
+# Where etcd's data lies: in memory, if there is room, so that no disk is waited for. A member takes 64 MB at first.
+MEMORY = "/dev/shm"
+HAS_MEMORY = os.access(MEMORY, os.W_OK) and shutil.disk_usage(MEMORY).free > 1 << 30
+ROOM = MEMORY if HAS_MEMORY else None
 
 
 class Etcd:

@@ -145,7 +145,9 @@ def others_are_answered_while_a_server_restarts(program):
                 raise Missed("the restart was over")
             assert str(found).startswith("REFUSED NotUp"), found
             longest, seen = 0, {1: set(), 2: set()}
+            end = time.monotonic() + 20 * SECONDS
             while not second.is_answered():
+                assert time.monotonic() < end, "the second restart doesn't end"
                 rows, took = timed(control)
                 longest = max(longest, took)
                 for number in seen:
@@ -195,6 +197,7 @@ def a_migration_that_somebody_gives_up_is_told(program):
             caught(lambda: control.ask("SM", "LOOK", 0).startswith("Prepared"), client)
             control.send("SM", "CANCEL", 0)
             if str(told := control.read()) != "OK":
+                assert not control.ask("SM", "LOOK", 0).startswith("Prepared"), told
                 raise Missed(told)
             assert str(found := client.read()).startswith("REFUSED NotMoved"), found
         assert control.ask("SM", "LOOK", 0).startswith("Serving 1 0")
@@ -210,12 +213,12 @@ def a_shard_whose_new_owner_fails_is_served_again(program):
             client.send("SM", "MIGRATE", 0, 2)
             caught(lambda: control.ask("SM", "LOOK", 0).startswith("Taken 2"), client)
             assert control.ask("SM", "FAIL", 2) == "OK"
-            caught(lambda: control.ask("SM", "LOOK", 0).startswith("Paused 2"), client)
+            caught(lambda: control.ask("SM", "LOOK", 0).startswith("Paused 2"), client, "REFUSED NotMoved")
             if is_back:
                 assert control.ask("SM", "BACK", 2) == "OK"
-                if str(told := client.read()) != "OK":
+                if str(told := client.read()).startswith("REFUSED NotMoved"):
                     raise Missed(told)
-                assert control.ask("SM", "LOOK", 0).startswith("Serving 2")
+                assert told == "OK" and control.ask("SM", "LOOK", 0).startswith("Serving 2"), told
             else:
                 assert str(client.read()).startswith("REFUSED NotMoved")
                 assert control.ask("SM", "LOOK", 0).startswith("Serving 1")
@@ -241,6 +244,7 @@ def plans_move_nothing(program):
         assert control.ask("SM", "LOOK", 0).startswith("Serving 1")
 
 
+@again
 def paused_shards_hold_back_who_asks_for_them(program):
     """Others go on, and a command that waited is done at the resume, or refused after --wait."""
     with served(program) as server, server.client() as control, server.client() as client:
@@ -258,8 +262,9 @@ def paused_shards_hold_back_who_asks_for_them(program):
         began = time.monotonic()
         refused = client.piped([("INCR", "held"), ("PING",)])
         assert str(refused[0]).startswith("SHARDPAUSED") and refused[1] == "PONG", refused
-        assert 0.35 < time.monotonic() - began < SECONDS / 2
-        assert control.ask("SM", "RESUME", shard) == "OK" and client.ask("GET", "held") is None
+        took = time.monotonic() - began
+        assert took > 0.35 and control.ask("SM", "RESUME", shard) == "OK" and client.ask("GET", "held") is None
+        within(took, 5, "a refusal")
 
 
 def failed_servers_are_told(program):
@@ -327,6 +332,7 @@ def each_word_tells_how_it_is_written(program):
                 assert f"BadLine: it is written SM {form}" in str(found), (form, found)
 
 
+@again
 def a_server_ends_within_a_restart(program):
     """Which would take minutes, by the pause between the steps of its migrations."""
     with served(program, "--pace", 1_000) as server, server.client() as control:
@@ -335,10 +341,12 @@ def a_server_ends_within_a_restart(program):
         began = time.monotonic()
         server.process.terminate()
         status = server.process.wait(timeout=SECONDS)
-        assert status == 0 and time.monotonic() - began < SECONDS / 2, status
         server.process.poll = lambda: None  # it was to end here
+        assert status == 0, status
+        within(time.monotonic() - began, 10, "a stop")
 
 
+@again
 def a_server_ends_after_what_it_was_sent(program):
     """A signal in the midst of a load ends it with status 0, and no answer is cut."""
     with served(program) as server:
@@ -349,8 +357,9 @@ def a_server_ends_after_what_it_was_sent(program):
             server.process.terminate()
             status = server.process.wait(timeout=SECONDS)
             process.kill()
-        assert status == 0 and time.monotonic() - began < SECONDS / 2, status
         server.process.poll = lambda: None  # it was to end here
+        assert status == 0, status
+        within(time.monotonic() - began, 8, "a stop")
 
 
 def a_stop_answers_all_that_came(program):

@@ -44,11 +44,14 @@ def again(test):
 
     @functools.wraps(test)
     def tried(program):
-        for left in reversed(range(TRIES)):
+        missed = []
+        while True:
             try:
-                return test(program)
-            except Missed:
-                if not left:
+                told = test(program)
+                return ", ".join([*filter(None, [told]), *(f"missed before: {it}" for it in missed)])
+            except Missed as reason:
+                missed.append(reason)
+                if len(missed) == TRIES:
                     raise
 
     return tried
@@ -60,13 +63,16 @@ def within(took, most, what="it"):
         raise Missed(f"{what} took {took:.2f} s, and may take {most}")
 
 
-def caught(look, client):
-    """What this gives once it gives something, which is so no longer once the client is answered."""
+def caught(look, client, refusal=None):
+    """What this gives once it gives something, which is so no longer once the client is answered: by no error but this
+    refusal."""
 
     def found():
         if (it := look()) or not client.is_answered():
             return it
-        raise Missed(f"it was over: {client.read()}")
+        told = client.read()
+        assert not isinstance(told, Refused) or (refusal and str(told).startswith(refusal)), told
+        raise Missed(f"it was over: {told}")
 
     return eventually(found)
 
@@ -341,7 +347,17 @@ def read_all(process, said):
 
 
 def port_of(process):
-    """The port that the log tells."""
+    """The port that the log tells; a server that tells none is ended after long."""
+    late = threading.Timer(20 * SECONDS, process.kill)
+    late.daemon = True
+    late.start()
+    try:
+        return told_port(process)
+    finally:
+        late.cancel()
+
+
+def told_port(process):
     for line in process.stderr:
         fields = json.loads(line).get("fields", {}) if line.startswith("{") else {}
         if "address" in fields:

@@ -16,7 +16,7 @@ import time
 import urllib.error
 import urllib.request
 
-from served import SECONDS, Client, Refused, eventually, free_port, main, port_of, read_all, served
+from served import SECONDS, Client, Refused, again, eventually, free_port, main, port_of, read_all, served, within
 
 TOOL = pathlib.Path(__file__).resolve().parents[2] / "tools/serve"
 FAKETIME = pathlib.Path("/usr/lib/x86_64-linux-gnu/faketime/libfaketime.so.1")
@@ -89,6 +89,7 @@ def metrics_and_info_tell_the_same_by_one_name(program):
         assert info["connected_clients"] == "1" and int(info["used_memory"]) > 0 == int(info["maxmemory"]), info
 
 
+@again
 def slow_clients_keep_nobody_out(program):
     """Many connections that send nothing, or a part of a request."""
     port = free_port()
@@ -101,7 +102,7 @@ def slow_clients_keep_nobody_out(program):
         began = time.monotonic()
         assert got(port, "/healthz") == "ok\n"
         # Who sends nothing stays for a minute.
-        assert time.monotonic() - began < 30
+        within(time.monotonic() - began, 3, "an answer")
         assert server.descriptors() - before < 300, server.descriptors()
 
 

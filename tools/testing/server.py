@@ -10,12 +10,14 @@ import runs
 import sources
 from testing import library, workspace
 from testing.part import Verdict, verdict
-from testing.program import TOOL_SECONDS, tool
+from testing.program import tool
 
 FOLDER = sources.TOP / "server"
 SCRIPTS = ("commands", "moves", "durable", "dumps", "upgrade", "hostile", "secure", "scripts", "site")
 REDIS = ("redis-server", "redis-cli", "redis-benchmark")
 CLUSTER = "cluster"
+# How long a script may take, on a machine with much other work.
+SCRIPT_SECONDS = 1200
 PACKAGE = "durkenzo-server"
 HEADINGS = (
     "Network:",
@@ -74,7 +76,7 @@ def verdicts_of(lines):
 
 def said_by(script, python, program):
     """What a script finds of the program; that it finds nothing is a failure."""
-    ran = runs.finished([python, FOLDER / "tests" / f"{script}.py", program], TOOL_SECONDS)
+    ran = runs.finished([python, FOLDER / "tests" / f"{script}.py", program], SCRIPT_SECONDS)
     found = list(verdicts_of(ran.output.decode(errors="replace").splitlines()))
     yield from found
     if not found or bool(ran.status) != any(it.reason for it in found):

@@ -6,6 +6,8 @@ use std::time::{Duration, Instant};
 const SHARDS: u16 = 32;
 const SERVERS: u16 = 4;
 const THREADS: u64 = 8;
+/// How long a first migration is waited for.
+const LATEST: Duration = Duration::from_secs(60);
 
 #[derive(Default)]
 struct Body {
@@ -42,7 +44,7 @@ fn serve(board: &Board<Body>, thread: u64, stop: &AtomicBool) -> u64 {
 
 fn migrate(board: &Board<Body>, time: Duration) -> u64 {
     let (control, start, mut state, mut moved) = (board.control(), Instant::now(), 99, 0);
-    while start.elapsed() < time || moved == 0 {
+    while start.elapsed() < time || (moved == 0 && start.elapsed() < LATEST) {
         let (shard, server) = (
             random(&mut state) % SHARDS,
             random(&mut state) % SERVERS + 1,
