@@ -10,6 +10,8 @@ mod lead;
 #[cfg(test)]
 mod ownership;
 #[cfg(test)]
+mod permit;
+#[cfg(test)]
 mod ranges;
 #[cfg(test)]
 mod refused;

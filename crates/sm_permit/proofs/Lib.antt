@@ -1,0 +1,7 @@
+mod Acks
+mod Leases
+mod Moves
+mod Permits
+mod Records
+mod Stays
+mod Views

@@ -1,0 +1,175 @@
+-- What a process knows of a shard, what it decides by that, and when what it knows is so.
+use Rattle.std.specs.Prelude.{ℕ, Bool, true, false, Option, Some, None, IfSome, ◌≡◌, ◌≢◌, ◌≤◌, ◌+◌, ◌==◌, ◌&&◌, ◌||◌}
+use Rattle.std.specs.Prelude.{◌⊎◌}
+use Rattle.std.specs.Prelude.{max, nat_le, nat_lt, not, List, ◌∷◌, ◌++◌}
+use Rattle.sm_ranges.specs.Stand.{owner_of}
+use Rattle.sm_ranges.specs.declared.stand.Stand.{Stand}
+use Rattle.sm_ranges.specs.declared.stand.Stand.TheVariants.{Forwarding}
+use Rattle.sm_ownership.specs.declared.mode.Mode.{Mode}
+use Rattle.sm_ownership.specs.History.{vacant}
+use Rattle.sm_ownership.specs.Rules.{accepts, executor, is_server}
+use Rattle.sm_place.specs.ServerState.{is_failed}
+use Rattle.sm_store.specs.Store.{last_revision, stored_record, stored_state}
+use Rattle.sm_permit.specs.declared.hand_over.HandOver.{HandOver}
+use Rattle.sm_permit.specs.declared.shard_reading.ShardReading.{ShardReading}
+use Rattle.sm_permit.specs.declared.shard_view.ShardView.{ShardView}
+use Rattle.sm_permit.specs.Timelines.{Lease, TimelineStep, TimedStep, Acks, Hands, gives_back_lease, latest_moment}
+use Rattle.sm_permit.specs.Timelines.{lease_of, stored}
+use Rattle.sm_permit.specs.Waits.{acked_of, let_go_of}
+use Rattle.sm_permit.specs.Permits.{HasLease, IsTimely, MayHaveBody, Terms}
+
+-- the revision at which a key's process joined, 0 if the key isn't there
+abbrev pub joined_at : Option Lease → ℕ
+joined_at None = 0
+joined_at (Some lease) = lease.joined
+
+-- what was read of a record's owner, was so at this moment
+pub record IsOwnerRead {Q P : Type 0} (older : List (TimedStep Q P)) (reading : ShardReading)
+    (owner : ℕ) : Type 0 where
+  pub joined_is : reading.owner_joined ≡ joined_at (lease_of owner older)
+  pub failed_is : reading.owner_failed ≡ is_failed (stored_state owner (stored older))
+
+-- what was read of a shard and of a server, and of the record's owner, was all so at this moment, by which the store
+-- had reached the revision that is told
+pub record IsReadingOf {Q P : Type 0} (older : List (TimedStep Q P)) (shard server : ℕ)
+    (reading : ShardReading) : Type 0 where
+  pub reached : reading.revision ≤ last_revision (stored older)
+  pub state_is : reading.state ≡ stored_record shard (stored older)
+  pub failed_is : reading.failed ≡ is_failed (stored_state server (stored older))
+  pub owner_is : IfSome (owner_of reading.state.stand) (IsOwnerRead older reading)
+
+-- whoever executes what an owner forwards needs that owner to have let go
+abbrev pub has_body : Stand → Bool → Bool
+has_body (Forwarding owner next) freed = freed
+has_body _ freed = true
+
+-- the process may execute what comes to it so, at this time of its clock
+abbrev pub may_execute : ShardView → Mode → ℕ → Bool
+may_execute view mode time =
+    nat_lt time view.until && (nat_le view.joined view.reading.revision && (not view.reading.failed
+    && (nat_lt view.let_go view.reading.state.generation && (has_body view.reading.state.stand view.freed
+    && accepts view.reading.state view.server mode))))
+
+-- the process may ack its record
+abbrev pub may_ack : ShardView → Bool
+may_ack view = not (is_server (executor view.reading.state) view.server)
+
+-- the server is an owner that forwards
+abbrev pub is_forwarder : Stand → ℕ → Bool
+is_forwarder (Forwarding owner next) server = owner == server
+is_forwarder _ server = false
+
+-- an ack of the server up to this generation frees the shard by the record that was read
+abbrev pub ack_frees : ShardReading → ℕ → ℕ → Bool
+ack_frees reading server generation =
+    is_forwarder reading.state.stand server && nat_le reading.state.generation generation
+
+-- so does what was handed over, if it names the process whose key was read with the record
+abbrev pub hand_over_frees : ShardReading → HandOver → Bool
+hand_over_frees reading hand =
+    ack_frees reading hand.server hand.generation
+    && (nat_lt 0 hand.joined && hand.joined == reading.owner_joined)
+
+-- what a process knows once it has joined: of the shard it has read nothing
+abbrev pub new_view : ℕ → ℕ → ℕ → ShardView
+new_view server joined until =
+    record {
+      server = server;
+      joined = joined;
+      until = until;
+      reading = record {
+        revision = 0;
+        state = vacant;
+        failed = false;
+        owner_joined = 0;
+        owner_failed = false;
+      };
+      freed = false;
+      let_go = 0;
+    }
+
+-- once a keep was answered
+abbrev pub view_kept : ShardView → ℕ → ShardView
+view_kept view until = record view { until = until }
+
+-- once it has read
+abbrev pub view_read : ShardView → ShardReading → ShardView
+view_read view reading = record view { reading = reading; freed = reading.owner_failed }
+
+-- once it has read an ack
+abbrev pub view_acked : ShardView → ℕ → ℕ → ShardView
+view_acked view server generation =
+    record view { freed = view.freed || ack_frees view.reading server generation }
+
+-- once it was handed something over
+abbrev pub view_handed : ShardView → HandOver → ShardView
+view_handed view hand = record view { freed = view.freed || hand_over_frees view.reading hand }
+
+-- once it has let go of its record
+abbrev pub view_let_go : ShardView → ShardView
+view_let_go view = record view { let_go = max view.let_go view.reading.state.generation }
+
+-- what it knows is so, at a moment after all these steps
+pub record Knows {Q P : Type 0} (terms : Terms) (clock : ℕ → ℕ) (timeline : List (TimedStep Q P)) (now shard : ℕ)
+    (view : ShardView) : Type 0 where
+  pub latest : latest_moment timeline ≤ now
+  -- its lease, by what it asked for and was answered
+  pub sent : ℕ
+  pub lease : Lease
+  pub has : HasLease timeline view.server sent lease
+  pub joined_is : view.joined ≡ lease.joined
+  pub until_is : view.until ≡ clock sent + terms.allowed
+  -- what it has read
+  pub newer : List (TimedStep Q P)
+  pub older : List (TimedStep Q P)
+  pub was_read : timeline ≡ newer ++ older
+  pub reads : IsReadingOf older shard view.server view.reading
+  -- that the owner has let go, and up to where it has itself
+  pub freed : view.freed ≡ true → MayHaveBody shard timeline older view.reading.state.stand
+  pub let_go_is : let_go_of shard view.server view.joined timeline ≤ view.let_go
+
+-- at most one of the processes whose knowledge is so decides at a moment that it may execute
+abbrev pub AreOne : {Q P : Type 0} → Terms → List (TimedStep Q P) → Type 0
+AreOne terms timeline =
+    (now shard : ℕ) (first second : Mode) (clock counter : ℕ → ℕ) (view another : ShardView)
+    → IsTimely terms clock → IsTimely terms counter
+    → Knows terms clock timeline now shard view → Knows terms counter timeline now shard another
+    → may_execute view first (clock now) ≡ true → may_execute another second (counter now) ≡ true
+    → (view.server ≡ another.server) × (view.joined ≡ another.joined)
+
+-- the step lets go of the process's record
+abbrev pub IsLettingGo : {Q P : Type 0} → ℕ → ShardView → TimelineStep Q P → Type 0
+IsLettingGo {Q = Q} {P = P} shard view step =
+    (step ≡ Acks shard view.server view.joined view.reading.state.generation)
+    ⊎ (step ≡ Hands shard view.server view.joined view.reading.state.generation)
+
+-- by the step the process lets go of nothing of the shard, nor leaves
+pub record IsOfOthers {Q P : Type 0} (shard : ℕ) (view : ShardView) (step : TimelineStep Q P) : Type 0 where
+  pub stays : gives_back_lease view.server step ≡ false
+  pub acks : (generation : ℕ) → step ≢ Acks shard view.server view.joined generation
+  pub hands : (generation : ℕ) → step ≢ Hands shard view.server view.joined generation
+
+-- the process's lease is by what it asked for at a moment, for which it goes by this time of its clock
+pub record WasGranted {Q P : Type 0} (terms : Terms) (clock : ℕ → ℕ) (timeline : List (TimedStep Q P))
+    (server joined until : ℕ) : Type 0 where
+  pub sent : ℕ
+  pub lease : Lease
+  pub has : HasLease timeline server sent lease
+  pub joined_is : joined ≡ lease.joined
+  pub until_is : until ≡ clock sent + terms.allowed
+
+-- what a process knows stays so by each call that tells it more, if what it is told is so
+pub record StaysKnown {Q P : Type 0} (terms : Terms) (clock : ℕ → ℕ) (timeline : List (TimedStep Q P))
+    (now shard : ℕ) (view : ShardView) : Type 0 where
+  pub kept : (until : ℕ) → WasGranted terms clock timeline view.server view.joined until
+      → Knows terms clock timeline now shard (view_kept view until)
+  pub read : (newer older : List (TimedStep Q P)) (reading : ShardReading) → timeline ≡ newer ++ older
+      → IsReadingOf older shard view.server reading → Knows terms clock timeline now shard (view_read view reading)
+  pub acked : (server generation : ℕ) → generation ≤ acked_of shard server timeline
+      → Knows terms clock timeline now shard (view_acked view server generation)
+  pub handed : (hand : HandOver) → hand.generation ≤ let_go_of shard hand.server hand.joined timeline
+      → Knows terms clock timeline now shard (view_handed view hand)
+  pub let_go : (one : TimedStep Q P) (later : ℕ) → IsLettingGo shard view one.step → one.moment ≤ later
+      → Knows terms clock (one ∷ timeline) later shard (view_let_go view)
+  pub others : (one : TimedStep Q P) (later : ℕ) → IsOfOthers shard view one.step → one.moment ≤ later
+      → Knows terms clock (one ∷ timeline) later shard view

@@ -1,0 +1,11 @@
+use sm_ranges::server_id::ServerId;
+
+/// What handed-over bytes name: whose they are, and the process of it that let go by handing them over.
+#[derive(Clone, Copy, Drop)]
+pub struct HandOver {
+    pub server: ServerId,
+    /// The revision at which the process put its server's key into the store.
+    pub joined: u64,
+    /// The generation of the record up to which the process has let go.
+    pub generation: u64,
+}

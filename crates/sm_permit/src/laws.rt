@@ -1,0 +1,58 @@
+//! The law of permits.
+
+ghost use Rattle.std.specs.Prelude.{◌≡◌, ◌≤◌, ℕ, Bool, true, List};
+ghost use Rattle.sm_ownership.specs.declared.mode.Mode.{Mode};
+ghost use Rattle.sm_place.specs.declared.server_state.ServerState.TheVariants.{Failed};
+ghost use Rattle.sm_store.specs.Store.{stored_record, stored_state};
+ghost use Rattle.sm_store.specs.Deeds.{AreRight, Charter};
+ghost use Rattle.sm_permit.specs.declared.shard_view.ShardView.{ShardView};
+ghost use Rattle.sm_permit.specs.Timelines.{TimedStep, latest_moment, stored};
+ghost use Rattle.sm_permit.specs.Waits.{HasLetGo, KeepsWaits, MayLetGo, acked_of, has_let_go, let_go_of};
+ghost use Rattle.sm_permit.specs.Permits.{AreSafe, HasPermit, OnePermit, Terms};
+ghost use Rattle.sm_permit.specs.Runs.{IsMoved};
+ghost use Rattle.sm_permit.specs.Views.{AreOne, StaysKnown, Knows, WasGranted, may_ack, may_execute, new_view};
+
+/// At each moment at most one process may execute for a shard. Take any timeline whose log keeps the law of the store,
+/// as it does in every run. If the store ends no lease early, no clock is slower than the terms say, and each change
+/// waited for who executed before, then two permits of one shard at one moment are of one process.
+pub fn one_permit<Q, P>()
+    ensures { (charter : Charter Q P) (terms : Terms) (timeline : List (TimedStep Q P)) → AreSafe terms
+        → AreRight charter (stored timeline) → KeepsWaits terms.length timeline → OnePermit terms timeline }
+{}
+
+/// If what a process knows is so, it has a permit whenever `ShardView::may_execute` says that it may execute. So of all
+/// processes that decide by that, at most one may at one moment. If `may_ack` says so, an ack of its record is allowed.
+pub fn views_decide<Q, P>()
+    ensures permits { (terms : Terms) (clock : ℕ → ℕ) (timeline : List (TimedStep Q P)) (now shard : ℕ)
+        (view : ShardView) (mode : Mode) → Knows terms clock timeline now shard view
+        → may_execute view mode (clock now) ≡ true → HasPermit terms clock timeline now shard view.server mode }
+    ensures one { (charter : Charter Q P) (terms : Terms) (timeline : List (TimedStep Q P)) → AreSafe terms
+        → AreRight charter (stored timeline) → KeepsWaits terms.length timeline → AreOne terms timeline }
+    ensures acks { (charter : Charter Q P) (terms : Terms) (clock : ℕ → ℕ) (timeline : List (TimedStep Q P))
+        (now shard : ℕ) (view : ShardView) → AreRight charter (stored timeline)
+        → Knows terms clock timeline now shard view → may_ack view ≡ true
+        → MayLetGo shard view.server view.reading.state.generation (stored timeline) }
+{}
+
+/// What a process knows is so once it has joined, and stays so by each call that tells it more, and while others act.
+pub fn views_know<Q, P>()
+    ensures new { (terms : Terms) (clock : ℕ → ℕ) (timeline : List (TimedStep Q P)) (now shard server joined until : ℕ)
+        → latest_moment timeline ≤ now → WasGranted terms clock timeline server joined until
+        → let_go_of shard server joined timeline ≡ 0
+        → Knows terms clock timeline now shard (new_view server joined until) }
+    ensures told { (terms : Terms) (clock : ℕ → ℕ) (timeline : List (TimedStep Q P)) (now shard : ℕ) (view : ShardView)
+        → Knows terms clock timeline now shard view → StaysKnown terms clock timeline now shard view }
+{}
+
+/// If a control read the record as it is, an ack that was made, and no failure that isn't so, then the server for whom
+/// its change waits has let go when `has_let_go` says so.
+pub fn controls_wait<Q, P>()
+    ensures { (timeline : List (TimedStep Q P)) (shard server acked : ℕ) (failed : Bool)
+        → acked ≤ acked_of shard server timeline → (failed ≡ true → stored_state server (stored timeline) ≡ Failed)
+        → has_let_go (stored_record shard (stored timeline)) acked failed ≡ true → HasLetGo shard timeline server }
+{}
+
+/// There is a run that keeps all of this, in which a permit is given, and goes from one server to another.
+pub fn permits_move<Q, P>()
+    ensures { IsMoved Q P }
+{}
