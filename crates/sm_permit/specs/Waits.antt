@@ -88,7 +88,8 @@ HasWaited length earlier moment _ = Unit {0}
 
 -- a step that may be taken at a moment: a process joins only if no key of its server is there, takes no other server's
 -- key along as it leaves unless that lease is over, and acks only while its own key is there, which the transaction
--- compares
+-- compares. An ack of an earlier process of that server says nothing of the one whose key is there, which may go by a
+-- record that it read before
 abbrev pub MayStep : {Q P : Type 0} → ℕ → List (TimedStep Q P) → ℕ → TimelineStep Q P → Type 0
 MayStep length earlier moment (Makes txn) = AllByRecursion (HasWaited length earlier moment) txn.writes
 MayStep length earlier moment (Joins server read sent granted) =

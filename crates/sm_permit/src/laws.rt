@@ -4,6 +4,8 @@ ghost use Rattle.std.specs.Prelude.{◌≡◌, ◌≤◌, ℕ, Bool, true, List}
 ghost use Rattle.sm_ownership.specs.declared.mode.Mode.{Mode};
 ghost use Rattle.sm_place.specs.declared.server_state.ServerState.TheVariants.{Failed};
 ghost use Rattle.sm_store.specs.Store.{stored_record, stored_state};
+ghost use Rattle.sm_store.specs.Clients.{Automaton};
+ghost use Rattle.sm_store.specs.System.{Event, MightHappen, system_after};
 ghost use Rattle.sm_store.specs.Deeds.{AreRight, Charter};
 ghost use Rattle.sm_permit.specs.declared.shard_view.ShardView.{ShardView};
 ghost use Rattle.sm_permit.specs.Timelines.{TimedStep, latest_moment, stored};
@@ -12,6 +14,8 @@ ghost use Rattle.sm_permit.specs.Permits.{AreSafe, HasPermit, OnePermit, Terms};
 ghost use Rattle.sm_permit.specs.Runs.{IsMoved};
 ghost use Rattle.sm_permit.specs.Views.{AreOne, StaysKnown, Knows, WasGranted, may_ack, may_execute, new_view};
 
+use sm_store::laws::runs_are_lawful;
+
 /// At each moment at most one process may execute for a shard. Take any timeline whose log keeps the law of the store,
 /// as it does in every run. If the store ends no lease early, no clock is slower than the terms say, and each change
 /// waited for who executed before, then two permits of one shard at one moment are of one process.
@@ -19,6 +23,17 @@ pub fn one_permit<Q, P>()
     ensures { (charter : Charter Q P) (terms : Terms) (timeline : List (TimedStep Q P)) → AreSafe terms
         → AreRight charter (stored timeline) → KeepsWaits terms.length timeline → OnePermit terms timeline }
 {}
+
+/// The same in every run of all processes over the store, as the timeline has it with its moments.
+pub fn one_permit_in_runs<Q, P, R, S>()
+    ensures { (service : Automaton S Q R) (charter : Charter Q P) (events : List (Event Q P R)) (terms : Terms)
+        (timeline : List (TimedStep Q P)) → MightHappen service charter events
+        → (system_after events).log ≡ stored timeline → AreSafe terms → KeepsWaits terms.length timeline
+        → OnePermit terms timeline }
+{
+    runs_are_lawful::<Q, P, R, S>();
+    one_permit::<Q, P>();
+}
 
 /// If what a process knows is so, it has a permit whenever `ShardView::may_execute` says that it may execute. So of all
 /// processes that decide by that, at most one may at one moment. If `may_ack` says so, an ack of its record is allowed.
