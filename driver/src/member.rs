@@ -231,10 +231,11 @@ impl Member {
         self.inner.seen().leader.map(|it| it.0)
     }
 
-    /// Whether this process still leads that was elected at that revision, as far as it was seen.
+    /// Whether this process still leads that was elected at that revision, or anew after it, as far as it was seen.
     pub(crate) fn leads(&self, elected: Revision) -> bool {
-        let seen = self.inner.seen();
-        seen.led < elected || seen.leader.is_some_and(|it| it.1 == elected)
+        let (seen, own) = (self.inner.seen(), self.inner.process);
+        let leader = seen.leader.filter(|it| it.0 == own);
+        seen.led < elected || leader.is_some_and(|it| it.1 >= elected)
     }
 
     /// Leaves: others see at once that this server isn't there any more. Where the lease can't be ended now it ends by

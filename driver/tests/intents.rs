@@ -1,8 +1,8 @@
-//! What whoever leads goes on with lies in the store, also where outcomes aren't known; nobody else changes it. No command
+//! What whoever leads goes on with lies in the store, also where outcomes aren't known; nobody else changes it. Nothing
 //! is made that was given up.
 mod common;
 
-use common::cluster::{campaign, kill, Net};
+use common::cluster::{campaign, kill, until, Net};
 use common::handing::{Handed, Handing};
 use common::{line, opened};
 use durkenzo::Stand;
@@ -111,7 +111,7 @@ fn a_command_that_was_made_is_not_refused() {
     assert!(matches!(again, Err(Refused::Judged(_))), "{again:?}");
 }
 
-/// A store that withholds commands for a while, and doesn't know what becomes of them.
+/// A store that withholds for a while what a control writes, and doesn't know what becomes of that.
 struct Withholding {
     store: Embedded,
     withholds: Arc<AtomicBool>,
@@ -124,8 +124,10 @@ impl Handing for Withholding {
     }
 
     fn submit(&self, transaction: Transaction, done: Done) {
-        let is_command = transaction.puts.iter().any(|it| it.key == keys::COMMANDS);
-        if !is_command || !self.withholds.load(Ordering::Acquire) {
+        let is_of_control = [keys::COMMANDS, keys::DRAINS, keys::LEADER]
+            .iter()
+            .any(|key| transaction.puts.iter().any(|it| it.key.starts_with(key)));
+        if !is_of_control || !self.withholds.load(Ordering::Acquire) {
             return self.store.submit(transaction, done);
         }
         self.withheld.lock().unwrap().push(transaction);
@@ -133,36 +135,136 @@ impl Handing for Withholding {
     }
 }
 
-#[test]
-fn a_command_that_was_given_up_is_not_made_once_the_control_goes_on() {
-    let (withholds, withheld) = (Arc::new(AtomicBool::new(false)), Arc::default());
-    let store: Arc<dyn Store> = Arc::new(Handed(Withholding {
-        store: Embedded::in_memory(),
-        withholds: withholds.clone(),
-        withheld: Arc::clone(&withheld),
-    }));
-    let durable = Arc::new(opened(&store, 1));
-    let mut control = DurableControl::lead(durable, &line(1)).unwrap();
-    control.command(ControlCommand::Assign(0, 1)).unwrap();
-    withholds.store(true, Ordering::Release);
-    let given_up = control.command(ControlCommand::PrepareAddShard(0, 2));
-    let is_unknown = |it| matches!(it, Err(Refused::Write(WriteError::Unknown(_))));
-    assert!(is_unknown(given_up));
-    // What stands isn't told while that may change.
-    assert!(is_unknown(control.record(0).map(drop)));
-    withholds.store(false, Ordering::Release);
-    let stands = control.record(0).unwrap().map(|it| it.stand);
-    assert_eq!(stands, Some(Stand::Serving(1)));
-    let late = std::mem::take(&mut *withheld.lock().unwrap());
-    assert!(!late.is_empty());
-    for transaction in late {
-        if transaction.puts.len() > 1 {
-            let made = store.make(transaction);
+/// A store that withholds, and what tests do to it.
+struct Late {
+    store: Arc<dyn Store>,
+    withholds: Arc<AtomicBool>,
+    withheld: Arc<Mutex<Vec<Transaction>>>,
+}
+
+impl Late {
+    fn new() -> Late {
+        let (withholds, withheld) = (Arc::new(AtomicBool::new(false)), Arc::default());
+        let store: Arc<dyn Store> = Arc::new(Handed(Withholding {
+            store: Embedded::in_memory(),
+            withholds: withholds.clone(),
+            withheld: Arc::clone(&withheld),
+        }));
+        Late {
+            store,
+            withholds,
+            withheld,
+        }
+    }
+
+    /// A control over it that leads, and whose shard has an owner.
+    fn control(&self) -> DurableControl {
+        let durable = Arc::new(opened(&self.store, 1));
+        let mut control = DurableControl::lead(durable, &line(1)).unwrap();
+        control.command(ControlCommand::Assign(0, 1)).unwrap();
+        control
+    }
+
+    /// Has all be withheld that the call sends, and its outcome not be known.
+    fn withhold(&self, call: impl FnOnce() -> Result<(), Refused>) {
+        self.withholds.store(true, Ordering::Release);
+        let called = call();
+        assert!(is_unknown(&called), "{called:?}");
+        self.withholds.store(false, Ordering::Release);
+    }
+
+    /// What was withheld and writes to this key, from the first on.
+    fn taken(&self, key: &[u8]) -> Vec<Transaction> {
+        let mut withheld = self.withheld.lock().unwrap();
+        let writes = |it: &Transaction| it.puts.iter().any(|it| it.key.starts_with(key));
+        let (taken, left): (Vec<_>, _) = withheld.drain(..).partition(writes);
+        *withheld = left;
+        assert!(!taken.is_empty());
+        taken
+    }
+
+    /// Nothing of what writes to this key is made now.
+    fn assert_outdated(&self, key: &[u8]) {
+        for transaction in self.taken(key) {
+            let made = self.store.make(transaction);
             assert!(matches!(made, Ok(Outcome::Lost(_))), "{made:?}");
         }
     }
+}
+
+fn is_unknown<T>(called: &Result<T, Refused>) -> bool {
+    matches!(called, Err(Refused::Write(WriteError::Unknown(_))))
+}
+
+#[test]
+fn a_command_that_was_given_up_is_not_made_once_the_control_goes_on() {
+    let late = Late::new();
+    let mut control = late.control();
     let prepared = ControlCommand::PrepareAddShard(0, 2);
+    late.withhold(|| control.command(prepared));
+    // What stands isn't told while that may change.
+    late.withhold(|| control.record(0).map(drop));
+    let stands = control.record(0).unwrap().map(|it| it.stand);
+    assert_eq!(stands, Some(Stand::Serving(1)));
+    late.assert_outdated(keys::COMMANDS);
+    late.assert_outdated(keys::LEADER);
     control.command(prepared).unwrap();
+}
+
+#[test]
+fn an_intent_that_was_withdrawn_does_not_come_late() {
+    let late = Late::new();
+    let mut control = late.control();
+    late.withhold(|| control.intend(&[Intent::Drain(2)]));
+    control.withdraw(&[Intent::Drain(2)]).unwrap();
+    late.assert_outdated(keys::DRAINS);
+    assert_intents(&mut control, &[]);
+}
+
+#[test]
+fn a_process_that_is_elected_anew_leads_on() {
+    let late = Late::new();
+    let nodes = Net::of_three(&late.store, 1);
+    let mut control = campaign(&nodes[0]);
+    let process = nodes[0].durable.process();
+    let assigned = ControlCommand::Assign(0, 1);
+    late.withhold(|| control.command(assigned));
+    // The election comes late: it is seen before the control goes on.
+    let elections = late.taken(keys::LEADER);
+    assert_eq!(elections.len(), 1);
+    let elected = late.store.make(elections[0].clone());
+    assert!(matches!(elected, Ok(Outcome::Made(_))), "{elected:?}");
+    control.command(assigned).unwrap();
+    late.assert_outdated(keys::COMMANDS);
+    for node in &nodes {
+        until("it is seen", || {
+            node.durable.member().unwrap().leader() == Some(process)
+        });
+    }
+    let line = common::line_of(1, 3);
+    let other = DurableControl::campaign(nodes[1].durable.clone(), &line);
+    assert!(matches!(other, Ok(None)), "{other:?}");
+    control
+        .command(ControlCommand::PrepareAddShard(0, 2))
+        .unwrap();
+}
+
+#[test]
+fn who_saw_that_nobody_leads_is_not_elected_anew() {
+    let late = Late::new();
+    let nodes = Net::of_three(&late.store, 1);
+    let mut control = campaign(&nodes[0]);
+    late.withhold(|| control.command(ControlCommand::Assign(0, 1)));
+    late.taken(keys::LEADER);
+    nodes[0].expire();
+    let member = nodes[0].durable.member().unwrap();
+    until("nobody leads", || member.leader().is_none());
+    late.withholds.store(true, Ordering::Release);
+    let refused = control.record(0);
+    assert!(matches!(refused, Err(Refused::NotLeader)), "{refused:?}");
+    let withheld = late.withheld.lock().unwrap();
+    let elections = withheld.iter().flat_map(|it| &it.puts);
+    assert!(elections.into_iter().all(|it| it.key != keys::LEADER));
 }
 
 #[test]

@@ -23,14 +23,19 @@ impl DurableControl {
         Ok(intents)
     }
 
-    /// Writes the intents to the store. If one of the same server or shard lies there already, that one stays.
+    /// Writes the intents to the store. If one of the same server or shard lies there already, that one stays. If they
+    /// may lie there all the same, the error is `Unknown`, whatever came last.
     pub fn intend(&mut self, intents: &[Intent]) -> Result<(), Refused> {
         self.catch_up()?;
         let mut intents = intents.chunks(MOST_AT_ONCE);
-        intents.try_for_each(|some| self.intend_some(some.to_vec()))
+        let intended = intents.try_for_each(|some| self.intend_some(some.to_vec()));
+        intended.map_err(|error| match self.has_stray {
+            true => Refused::in_vain(),
+            false => error,
+        })
     }
 
-    fn intend_some(&self, mut left: Vec<Intent>) -> Result<(), Refused> {
+    fn intend_some(&mut self, mut left: Vec<Intent>) -> Result<(), Refused> {
         for _ in 0..TRIES {
             let all = Transaction::new().compare(keys::LEADER, self.elected);
             let all = all.with_kept_room();
@@ -38,10 +43,8 @@ impl DurableControl {
                 let all = all.compare(it.key(), Revision::NEVER);
                 all.put(it.key(), it.bytes())
             });
-            match self.durable.store().make(transaction) {
-                Ok(Outcome::Made(_)) => return Ok(()),
-                Ok(Outcome::Lost(_)) | Err(WriteError::Unknown(_)) => self.look_at_leader()?,
-                Err(error) => return Err(error.into()),
+            if self.sent(transaction)? {
+                return Ok(());
             }
             let keys: Vec<_> = left.iter().map(|it| it.key()).collect();
             let slices: Vec<&[u8]> = keys.iter().map(Vec::as_slice).collect();
@@ -61,16 +64,26 @@ impl DurableControl {
         intents.try_for_each(|some| self.withdraw_some(some))
     }
 
-    fn withdraw_some(&self, intents: &[Intent]) -> Result<(), Refused> {
+    fn withdraw_some(&mut self, intents: &[Intent]) -> Result<(), Refused> {
         for _ in 0..TRIES {
             let all = Transaction::new().compare(keys::LEADER, self.elected);
             let transaction = intents.iter().fold(all, |all, it| all.delete(it.key()));
-            match self.durable.store().make(transaction) {
-                Ok(Outcome::Made(_)) => return Ok(()),
-                Ok(Outcome::Lost(_)) | Err(WriteError::Unknown(_)) => self.look_at_leader()?,
-                Err(error) => return Err(error.into()),
+            if self.sent(transaction)? {
+                return Ok(());
             }
         }
         Err(Refused::in_vain())
+    }
+
+    /// Sends the transaction. Returns whether it was made: if that isn't known, or it was lost, it is to be sent again.
+    fn sent(&mut self, transaction: Transaction) -> Result<bool, Refused> {
+        match self.durable.store().make(transaction) {
+            Ok(Outcome::Made(_)) => return Ok(true),
+            Ok(Outcome::Lost(_)) => {}
+            // It may be made once another one of the same keys was.
+            Err(WriteError::Unknown(_)) => self.has_stray = true,
+            Err(error) => return Err(error.into()),
+        }
+        self.look_at_leader().map(|()| false)
     }
 }

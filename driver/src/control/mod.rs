@@ -1,3 +1,4 @@
+mod election;
 mod intents;
 
 use crate::command::{ControlCommand, Next};
@@ -11,8 +12,6 @@ use std::sync::Arc;
 
 /// How often a command is sent again that another one came before, or of which it isn't known what became.
 const TRIES: u32 = 8;
-/// How often it is tried at once that what was given up isn't made.
-const OUTDATES: u32 = 2;
 
 /// The control over a store for this process: what it sends and what comes next, the proved one decides.
 pub struct DurableControl {
@@ -27,8 +26,8 @@ pub struct DurableControl {
     written: WrittenRevisions,
     /// Whether all is to be read again.
     is_behind: bool,
-    /// What the latest command wrote to the key of commands, if that command may still be made.
-    doubtful: Option<Vec<u8>>,
+    /// Whether something may still be made that was sent and given up.
+    has_stray: bool,
     /// How often servers' keys had changed when it was read who follows; none where that is to be read again.
     followers: Option<u64>,
 }
@@ -40,7 +39,7 @@ impl DurableControl {
     ///
     /// Where the store can't be read or written, or what lies there isn't of these settings.
     pub fn lead(durable: Arc<Durable>, line: &str) -> Result<DurableControl, Refused> {
-        let elected = elect(&durable)?;
+        let elected = election::elect(&durable)?;
         DurableControl::elected(durable, line, elected)
     }
 
@@ -51,7 +50,7 @@ impl DurableControl {
     ///
     /// As for [`DurableControl::lead`]; `NotLeader` where the process has no server with a lease now.
     pub fn campaign(durable: Arc<Durable>, line: &str) -> Result<Option<DurableControl>, Refused> {
-        match campaigned(&durable)? {
+        match election::campaigned(&durable)? {
             Some(elected) => DurableControl::elected(durable, line, elected).map(Some),
             None => Ok(None),
         }
@@ -72,7 +71,7 @@ impl DurableControl {
             elected,
             written: WrittenRevisions::default(),
             is_behind: true,
-            doubtful: None,
+            has_stray: false,
             followers: None,
         };
         if control.director.shards() != usize::from(control.durable.shards()) {
@@ -104,7 +103,7 @@ impl DurableControl {
         self.durable.shards()
     }
 
-    /// Reads records and states where that is due, once no command may still be made that was given up.
+    /// Reads records and states where that is due, once nothing may still be made that was given up.
     fn catch_up(&mut self) -> Result<(), Refused> {
         self.outdate()?;
         self.read_again()
@@ -112,10 +111,7 @@ impl DurableControl {
 
     /// Reads records and states where that is due. A command may still be made that is tried again.
     fn read_again(&mut self) -> Result<(), Refused> {
-        let member = self.durable.member();
-        if member.is_some_and(|it| !it.leads(self.elected)) {
-            return Err(Refused::NotLeader);
-        }
+        self.look_at_member()?;
         if self.is_behind {
             self.director.lost().map_err(Refused::of)?;
             let reading = self.read_all()?;
@@ -128,27 +124,12 @@ impl DurableControl {
         Ok(())
     }
 
-    /// Writes the key of commands anew if a command may still be made: it compares that key, so from then on it isn't.
-    fn outdate(&mut self) -> Result<(), Refused> {
-        let Some(commands) = self.doubtful.clone() else {
-            return Ok(());
-        };
-        for _ in 0..OUTDATES {
-            let transaction = Transaction::new()
-                .compare(keys::LEADER, self.elected)
-                .put(keys::COMMANDS, commands.clone())
-                .with_kept_room();
-            match self.durable.store().make(transaction) {
-                Ok(Outcome::Made(_)) => {
-                    (self.is_behind, self.doubtful) = (true, None);
-                    return Ok(());
-                }
-                Ok(Outcome::Lost(_)) => self.look_at_leader()?,
-                Err(WriteError::Unknown(_)) => {}
-                Err(error) => return Err(error.into()),
-            }
+    /// Refuses if this process has seen that it doesn't lead any more.
+    fn look_at_member(&self) -> Result<(), Refused> {
+        match self.durable.member() {
+            Some(member) if !member.leads(self.elected) => Err(Refused::NotLeader),
+            _ => Ok(()),
         }
-        Err(Refused::in_vain())
     }
 
     fn read_all(&self) -> Result<Reading, Refused> {
@@ -238,11 +219,11 @@ impl DurableControl {
 
     /// Makes the command, again as often as another one comes before, or it isn't known what became of it.
     fn tried(&mut self, command: ControlCommand) -> Result<(), Refused> {
-        let mut doubtful = None;
+        let mut unknown = None;
         for _ in 0..TRIES {
             self.read_again()?;
-            if self.lies(&doubtful)? {
-                (self.is_behind, self.doubtful) = (true, None);
+            if self.lies(&unknown)? {
+                (self.is_behind, self.has_stray) = (true, false);
                 return Ok(());
             }
             if let ControlCommand::DropShard(shard) = command {
@@ -252,13 +233,12 @@ impl DurableControl {
             let sending = self.director.sending().map_err(Refused::of)?;
             let (number, is_state, absent) = (sending.number, sending.is_state, sending.absent);
             let sent = (sending.key(), sending.written.clone());
-            let commands = sending.commands.clone();
             self.is_behind = true;
             match self.send(sending) {
                 Ok(Outcome::Made(revision)) => return self.made(number, is_state, revision),
                 Ok(Outcome::Lost(reading)) => self.look_at_lost(absent, &reading)?,
                 Err(WriteError::Unknown(_)) => {
-                    (doubtful, self.doubtful) = (Some(sent), Some(commands));
+                    (unknown, self.has_stray) = (Some(sent), true);
                 }
                 Err(error) => return Err(error.into()),
             }
@@ -280,7 +260,8 @@ impl DurableControl {
     fn made(&mut self, number: u16, is_state: bool, revision: Revision) -> Result<(), Refused> {
         self.director.made(revision).map_err(Refused::of)?;
         self.written.note(number, is_state, revision);
-        (self.is_behind, self.doubtful, self.followers) = (false, None, None);
+        // What was sent before compares the key of commands as it was.
+        (self.is_behind, self.has_stray, self.followers) = (false, false, None);
         match self.durable.member() {
             None => self.follow_all(revision),
             Some(_) => Ok(()),
@@ -432,43 +413,4 @@ impl fmt::Debug for DurableControl {
             .field("servers", &self.servers)
             .finish_non_exhaustive()
     }
-}
-
-/// Writes the leader's key for this process, and gives its revision.
-fn elect(durable: &Durable) -> Result<Revision, Refused> {
-    loop {
-        let reading = durable.store().read(&[keys::LEADER])?;
-        let before = reading.get(keys::LEADER);
-        let transaction = Transaction::new()
-            .compare(
-                keys::LEADER,
-                before.map_or(Revision::NEVER, |it| it.revision),
-            )
-            .put(keys::LEADER, keys::leader_of(durable.process()))
-            .with_kept_room();
-        if let Outcome::Made(revision) = durable.store().make(transaction)? {
-            return Ok(revision);
-        }
-    }
-}
-
-/// Writes the leader's key for this process where nobody has it, and gives its revision; none where another process has
-/// it.
-fn campaigned(durable: &Durable) -> Result<Option<Revision>, Refused> {
-    let lease = durable.member().and_then(|it| it.lease());
-    let lease = Some(lease.ok_or(Refused::NotLeader)?);
-    let own = keys::leader_of(durable.process());
-    let transaction = Transaction::new()
-        .compare(keys::LEADER, Revision::NEVER)
-        .put_under(keys::LEADER, own.clone(), lease)
-        .with_kept_room()
-        .or_read(keys::LEADER);
-    let found = match durable.store().make(transaction) {
-        Ok(Outcome::Made(revision)) => return Ok(Some(revision)),
-        Ok(Outcome::Lost(reading)) => reading,
-        Err(WriteError::Unknown(_)) => durable.store().read(&[keys::LEADER])?,
-        Err(error) => return Err(error.into()),
-    };
-    let pair = found.get(keys::LEADER).filter(|it| it.value == own);
-    Ok(pair.map(|it| it.revision))
 }
