@@ -2,6 +2,7 @@ use super::advance::Advance;
 use super::Refusal;
 use durkenzo::{ChangeFault, Plan, PlanFault, Record, RestartFault};
 use durkenzo_driver::{ControlCommand, Intent, Next, Refused, ServerState};
+use durkenzo_store::WriteError;
 use std::fmt;
 use thiserror::Error;
 
@@ -71,7 +72,8 @@ pub trait Backend: Send {
         Ok(Vec::new())
     }
 
-    /// Keeps the intents, if they are to outlive the process.
+    /// Keeps the intents, if they are to outlive the process. If that fails none of them is kept, unless it isn't known
+    /// what became of it.
     fn intend(&mut self, _intents: &[Intent]) -> Result<(), BackendFault> {
         Ok(())
     }
@@ -147,5 +149,13 @@ impl BackendFault {
     /// Returns whether the same command may be made at once when it is tried again: another thread has the shard.
     pub fn is_passing(&self) -> bool {
         matches!(self, BackendFault::Change(fault) if fault.is_passing())
+    }
+
+    /// Returns whether it isn't known what became of it: it may be done all the same.
+    pub fn is_unknown(&self) -> bool {
+        let BackendFault::Refused(refused) = self else {
+            return false;
+        };
+        matches!(refused, Refused::Write(WriteError::Unknown(_)))
     }
 }

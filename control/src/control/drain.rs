@@ -1,5 +1,6 @@
 use super::advance::Advance;
 use super::answer::ControlAnswer;
+use super::backend::BackendFault;
 use super::controller::Controller;
 use super::migration::Migration;
 use super::planned_moves::PlannedMoves;
@@ -20,8 +21,8 @@ pub(super) struct Drain {
     is_restart: bool,
     /// Whether it is an intent, or may be one, so that whoever leads next goes on with it.
     is_intended: bool,
-    /// Whether that is known.
-    is_kept: bool,
+    /// Whether the backend has said that it keeps the intent, if it keeps any.
+    has_intended: bool,
     /// How many shards there are to move; none before it has begun.
     of: Option<usize>,
     planned: PlannedMoves,
@@ -40,7 +41,7 @@ impl Drain {
             server,
             is_restart,
             is_intended: false,
-            is_kept: false,
+            has_intended: false,
             of: None,
             planned: PlannedMoves::of(server),
             current: None,
@@ -53,7 +54,7 @@ impl Drain {
     pub(super) fn going_on(server: u16) -> Drain {
         Drain {
             is_intended: true,
-            is_kept: true,
+            has_intended: true,
             ..Drain::new(server, false)
         }
     }
@@ -233,14 +234,13 @@ impl Drain {
                 _ => Ok(()),
             };
         }
-        if !self.is_kept {
+        if !self.has_intended {
             let intended = control.backend.intend(&[Intent::Drain(self.server)]);
-            let intended = intended.map_err(Refusal::from);
-            // The store may keep it, whatever it says.
-            let may_lie = intended.as_ref().err().is_none_or(Refusal::is_of_store);
-            self.is_intended = may_lie && control.backend.lasts();
+            let may_lie = intended.as_ref().err().is_none_or(BackendFault::is_unknown);
+            // What an earlier try may have kept, a later one doesn't undo.
+            self.is_intended |= may_lie && control.backend.lasts();
             intended?;
-            self.is_kept = true;
+            self.has_intended = true;
         }
         Ok(())
     }
@@ -266,6 +266,7 @@ impl Drain {
 mod tests {
     use super::super::plain_backend::PlainBackend;
     use super::*;
+    use durkenzo_store::WriteError;
 
     /// Drains server 1 to its end.
     fn drained(backend: &PlainBackend) -> Result<ControlAnswer, Refusal> {
@@ -328,12 +329,35 @@ mod tests {
     #[test]
     fn a_drain_goes_on_that_the_store_may_have_kept() {
         let backend = PlainBackend::of(2, Stand::Serving(1));
-        (backend.plain().lasts, backend.plain().doubts) = (true, 1);
+        backend.plain().lasts = true;
+        backend.plain().unkept = [unknown()].into();
         let (mut control, mut drain) = (backend.control(), Drain::new(1, false));
         let doubtful = drain.advance(&mut control).unwrap_err();
         assert!(doubtful.is_of_store() && drain.is_intended(), "{doubtful}");
         let told = ended(&backend, drain).unwrap();
         assert_eq!(told, ControlAnswer::of_moves([(0, 2), (1, 2)]));
+    }
+
+    fn unknown() -> WriteError {
+        WriteError::Unknown("a test".to_owned())
+    }
+
+    #[test]
+    fn a_drain_goes_on_only_if_the_store_may_have_kept_it() {
+        for (unkept, goes_on) in [
+            (vec![WriteError::Full("a test".to_owned())], false),
+            (vec![unknown(), WriteError::Full("a test".to_owned())], true),
+        ] {
+            let backend = PlainBackend::of(2, Stand::Serving(1));
+            backend.plain().lasts = true;
+            let (mut control, mut drain) = (backend.control(), Drain::new(1, false));
+            for error in unkept {
+                backend.plain().unkept = [error].into();
+                let refused = drain.advance(&mut control).unwrap_err();
+                assert!(refused.is_of_store(), "{refused}");
+            }
+            assert_eq!(drain.is_intended(), goes_on);
+        }
     }
 
     #[test]

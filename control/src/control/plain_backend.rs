@@ -6,7 +6,7 @@ use super::{ControlHost, ReplyTo};
 use durkenzo::{ChangeFault, Move, Plan, Record, RestartFault, Stand};
 use durkenzo_driver::{Clock, ControlCommand, Intent, Next, Refused, ServerState, Subject};
 use durkenzo_store::WriteError;
-use std::collections::{BTreeMap, BTreeSet};
+use std::collections::{BTreeMap, BTreeSet, VecDeque};
 use std::sync::{Arc, Mutex, MutexGuard};
 use std::time::{Duration, Instant};
 
@@ -24,8 +24,8 @@ pub(super) struct Plain {
     pub(super) plans: usize,
     /// The shards of which no change begins.
     pub(super) spent: BTreeSet<u16>,
-    /// How many intents the store doesn't say that it keeps.
-    pub(super) doubts: u32,
+    /// Why the store doesn't say of the next intents that it keeps them.
+    pub(super) unkept: VecDeque<WriteError>,
     /// The shards that are busy, and for how many tries.
     pub(super) busy: BTreeMap<u16, u32>,
 }
@@ -40,7 +40,7 @@ impl PlainBackend {
             lasts: false,
             plans: 0,
             spent: BTreeSet::new(),
-            doubts: 0,
+            unkept: VecDeque::new(),
             busy: BTreeMap::new(),
         };
         PlainBackend(Arc::new(Mutex::new(plain)))
@@ -183,13 +183,9 @@ impl Backend for PlainBackend {
     fn show_state(&mut self, _server: u16, _state: ServerState) {}
 
     fn intend(&mut self, _intents: &[Intent]) -> Result<(), BackendFault> {
-        let mut plain = self.plain();
-        match plain.doubts.checked_sub(1) {
+        match self.plain().unkept.pop_front() {
             None => Ok(()),
-            Some(left) => {
-                plain.doubts = left;
-                Err(Refused::Write(WriteError::Unknown("a test".to_owned())).into())
-            }
+            Some(error) => Err(Refused::Write(error).into()),
         }
     }
 }

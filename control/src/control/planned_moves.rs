@@ -13,7 +13,7 @@ pub(super) struct PlannedMoves {
     /// The moves of the last plan that weren't begun.
     left: VecDeque<Move>,
     /// Whether others of that plan were made before the last one that was told.
-    is_kept: bool,
+    is_of_earlier: bool,
     /// The shards whose moves were refused, and why. Others go on.
     aside: BTreeMap<u16, Refusal>,
 }
@@ -24,7 +24,7 @@ impl PlannedMoves {
         PlannedMoves {
             server,
             left: VecDeque::new(),
-            is_kept: false,
+            is_of_earlier: false,
             aside: BTreeMap::new(),
         }
     }
@@ -39,11 +39,11 @@ impl PlannedMoves {
                 next => return Ok(next),
             }
         }
-        self.is_kept = true;
+        self.is_of_earlier = true;
         if let Some(command) = self.next_left(control)? {
             return Ok(Next::Command(command));
         }
-        self.is_kept = false;
+        self.is_of_earlier = false;
         self.left = control.backend.plan(self.server)?.moves.into();
         match self.next_left(control)? {
             Some(command) => Ok(Next::Command(command)),
@@ -56,7 +56,7 @@ impl PlannedMoves {
     /// since the plan of it.
     pub(super) fn forget(&mut self) -> bool {
         self.left.clear();
-        std::mem::take(&mut self.is_kept)
+        std::mem::take(&mut self.is_of_earlier)
     }
 
     /// Has others go on, as this shard's move was refused.
