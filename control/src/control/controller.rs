@@ -143,14 +143,16 @@ impl Controller {
         let is_elsewhere =
             |it: &BackendFault| matches!(it, BackendFault::Refused(Refused::NotLeader));
         self.is_lost |= made.as_ref().is_err_and(is_elsewhere);
-        // It may be made, whatever the store says of it.
-        self.has_fallen |= matches!(command, ControlCommand::Fail(_));
         match command.subject() {
             Subject::Server(server) => {
                 let made = made.map_err(|fault| Refusal::of_command(&fault, command, None));
-                if made.as_ref().is_err_and(Refusal::is_of_store) {
+                // It may be made, whatever the store says of it.
+                let is_doubtful = made.as_ref().is_err_and(Refusal::is_of_store);
+                if is_doubtful {
                     self.unnoted.insert(server);
                 }
+                let is_fall = matches!(command, ControlCommand::Fail(_));
+                self.has_fallen |= is_fall && (made.is_ok() || is_doubtful);
                 made?;
                 self.note_state(server)
             }

@@ -258,11 +258,7 @@ fn begin(control: &mut Controller) -> Result<(), Refusal> {
 
 /// Goes on with shards of which something is under way, but for those with which it does already.
 fn go_on_with_shards(control: &mut Controller) -> Result<(), Refusal> {
-    let known: BTreeSet<u16> = control
-        .tasks
-        .iter()
-        .filter_map(Task::shard_going_on)
-        .collect();
+    let known: BTreeSet<u16> = control.tasks.iter().filter_map(Task::migrates).collect();
     for shard in 0..control.backend.shards() {
         if !known.contains(&shard) && control.backend.next_of_shard(shard)? != Next::Nothing {
             control.tasks.push(Task::going_on(shard));
@@ -298,12 +294,13 @@ fn have_one_back(control: &mut Controller, server: u16) -> Result<(), Refusal> {
 #[cfg(test)]
 mod tests {
     use super::super::backend::{Backend, BackendFault};
-    use super::super::plain_backend::PlainBackend;
+    use super::super::plain_backend::{PlainBackend, Teller};
     use super::super::progress::Doing;
-    use super::super::{ControlHost, ReplyTo};
+    use super::super::{Asked, ControlAnswer, ControlHost, ReplyTo, Words};
     use super::*;
     use durkenzo::{Plan, PlanFault, Record, Stand};
     use durkenzo_driver::{Clock, Refused};
+    use durkenzo_store::WriteError;
 
     /// A program that shows nothing.
     struct Silent;
@@ -436,6 +433,43 @@ mod tests {
         watch.have_fail(&mut control).unwrap();
         let going_on: Vec<_> = control.tasks.iter().map(Task::shard_going_on).collect();
         assert_eq!(going_on, [Some(1)]);
+    }
+
+    #[test]
+    fn what_somebody_steps_by_hand_stays_where_no_server_failed() {
+        let backend = PlainBackend::of(1, Stand::Prepared { owner: 1, next: 2 });
+        let mut control = backend.control();
+        let mut watch = LeaderWatch::new(false, Arc::default(), control.now());
+        for (refused, is_finished) in [
+            (Refused::StillThere(2), false),
+            (WriteError::Full("a test".to_owned()).into(), true),
+        ] {
+            backend.plain().unmade = Some(refused);
+            control.make(ControlCommand::Fail(2)).unwrap_err();
+            watch.have_fail(&mut control).unwrap();
+            assert_eq!(!control.tasks.is_empty(), is_finished);
+        }
+    }
+
+    #[test]
+    fn a_migration_that_was_asked_for_gets_no_second_task() {
+        let backend = PlainBackend::of(1, Stand::Serving(1));
+        let mut control = backend.control();
+        let mut watch = LeaderWatch::new(false, Arc::default(), control.now());
+        let (reply_to, told) = Teller::pair();
+        control.take(Asked {
+            words: Words::of(["SM", "MIGRATE", "0", "2"]),
+            reply_to,
+        });
+        control.run_tasks();
+        assert_ne!(backend.plain().stands[0], Stand::Serving(1));
+        control.make(ControlCommand::Fail(2)).unwrap();
+        watch.have_fail(&mut control).unwrap();
+        assert!(control.tasks.len() <= 1 && !control.has_fallen);
+        while !control.tasks.is_empty() {
+            control.run_tasks();
+        }
+        assert_eq!(told.try_recv(), Ok(Ok(ControlAnswer::Done)));
     }
 
     #[test]

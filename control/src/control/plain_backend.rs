@@ -2,11 +2,12 @@
 use super::backend::{Backend, BackendFault};
 use super::controller::Controller;
 use super::progress::Doing;
-use super::{ControlHost, ReplyTo};
+use super::{ControlAnswer, ControlHost, Refusal, ReplyTo};
 use durkenzo::{ChangeFault, Move, Plan, Record, RestartFault, Stand};
 use durkenzo_driver::{Clock, ControlCommand, Intent, Next, Refused, ServerState, Subject};
 use durkenzo_store::WriteError;
 use std::collections::{BTreeMap, BTreeSet, VecDeque};
+use std::sync::mpsc::{channel, Receiver, Sender};
 use std::sync::{Arc, Mutex, MutexGuard};
 use std::time::{Duration, Instant};
 
@@ -26,6 +27,8 @@ pub(super) struct Plain {
     pub(super) spent: BTreeSet<u16>,
     /// Why the store doesn't say of the next intents that it keeps them.
     pub(super) unkept: VecDeque<WriteError>,
+    /// Why the next command isn't made.
+    pub(super) unmade: Option<Refused>,
     /// The shards that are busy, and for how many tries.
     pub(super) busy: BTreeMap<u16, u32>,
 }
@@ -41,6 +44,7 @@ impl PlainBackend {
             plans: 0,
             spent: BTreeSet::new(),
             unkept: VecDeque::new(),
+            unmade: None,
             busy: BTreeMap::new(),
         };
         PlainBackend(Arc::new(Mutex::new(plain)))
@@ -138,7 +142,11 @@ impl Backend for PlainBackend {
     }
 
     fn command(&mut self, command: ControlCommand) -> Result<(), BackendFault> {
-        Ok(self.plain().change(command)?)
+        let mut plain = self.plain();
+        match plain.unmade.take() {
+            None => Ok(plain.change(command)?),
+            Some(refused) => Err(refused.into()),
+        }
     }
 
     fn next_of_shard(&mut self, shard: u16) -> Result<Next, BackendFault> {
@@ -187,6 +195,30 @@ impl Backend for PlainBackend {
             None => Ok(()),
             Some(error) => Err(Refused::Write(error).into()),
         }
+    }
+}
+
+/// Somebody who asks, and is told the answer.
+#[derive(Debug)]
+pub(super) struct Teller(Sender<Told>);
+
+type Told = Result<ControlAnswer, Refusal>;
+
+impl Teller {
+    /// Where an answer goes, and where it comes.
+    pub(super) fn pair() -> (Box<dyn ReplyTo>, Receiver<Told>) {
+        let (tell, told) = channel();
+        (Box::new(Teller(tell)), told)
+    }
+}
+
+impl ReplyTo for Teller {
+    fn send(self: Box<Self>, answer: Told) {
+        self.0.send(answer).unwrap();
+    }
+
+    fn pass_on(self: Box<Self>, _answer: Vec<u8>) {
+        unreachable!("there is one process");
     }
 }
 

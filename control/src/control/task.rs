@@ -84,10 +84,10 @@ impl Task {
         }
     }
 
-    /// The shard with which it goes on, if nobody asked for that.
-    pub(super) fn shard_going_on(&self) -> Option<u16> {
+    /// The shard whose migration it is, once that has begun.
+    pub(super) fn migrates(&self) -> Option<u16> {
         match &self.work {
-            TaskWork::Migration(migration) => self.reply_to.is_none().then(|| migration.shard()),
+            TaskWork::Migration(migration) => migration.has_begun().then(|| migration.shard()),
             TaskWork::Drain(_)
             | TaskWork::Restart(_)
             | TaskWork::Rolling(_)
@@ -96,6 +96,11 @@ impl Task {
             | TaskWork::Load(_)
             | TaskWork::Command(_) => None,
         }
+    }
+
+    /// The shard with which it goes on, if nobody asked for that.
+    pub(super) fn shard_going_on(&self) -> Option<u16> {
+        self.migrates().filter(|_| self.reply_to.is_none())
     }
 }
 
