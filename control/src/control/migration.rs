@@ -61,9 +61,14 @@ impl Migration {
         }
         match self.step(control) {
             Err(refusal) if refusal.is_passing() => {
-                if !self.patience.lasts(control.now()) {
-                    (self.given_up, self.patience) = (Some(refusal), Patience::default());
+                if self.patience.lasts(control.now()) {
+                    return Ok(Advance::soon());
                 }
+                // What is under way of the shard then is another's.
+                if !self.has_begun {
+                    return Err(refusal);
+                }
+                (self.given_up, self.patience) = (Some(refusal), Patience::default());
                 Ok(Advance::soon())
             }
             advanced => {
@@ -150,5 +155,33 @@ impl Migration {
     fn stand(&self, control: &mut Controller) -> Result<Option<Stand>, Refusal> {
         let record = control.backend.record(self.shard)?;
         Ok(record.map(|it| it.stand))
+    }
+}
+
+#[cfg(test)]
+mod tests {
+    use super::super::plain_backend::PlainBackend;
+    use super::*;
+    use std::time::Duration;
+
+    #[test]
+    fn a_migration_that_gives_up_cancels_no_other_one() {
+        let prepared = Stand::Prepared { owner: 1, next: 2 };
+        for (mut migration, left) in [
+            (Migration::new(0, 2), prepared),
+            (Migration::going_on(0), Stand::Serving(1)),
+        ] {
+            let backend = PlainBackend::of(1, prepared);
+            backend.plain().busy = [(0, 3)].into();
+            let mut control = backend.control();
+            let refused = loop {
+                match migration.advance(&mut control) {
+                    Err(refused) => break refused,
+                    Ok(_) => backend.plain().passed += Duration::from_secs(1),
+                }
+            };
+            assert!(refused.is_passing(), "{refused}");
+            assert_eq!(backend.plain().stands[0], left);
+        }
     }
 }

@@ -117,6 +117,10 @@ impl Plain {
                 previous: owner,
             },
             (ControlCommand::DropShard(_), Stand::Taken { owner, .. }) => Stand::Serving(owner),
+            (
+                ControlCommand::Cancel(_),
+                Stand::Prepared { owner, .. } | Stand::Forwarding { owner, .. },
+            ) => Stand::Serving(owner),
             _ => return Err(ChangeFault::WrongPhase),
         };
         Ok(())
