@@ -56,6 +56,11 @@ impl Task {
         Task::of(TaskWork::Drain(Drain::going_on(server)))
     }
 
+    /// Returns whether it is one command, which somebody asked for.
+    pub(super) fn is_command(&self) -> bool {
+        matches!(self.work, TaskWork::Command(_))
+    }
+
     /// The server that it drains for good.
     pub(super) fn drains(&self) -> Option<u16> {
         match &self.work {

@@ -7,7 +7,7 @@ use super::refusal_names::NAMES;
 use super::restart::Restart;
 use super::rolling_restart::Rolling;
 use super::spread::Spread;
-use super::task::TaskWork;
+use super::task::{Task, TaskWork};
 use super::{Asked, ControlHost, Refusal, ReplyTo, Words};
 use durkenzo_driver::ControlCommand;
 
@@ -313,9 +313,9 @@ fn plan(control: &mut Controller, server: u16) -> Begins {
     Ok(ControlAnswer::Line(format!("plan{moves} left{left}")).into())
 }
 
-/// Begins to load a dump, if nothing else is under way.
+/// Begins to load a dump, if nothing else is under way but commands that are tried again.
 fn load(control: &mut Controller, name: &[u8]) -> Begins {
-    match control.tasks.is_empty() {
+    match control.tasks.iter().all(Task::is_command) {
         true => Ok(TaskWork::Load(control.backend.load(name)?).into()),
         false => Err(Refusal::under_way()),
     }
