@@ -59,3 +59,31 @@ impl AskedCommand {
         }
     }
 }
+
+#[cfg(test)]
+mod tests {
+    use super::super::plain_backend::PlainBackend;
+    use super::*;
+    use durkenzo::Stand;
+
+    /// What becomes of a command whose shard is busy for so many tries, of which there is one each second.
+    fn tried(busy: u32) -> Result<ControlAnswer, Refusal> {
+        let backend = PlainBackend::of(1, Stand::Vacant);
+        backend.plain().busy = [(0, busy)].into();
+        let mut control = backend.control();
+        let mut command = AskedCommand::new(ControlCommand::Assign(0, 1));
+        loop {
+            match command.advance(&mut control)? {
+                Advance::Done(answer) => return Ok(answer),
+                _ => backend.plain().passed += Duration::from_secs(1),
+            }
+        }
+    }
+
+    #[test]
+    fn a_command_is_tried_again_for_a_while_if_its_shard_is_busy() {
+        assert_eq!(tried(2), Ok(ControlAnswer::Done));
+        let refused = tried(3).unwrap_err();
+        assert!(refused.is_passing(), "{refused}");
+    }
+}

@@ -477,3 +477,45 @@ fn answer(reply_to: Option<Box<dyn ReplyTo>>, answer: Result<ControlAnswer, Refu
         (None, Ok(_)) => {}
     }
 }
+
+#[cfg(test)]
+mod tests {
+    use super::super::plain_backend::{PlainBackend, Teller};
+    use super::super::Words;
+    use super::*;
+    use std::sync::mpsc::Receiver;
+
+    /// Has the control take this command in its turn.
+    fn asked<const N: usize>(
+        control: &mut Controller,
+        words: [&str; N],
+    ) -> Receiver<Result<ControlAnswer, Refusal>> {
+        let (reply_to, told) = Teller::pair();
+        let words = Words::of(words);
+        control.turn(Some(Asked { words, reply_to }));
+        told
+    }
+
+    #[test]
+    fn a_busy_command_holds_up_no_others() {
+        let backend = PlainBackend::of(2, Stand::Vacant);
+        backend.plain().busy = [(0, u32::MAX)].into();
+        let mut control = backend.control();
+        assert_eq!(control.wait(), None);
+        let busy = asked(&mut control, ["SM", "ASSIGN", "0", "1"]);
+        assert!(control.wait().is_some_and(|it| it <= TICK));
+        let other = asked(&mut control, ["SM", "ASSIGN", "1", "1"]);
+        assert_eq!(other.try_recv(), Ok(Ok(ControlAnswer::Done)));
+        // A load isn't refused as something is under way: there are no dumps here.
+        let load = asked(&mut control, ["SM", "LOAD", "a"]);
+        let wanted = Refusal::not_durable("LOAD");
+        assert_eq!(load.try_recv(), Ok(Err(wanted)));
+        assert!(busy.try_recv().is_err());
+        backend.plain().busy.clear();
+        backend.plain().passed += LEAST_WAIT;
+        control.turn(None);
+        assert_eq!(busy.try_recv(), Ok(Ok(ControlAnswer::Done)));
+        assert_eq!(control.wait(), None);
+        assert_eq!(backend.plain().stands, [Stand::Serving(1); 2]);
+    }
+}
