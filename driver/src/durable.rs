@@ -337,6 +337,8 @@ impl Durable {
         self.inner
             .with(shard, |it, actions| it.hold(Box::new(holder), actions));
         if !self.threads.is_empty() {
+            // A control waits here, on its own thread.
+            #[allow(clippy::disallowed_methods)]
             let _ = told.recv();
         }
         let outcome = self.inner.store.make(transaction);

@@ -1,4 +1,4 @@
-//! The threads of a process's shards. Only here do shards wait.
+//! The threads of a process's shards. Only here do these wait for work, or for time to pass.
 use crate::durable::{DurableInner, ReaderJob};
 use crate::OpenFault;
 use std::sync::mpsc::Receiver;

@@ -1,4 +1,4 @@
-//! The threads that run controls. Only here does a control wait.
+//! The threads that run controls. Only here does a control wait for who asks.
 use super::patience::Patience;
 use super::{Asked, Campaigner, Controller, Refusal};
 use durkenzo_driver::ControlCommand;

@@ -4,7 +4,7 @@ use std::sync::{Arc, Mutex, MutexGuard, PoisonError};
 use std::time::{Duration, Instant};
 
 /// How long a command waits for somebody to lead.
-const PATIENCE: Duration = Duration::from_secs(5);
+const LEADER_WAIT: Duration = Duration::from_secs(5);
 
 /// Commands that wait for somebody to lead.
 #[derive(Clone, Debug, Default)]
@@ -40,7 +40,7 @@ impl Waiting {
 
     /// Has the command wait from now on.
     pub fn hold(&self, asked: Asked) {
-        let until = self.clock.now() + PATIENCE;
+        let until = self.clock.now() + LEADER_WAIT;
         self.hold_again(HeldCommand { until, asked });
     }
 
