@@ -139,14 +139,7 @@ impl World {
         };
         let happenings = drawn(&mut chance, more);
         let control = is_controlled.then(|| ControlShape::new(&mut chance, shards, bug));
-        let tuning = Tuning {
-            wait: WAIT,
-            most_batches: MOST_BATCHES,
-            reads: match chance.is_true(1, 3) {
-                true => Reads::Lease,
-                false => Reads::Exact,
-            },
-        };
+        let tuning = drawn_tuning(&mut chance);
         World {
             chance,
             happenings,
@@ -701,6 +694,18 @@ impl World {
         let mut mail = self.mails.lock().expect("no panic");
         let at = self.chance.below(mail.answers.len().max(1) as u64) as usize;
         (at < mail.answers.len()).then(|| mail.answers.swap_remove(at))
+    }
+}
+
+/// How the shards of this schedule are.
+fn drawn_tuning(chance: &mut Chance) -> Tuning {
+    Tuning {
+        wait: WAIT,
+        most_batches: MOST_BATCHES,
+        reads: match chance.is_true(1, 3) {
+            true => Reads::Lease,
+            false => Reads::Exact,
+        },
     }
 }
 

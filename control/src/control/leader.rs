@@ -155,8 +155,8 @@ impl LeaderWatch {
         control.resume_left()
     }
 
-    /// Has servers have failed that aren't there any more, and goes on with their shards, and with those of servers that
-    /// somebody had have failed: at the next look where the store doesn't let it now.
+    /// Has servers have failed that aren't there any more. Goes on with their shards, and with those of servers that
+    /// somebody had have failed: at the next look if the store doesn't let it now.
     fn have_fail(&mut self, control: &mut Controller) -> Result<(), Refusal> {
         while let Some(server) = control.backend.fallen()? {
             match control.make(ControlCommand::Fail(server)) {

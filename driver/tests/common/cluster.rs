@@ -218,33 +218,16 @@ impl Net {
         let (is_cut, is_deaf) = (line.is_cut.clone(), line.is_deaf.clone());
         let (meanwhile, sent_there) = (line.meanwhile.clone(), line.sent.clone());
         let store = by(line);
-        let addresses = Addresses {
-            servers: format!("node-{server}"),
-            clients: String::new(),
-        };
-        let member = Member::join(
-            store.clone(),
-            server,
-            addresses,
-            self.lease,
-            Box::new(|| {}),
-        );
-        let member = Arc::new(member.expect("a member"));
         let (send, sent) = mpsc::channel();
         let send = Mutex::new(send);
         let elsewhere = move |elsewhere, steps| {
             let _ = send.lock().unwrap().send((elsewhere, steps));
         };
-        let tuning = Tuning {
-            wait: Duration::from_secs(20),
-            most_batches: 40,
-            reads: self.reads,
-        };
         let own = Own {
-            member,
+            member: Arc::new(self.member(&store, server)),
             elsewhere: Box::new(elsewhere),
         };
-        let durable = Durable::open_one(store, shards, tuning, own, Box::new(|| {}));
+        let durable = Durable::open_one(store, shards, self.tuning(), own, Box::new(|| {}));
         let durable = Arc::new(durable.expect("shards"));
         let place = (Arc::downgrade(&durable), is_cut.clone());
         self.places.lock().unwrap().insert(server, place);
@@ -258,6 +241,25 @@ impl Net {
             is_cut,
             is_deaf,
             sent: sent_there,
+        }
+    }
+
+    /// The server of a process, which is there from now on.
+    fn member(&self, store: &Arc<dyn Store>, server: u16) -> Member {
+        let addresses = Addresses {
+            servers: format!("node-{server}"),
+            clients: String::new(),
+        };
+        let (store, on_change) = (store.clone(), Box::new(|| {}));
+        let member = Member::join(store, server, addresses, self.lease, on_change);
+        member.expect("a member")
+    }
+
+    fn tuning(&self) -> Tuning {
+        Tuning {
+            wait: Duration::from_secs(20),
+            most_batches: 40,
+            reads: self.reads,
         }
     }
 

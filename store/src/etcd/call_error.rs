@@ -95,7 +95,7 @@ impl CallError {
         }
     }
 
-    /// Whether another member may be asked, where that may be done twice: this one can't be reached, or it is of this one.
+    /// Whether another member may be asked, if that may be done twice: this one can't be reached, or it is of this one.
     pub(super) fn is_passed_over(&self) -> bool {
         matches!(self, CallError::Unreachable(_)) || self.is_of_member()
     }
