@@ -44,6 +44,8 @@ pub enum Bug {
     KeptIntent,
     /// A leader doesn't have servers be up again: it is told that the store doesn't take that.
     NoReturn,
+    /// A control with something under way waits until somebody asks: its wait is taken for one without an end.
+    EndlessWait,
 }
 
 impl Bug {
@@ -56,7 +58,7 @@ impl Bug {
 /// The first of those of the control that ships.
 const FIRST_OF_CONTROL: usize = 16;
 
-pub const BUGS: [Bug; 21] = [
+pub const BUGS: [Bug; 22] = [
     Bug::NoRecordCompare,
     Bug::NoHeadCompare,
     Bug::NoLeaderCompare,
@@ -78,4 +80,5 @@ pub const BUGS: [Bug; 21] = [
     Bug::DeafFollower,
     Bug::KeptIntent,
     Bug::NoReturn,
+    Bug::EndlessWait,
 ];

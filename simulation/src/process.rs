@@ -1,3 +1,4 @@
+use crate::bug::Bug;
 use crate::control_shape::ControlShape;
 use crate::line::Line;
 use crate::mail::{Mails, Message, Sender};
@@ -27,6 +28,10 @@ pub struct Process {
     /// The control that ships, in schedules that have it, and what it is asked.
     pub campaigner: Option<Campaigner>,
     pub inbox: VecDeque<Asked>,
+    /// When its control has its next turn, if nobody asks sooner.
+    due: Duration,
+    time: Time,
+    bug: Option<Bug>,
     /// Whether it is to stop.
     pub is_stopping: Arc<AtomicBool>,
     /// Until when it does nothing.
@@ -70,6 +75,9 @@ impl Process {
             control: None,
             campaigner: None,
             inbox: VecDeque::new(),
+            due: Duration::ZERO,
+            time: time.clone(),
+            bug: None,
             is_stopping: Arc::default(),
             paused_until: Duration::ZERO,
             read: Vec::new(),
@@ -91,12 +99,25 @@ impl Process {
         let (host, peers) = (Arc::new(host), Arc::new(peers));
         let (durable, line) = (self.durable.clone(), shape.settings.clone());
         self.campaigner = Some(Campaigner::new(host, durable, peers, line, true));
+        self.bug = shape.bug;
     }
 
     /// Its control takes what it was asked first, and does what is due.
     pub fn take_turn(&mut self) {
         if let Some(campaigner) = &mut self.campaigner {
             campaigner.turn(self.inbox.pop_front());
+            let wait = match self.bug {
+                Some(Bug::EndlessWait) if !campaigner.is_idle() => Duration::MAX,
+                _ => campaigner.wait(),
+            };
+            self.due = self.time.passed().saturating_add(wait);
+        }
+    }
+
+    /// Its control has its turn if somebody asks or it is time for one, as on a thread of its own.
+    pub fn take_turn_if_due(&mut self) {
+        if !self.inbox.is_empty() || self.due <= self.time.passed() {
+            self.take_turn();
         }
     }
 

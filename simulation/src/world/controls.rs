@@ -275,7 +275,7 @@ impl World {
     fn pass_round(&mut self, round: u64) {
         self.time.pass(ROUND);
         for process in self.processes.iter_mut().flatten() {
-            process.take_turn();
+            process.take_turn_if_due();
         }
         while self.has_commands() {
             self.deliver_command();
