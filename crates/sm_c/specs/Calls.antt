@@ -9,8 +9,8 @@ use Rattle.sm_desk.specs.declared.command.Command.TheVariants.{Change as ChangeO
 use Rattle.sm_handle.specs.Acts.{AdmitsHandle, CommandsHandle, LooksHandle, RefusesHandle}
 use Rattle.sm_handle.specs.Plans.{IsMove, IsPlanOf}
 use Rattle.sm_word.specs.Word.{server_of}
-use Rattle.sm_handle.specs.declared.act_fault.ActFault.{ActFault}
-use Rattle.sm_handle.specs.declared.handle_state.HandleState.{HandleState}
+use Rattle.sm_handle.specs.ActFault.{ActFault}
+use Rattle.sm_handle.specs.HandleState.{HandleState}
 use Rattle.sm_c.specs.Codes.{act_fault_code, pass_code}
 use Rattle.sm_c.specs.Reading.{TellsAdmission, TellsRecord, act_read}
 use Rattle.sm_c.specs.Words.{ArePartsOf, CameFrom, IsNoChange, IsNoServer, IsOfKind}

@@ -32,12 +32,12 @@ use Rattle.sm_tasks.specs.declared.restart_fault.RestartFault.TheVariants.{Still
 use Rattle.sm_foreign.specs.declared.open_fault.OpenFault.{OpenFault}
 use Rattle.sm_foreign.specs.declared.open_fault.OpenFault.TheVariants.{Board, Bodies, Books, Restarts, Servers}
 use Rattle.sm_foreign.specs.declared.open_fault.OpenFault.TheVariants.{NoMemory as NoMemoryToOpen}
-use Rattle.sm_handle.specs.declared.cut_fault.CutFault.{CutFault}
-use Rattle.sm_handle.specs.declared.cut_fault.CutFault.TheVariants.{Layout as NoLayout, Outside}
-use Rattle.sm_handle.specs.declared.act_fault.ActFault.{ActFault}
-use Rattle.sm_handle.specs.declared.act_fault.ActFault.TheVariants.{WrongHandle, UnknownShard, UnknownServer, NoMemory}
-use Rattle.sm_handle.specs.declared.act_fault.ActFault.TheVariants.{TooShort, NotSent, NoMore, Admit, Checkpoint}
-use Rattle.sm_handle.specs.declared.act_fault.ActFault.TheVariants.{Command}
+use Rattle.sm_handle.specs.CutFault.{CutFault}
+use Rattle.sm_handle.specs.CutFault.TheVariants.{Layout as NoLayout, Outside}
+use Rattle.sm_handle.specs.ActFault.{ActFault}
+use Rattle.sm_handle.specs.ActFault.TheVariants.{WrongHandle, UnknownShard, UnknownServer, NoMemory}
+use Rattle.sm_handle.specs.ActFault.TheVariants.{TooShort, NotSent, NoMore, Admit, Checkpoint}
+use Rattle.sm_handle.specs.ActFault.TheVariants.{Command}
 use Rattle.sm_c.specs.declared.requests.RequestFault.{RequestFault}
 use Rattle.sm_c.specs.declared.requests.RequestFault.TheVariants.{Argument, Key as BadKey}
 use Rattle.sm_c.specs.declared.word_fault.WordFault.{WordFault}

@@ -8,8 +8,8 @@ use Rattle.sm_rule.specs.Words.{IsWordOf}
 use Rattle.sm_server.specs.declared.checkpoint_fault.CheckpointFault.TheVariants.{Admit as ByAdmission}
 use Rattle.sm_server.specs.declared.refusal.Refusal.{Refusal}
 use Rattle.sm_server.specs.declared.refusal.Refusal.TheVariants.{Admit as UnadmittedAt}
-use Rattle.sm_handle.specs.declared.act_fault.ActFault.{ActFault}
-use Rattle.sm_handle.specs.declared.act_fault.ActFault.TheVariants.{Admit, Checkpoint, Command}
+use Rattle.sm_handle.specs.ActFault.{ActFault}
+use Rattle.sm_handle.specs.ActFault.TheVariants.{Admit, Checkpoint, Command}
 use Rattle.sm_c.specs.Words.{ArePartsOf}
 use Rattle.sm_c.specs.declared.record_parts.RecordParts.{RecordParts}
 

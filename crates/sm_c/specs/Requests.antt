@@ -6,12 +6,12 @@ use Rattle.sm_ranges.specs.declared.key.KeyFault.TheVariants.{Empty, TooLong, No
 use Rattle.sm_server.specs.declared.refusal.Refusal.{Refusal}
 use Rattle.sm_service.specs.declared.request.Request.{Request}
 use Rattle.sm_service.specs.declared.request.Request.TheVariants.{Get, Put, Append, Inc, Del, Scan}
-use Rattle.sm_handle.specs.declared.handle_state.HandleState.{HandleState}
-use Rattle.sm_handle.specs.declared.act_fault.ActFault.{ActFault}
-use Rattle.sm_handle.specs.declared.served_as.ServedAs.TheVariants.{Refused}
+use Rattle.sm_handle.specs.HandleState.{HandleState}
+use Rattle.sm_handle.specs.ActFault.{ActFault}
+use Rattle.sm_handle.specs.ServedAs.TheVariants.{Refused}
 use Rattle.sm_handle.specs.Maps.{HoldsKeys, KeepsNoMap, MakesNoReply, MakesReply}
 use Rattle.sm_handle.specs.Serving.{Carries, CarriesNothing, IsSentAs, RefusesCheckpoint, Serves, ServesNowhere}
-use Rattle.sm_handle.specs.declared.sent_as.SentAs.{SentAs}
+use Rattle.sm_handle.specs.SentAs.{SentAs}
 use Rattle.sm_c.specs.Codes.{IsCodeOf, act_fault_code, refusal_code, request_fault_code}
 use Rattle.sm_c.specs.Words.{CameFrom}
 use Rattle.sm_c.specs.declared.sent_parts.SentParts.{SentParts}

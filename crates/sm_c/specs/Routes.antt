@@ -6,9 +6,9 @@ use Rattle.sm_ownership.specs.declared.route.Route.{Route}
 use Rattle.sm_ownership.specs.declared.route_fault.RouteFault.{RouteFault}
 use Rattle.sm_ownership.specs.declared.route_fault.RouteFault.TheVariants.{UnknownShard, WrongPhase, OldRoute}
 use Rattle.sm_ownership.specs.declared.route_fault.RouteFault.TheVariants.{NoMemory}
-use Rattle.sm_handle.specs.declared.handle_state.HandleState.{HandleState}
-use Rattle.sm_handle.specs.declared.publish_fault.PublishFault.{PublishFault}
-use Rattle.sm_handle.specs.declared.publish_fault.PublishFault.TheVariants.{Refused, WrongHandle}
+use Rattle.sm_handle.specs.HandleState.{HandleState}
+use Rattle.sm_handle.specs.PublishFault.{PublishFault}
+use Rattle.sm_handle.specs.PublishFault.TheVariants.{Refused, WrongHandle}
 use Rattle.sm_handle.specs.Routes.{ReadsHandleRoute, RefusesRoute}
 use Rattle.sm_c.specs.declared.route_parts.RouteParts.{RouteParts}
 use Rattle.sm_c.specs.Words.{IsNoServer}

@@ -3,7 +3,8 @@ ghost use Rattle.std.specs.Prelude.{◌≡◌, ◌≢◌, ◌<◌, ◌⊎◌, le
 ghost use Rattle.sm_foreign.specs.Refusals.{OpensNothing};
 ghost use Rattle.sm_foreign.specs.declared.fence.TheConstants.{MAX_AFTER};
 ghost use Rattle.sm_foreign.specs.declared.open_fault.OpenFault.{OpenFault as OpenFaultValue};
-ghost use Rattle.sm_handle.specs.Acts.{HoldsNothing, IsOpened, TellsToken};
+ghost use Rattle.sm_handle.specs.Acts.{HoldsNothing, TellsToken};
+ghost use Rattle.sm_handle.specs.Opening.{IsOpened};
 ghost use Rattle.sm_c.specs.Codes.{open_fault_code};
 
 use crate::codes::{BAD_AFTER, WRONG_HANDLE, code_of_open, code_of_pass};

@@ -2,7 +2,7 @@
 ghost use Rattle.std.specs.Prelude.{◌≡◌, ◌≢◌, ◌<◌, ◌⊎◌};
 ghost use Rattle.sm_ranges.specs.declared.limits.TheConstants.{MAX_SHARD};
 ghost use Rattle.sm_handle.specs.Layouts.{CutsNothing, HasNoBound, IsLayoutOf, IsShardOf, KeepsNoLayout, WritesBound};
-ghost use Rattle.sm_handle.specs.declared.cut_fault.CutFault.{CutFault as CutFaultValue};
+ghost use Rattle.sm_handle.specs.CutFault.{CutFault as CutFaultValue};
 ghost use Rattle.sm_c.specs.Codes.{IsCodeOf, cut_fault_code};
 
 use crate::codes::{UNKNOWN_SHARD, WRONG_HANDLE, code_of_act, code_of_cut};

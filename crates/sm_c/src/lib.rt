@@ -6,11 +6,11 @@
 ghost use Rattle.std.specs.Prelude.{◌≡◌, ◌≢◌, ◌<◌, ◌⊎◌, Some, None, length, unwrap_or};
 ghost use Rattle.sm_foreign.specs.Refusals.{OpensNothing};
 ghost use Rattle.sm_foreign.specs.declared.open_fault.OpenFault.{OpenFault as OpenFaultValue};
-ghost use Rattle.sm_handle.specs.declared.act_fault.ActFault.{ActFault as ActFaultValue};
+ghost use Rattle.sm_handle.specs.ActFault.{ActFault as ActFaultValue};
 ghost use Rattle.sm_ownership.specs.declared.record.Record.{Record as RecordValue};
 ghost use Rattle.sm_ownership.specs.Rules.{executor, forward_to};
-ghost use Rattle.sm_handle.specs.Acts.{EndsHandle, GivesNoPass, HoldsNothing, IsOpened, IsPassOf, LooksNowhere};
-ghost use Rattle.sm_handle.specs.Acts.{TellsWord};
+ghost use Rattle.sm_handle.specs.Acts.{EndsHandle, GivesNoPass, HoldsNothing, IsPassOf, LooksNowhere, TellsWord};
+ghost use Rattle.sm_handle.specs.Opening.{IsOpened};
 ghost use Rattle.sm_ranges.specs.ServerId.{IsServer};
 ghost use Rattle.sm_ranges.specs.declared.limits.TheConstants.{MAX_SERVER, MAX_SHARD};
 ghost use Rattle.sm_word.specs.Word.{IsWellFormed, word_of};

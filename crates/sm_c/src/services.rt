@@ -1,9 +1,10 @@
 //! Boards of the sample service.
 ghost use Rattle.std.specs.Prelude.{◌≡◌, ◌≢◌};
 ghost use Rattle.sm_handle.specs.Maps.{Replied};
-ghost use Rattle.sm_handle.specs.Serving.{IsOfBoard, IsServiceOpened, KeepsNoAnswer, KeepsNoEnvelope, MakesCheckpoint};
-ghost use Rattle.sm_handle.specs.Serving.{Serves, TellsAnswer};
-ghost use Rattle.sm_handle.specs.declared.served_as.ServedAs.TheVariants.{Answered, Forward, Refused};
+ghost use Rattle.sm_handle.specs.Opening.{IsServiceOpened};
+ghost use Rattle.sm_handle.specs.Serving.{IsOfBoard, KeepsNoAnswer, KeepsNoEnvelope, MakesCheckpoint, Serves};
+ghost use Rattle.sm_handle.specs.Serving.{TellsAnswer};
+ghost use Rattle.sm_handle.specs.ServedAs.TheVariants.{Answered, Forward, Refused};
 ghost use Rattle.sm_server.specs.declared.refusal.Refusal.{Refusal as RefusalValue};
 ghost use Rattle.sm_foreign.specs.Refusals.{OpensNothing};
 ghost use Rattle.sm_foreign.specs.declared.open_fault.OpenFault.{OpenFault as OpenFaultValue};

@@ -4,8 +4,8 @@ use denote.Param.{layout}
 use Rattle.sm_kept.proofs.Owner.{Owner}
 use Rattle.sm_handle.specs.declared.owned.Owned.{Owned}
 use Rattle.sm_handle.specs.contracts.owned.Owned.{the_row, the_type}
-use Rattle.sm_handle.specs.contracts.handle_state.HandleState as State
-use Rattle.sm_handle.proofs.handle_state.HandleState.TheLaws as state
+use Rattle.sm_handle_state.specs.contracts.handle_state.HandleState as State
+use Rattle.sm_handle_state.proofs.handle_state.HandleState.TheLaws as state
 
 abbrev pub O : Owner
 O = record {

@@ -1,9 +1,9 @@
 -- What a handle lends.
 use Rattle.std.specs.Prelude.{Some}
 use Rattle.std.specs.Borrow.{Fml, Lends, MutBor}
-use Rattle.sm_handle.specs.declared.handle_state.HandleState.{HandleState}
+use Rattle.sm_handle_state.specs.declared.handle_state.HandleState.{HandleState}
 use Rattle.sm_handle.specs.declared.owned.Owned.{Owned}
-use Rattle.sm_handle.specs.contracts.handle_state.HandleState as State
+use Rattle.sm_handle_state.specs.contracts.handle_state.HandleState as State
 use Rattle.sm_handle.specs.contracts.owned.Owned.{the_row}
 
 -- what owns this state in place of its own

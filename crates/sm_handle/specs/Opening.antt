@@ -1,14 +1,37 @@
--- Boards that a line of settings describes.
-use Rattle.std.specs.Prelude.{ℕ, ◌≡◌, ◌≢◌, List, length, replicate, Option, Some, Ok, Err}
-use Rattle.sm_foreign.specs.Chiefs.{IsControlBy}
+-- Boards that handles open.
+use Rattle.std.specs.Prelude.{ℕ, ◌≡◌, ◌≢◌, List, length, map, replicate, Option, Some, Ok, Err}
+use Rattle.sm_foreign.specs.Chiefs.{IsControlBy, first_desk, foreign_of}
 use Rattle.sm_foreign.specs.Refusals.{OpensNothingBy}
+use Rattle.sm_foreign.specs.declared.foreign.Foreign.{Foreign}
 use Rattle.sm_settings.specs.SettingsLine.{SettingsValues, settings_of}
 use Rattle.sm_settings.specs.declared.settings_fault.SettingsFault.TheVariants.{NoMemory}
-use Rattle.sm_handle.specs.Acts.{foreign_limits}
-use Rattle.sm_handle.specs.declared.handle_state.HandleState.{HandleState}
-use Rattle.sm_handle.specs.declared.handle_state.HandleState.TheVariants.{Chief, Layout, TextChief}
+use Rattle.sm_handle_state.specs.declared.handle_state.HandleState.{HandleState}
+use Rattle.sm_handle_state.specs.declared.handle_state.HandleState.TheVariants.{Chief, Layout, TextChief}
 use Rattle.sm_handle.specs.declared.settings_open_fault.SettingsOpenFault.{SettingsOpenFault}
 use Rattle.sm_handle.specs.declared.settings_open_fault.SettingsOpenFault.TheVariants.{Open, Settings}
+
+-- the limits that a board keeps for bodies of these numbers, which are the numbers
+abbrev pub foreign_limits : List ℕ → List ℕ
+foreign_limits numbers = map (λ (body : Foreign). body.number) (foreign_of numbers)
+
+-- the handle keeps the control of a new board with a body for each number, of so many servers, under this cap of
+-- restarts and this ceiling, whose tokens begin after this number
+abbrev pub IsOpened : Option HandleState → List ℕ → ℕ → ℕ → ℕ → ℕ → Type 0
+IsOpened (Some (Chief chief)) numbers servers ops ceiling after =
+    let board = chief.held.value.chair.board in
+    (board.limits.count ≡ length numbers) × (board.limits.ceiling ≡ ceiling)
+    × (board.limits.bodies ≡ foreign_limits numbers)
+    × (chief.held.value.desk ≡ first_desk servers (length numbers) ops) × (chief.fence.after ≡ after)
+IsOpened state numbers servers ops ceiling after = ⊥
+
+-- the handle keeps the control of a new board of so many empty bodies that keep so many requests each, of so many
+-- servers, under this cap of restarts and this ceiling
+abbrev pub IsServiceOpened : Option HandleState → ℕ → ℕ → ℕ → ℕ → ℕ → Type 0
+IsServiceOpened (Some (TextChief chief)) count kept servers ops ceiling =
+    (chief.value.chair.board.limits.count ≡ count) × (chief.value.chair.board.limits.ceiling ≡ ceiling)
+    × (chief.value.chair.board.limits.bodies ≡ replicate count kept)
+    × (chief.value.desk ≡ first_desk servers count ops)
+IsServiceOpened state count kept servers ops ceiling = ⊥
 
 -- the handle keeps the control of a new board of empty bodies of the sample service, as the settings say
 abbrev pub KeepsService : Option HandleState → SettingsValues → Type 0

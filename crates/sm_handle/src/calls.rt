@@ -1,15 +1,14 @@
 //! Calls on handles.
 ghost use Rattle.std.specs.Prelude.{◌≡◌, IfErr, IfOk, OnOk, length};
 ghost use Rattle.sm_foreign.specs.Refusals.{OpensNothing};
-ghost use Rattle.sm_handle.specs.Acts.{AdmitsHandle, CommandsHandle, EndsHandle, GivesNoPass, HoldsNothing, IsOpened};
-ghost use Rattle.sm_handle.specs.Acts.{IsPassOf, LooksNowhere, RefusesHandle, TellsToken, TellsWord};
+ghost use Rattle.sm_handle_state.specs.Acts.{AdmitsHandle, CommandsHandle, EndsHandle, GivesNoPass, HoldsNothing};
+ghost use Rattle.sm_handle_state.specs.Acts.{IsPassOf, LooksNowhere, RefusesHandle, TellsToken, TellsWord};
+ghost use Rattle.sm_handle.specs.Opening.{IsOpened};
 
-use crate::act_fault::ActFault;
-use crate::acts;
 use crate::handle::Handle;
-use crate::handle_state::HandleState;
 use sm_desk::Command;
 use sm_foreign::{Chief, Fence, Foreign, ForeignChief, OpenFault};
+use sm_handle_state::{ActFault, HandleState, acts};
 use sm_ownership::mode::Mode;
 use sm_ranges::server_id::ServerId;
 use sm_ranges::shard_id::ShardId;

@@ -1,7 +1,7 @@
 ghost use Rattle.std.specs.Prelude.{◌≡◌, Some, None, OnErr, OnOk, is_some, true};
 
-use crate::handle_state::HandleState;
 use crate::owned::Owned;
+use sm_handle_state::HandleState;
 use sm_kept::BoxParts;
 use std::alloc::{AllocError, Global};
 

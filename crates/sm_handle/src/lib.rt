@@ -10,38 +10,22 @@
 //! ```
 #![tactic(auto)]
 
-pub mod act_fault;
-pub mod acts;
-pub mod answer_parts;
 mod calls;
-pub mod cut_fault;
 pub mod handle;
-pub mod handle_state;
 mod layouts;
 mod maps;
 mod notes;
 mod opening;
 pub mod owned;
 mod plans;
-pub mod publish_fault;
 mod replies;
-pub mod reply_parts;
 mod routes;
-pub mod sent_as;
-pub mod served_as;
 mod serving;
 pub mod settings_open_fault;
-pub mod text_part;
-mod written;
 
-pub use act_fault::ActFault;
-pub use answer_parts::AnswerParts;
-pub use cut_fault::CutFault;
 pub use handle::Handle;
-pub use handle_state::HandleState;
-pub use publish_fault::PublishFault;
-pub use reply_parts::ReplyParts;
-pub use sent_as::SentAs;
-pub use served_as::ServedAs;
 pub use settings_open_fault::SettingsOpenFault;
-pub use text_part::TextPart;
+pub use sm_handle_state::{
+    ActFault, AnswerParts, CutFault, HandleState, PublishFault, ReplyParts, SentAs, ServedAs,
+    TextPart,
+};

@@ -4,14 +4,14 @@ ghost use Rattle.sm_settings.specs.SettingsLine.{settings_of, values_of};
 ghost use Rattle.sm_settings.specs.SettingsRules.{KeepsRules};
 ghost use Rattle.sm_foreign.specs.Chiefs.{IsControlBy};
 ghost use Rattle.sm_foreign.specs.Refusals.{OpensNothingBy};
-ghost use Rattle.sm_handle.specs.Acts.{foreign_limits};
 ghost use Rattle.sm_handle.specs.Opening.{KeepsLayout, OpensBoard, OpensNoBoard, OpensNoService, OpensService};
+ghost use Rattle.sm_handle.specs.Opening.{foreign_limits};
 
 use crate::handle::Handle;
-use crate::handle_state::HandleState;
 use crate::serving::empty_bodies;
 use crate::settings_open_fault::SettingsOpenFault;
 use sm_foreign::{Chief, Fence, Foreign, ForeignChief, OpenFault};
+use sm_handle_state::HandleState;
 use sm_ranges::layout::Layout;
 use sm_service::CounterText;
 use sm_settings::Settings;

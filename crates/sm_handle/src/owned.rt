@@ -1,10 +1,10 @@
 ghost use Rattle.std.specs.Prelude.{◌≡◌, Some, None, Option, is_some, true};
 ghost use Rattle.std.specs.Coded.{coded_option};
-ghost use Rattle.sm_handle.specs.declared.handle_state.HandleState.{HandleState as StateValue};
-ghost use Rattle.sm_handle.specs.contracts.handle_state.HandleState.{the_row as state_row};
+ghost use Rattle.sm_handle_state.specs.declared.handle_state.HandleState.{HandleState as StateValue};
+ghost use Rattle.sm_handle_state.specs.contracts.handle_state.HandleState.{the_row as state_row};
 ghost use Rattle.sm_kept.specs.Owns.{state_owns};
 
-use crate::handle_state::HandleState;
+use sm_handle_state::HandleState;
 use sm_kept::BoxParts;
 use std::alloc::Global;
 use std::marker::Model;

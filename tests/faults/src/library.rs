@@ -2,8 +2,7 @@
 use crate::texts::assert_texts;
 use sm_desk::CommandFault;
 use sm_foreign::{Chief, Fence, Foreign, ForeignChief, ForeignPass, OpenFault, PassFault};
-use sm_handle::act_fault::ActFault;
-use sm_handle::{CutFault, PublishFault, SettingsOpenFault};
+use sm_handle::{ActFault, CutFault, PublishFault, SettingsOpenFault};
 use sm_ownership::Mode;
 use sm_ownership::route_fault::RouteFault;
 use sm_place::BooksFault;

@@ -1,7 +1,7 @@
 //! What a call does to the state of a handle.
 ghost use Rattle.std.specs.Prelude.{◌≡◌, IfErr, IfOk, Some};
-ghost use Rattle.sm_handle.specs.Acts.{AdmitsState, CommandsState, EndsState, GivesNoPass, HoldsNothing};
-ghost use Rattle.sm_handle.specs.Acts.{IsPassOfState, LooksNowhere, RefusesState, TellsToken, TellsWord};
+ghost use Rattle.sm_handle_state.specs.Acts.{AdmitsState, CommandsState, EndsState, GivesNoPass, HoldsNothing};
+ghost use Rattle.sm_handle_state.specs.Acts.{IsPassOfState, LooksNowhere, RefusesState, TellsToken, TellsWord};
 
 use crate::act_fault::ActFault;
 use crate::handle_state::HandleState;

@@ -1,8 +1,7 @@
 -- Boards of the sample service, their passes, and envelopes, that handles keep.
-use Rattle.std.specs.Prelude.{ℕ, ◌≡◌, ◌≤◌, ◌<◌, ◌⊎◌, ⊤, [], replicate, Option, Some, None}
+use Rattle.std.specs.Prelude.{ℕ, ◌≡◌, ◌≤◌, ◌<◌, ◌⊎◌, ⊤, [], Option, Some, None}
 use Rattle.sm_body.specs.Service.{Meaning, meaning_of}
 use Rattle.sm_envelope.specs.declared.envelope.TheConstants.{MOST_HOPS}
-use Rattle.sm_foreign.specs.Chiefs.{first_desk}
 use Rattle.sm_ownership.specs.declared.mode.Mode.{Mode}
 use Rattle.sm_ownership.specs.declared.mode.Mode.TheVariants.{Direct, Forwarded}
 use Rattle.sm_rule.specs.Passes.{PassLooks, record_of}
@@ -16,29 +15,20 @@ use Rattle.sm_server.specs.declared.outcome.Outcome.TheVariants.{Refused as Refu
 use Rattle.sm_service.specs.Service.{after, key_of_request, reply}
 use Rattle.sm_service.specs.declared.reply.Reply.{Reply as ReplyValue}
 use Rattle.sm_service.specs.declared.request.Request.{Request}
-use Rattle.sm_handle.specs.Notes.{KeepsNoTextPass}
-use Rattle.sm_handle.specs.declared.act_fault.ActFault.{ActFault}
-use Rattle.sm_handle.specs.declared.act_fault.ActFault.TheVariants.{Checkpoint, NoMemory, NotSent, UnknownShard}
-use Rattle.sm_handle.specs.declared.act_fault.ActFault.TheVariants.{WrongHandle}
-use Rattle.sm_handle.specs.declared.answer_parts.AnswerParts.{AnswerParts}
-use Rattle.sm_handle.specs.declared.handle_state.HandleState.{HandleState}
-use Rattle.sm_handle.specs.declared.handle_state.HandleState.TheVariants.{Answer, Envelope, Layout, TextChief, TextPass}
-use Rattle.sm_handle.specs.declared.sent_as.SentAs.{SentAs}
-use Rattle.sm_handle.specs.declared.served_as.ServedAs.{ServedAs}
-use Rattle.sm_handle.specs.declared.served_as.ServedAs.TheVariants.{Answered, Forward, Refused}
+use Rattle.sm_handle_state.specs.Notes.{KeepsNoTextPass}
+use Rattle.sm_handle_state.specs.declared.act_fault.ActFault.{ActFault}
+use Rattle.sm_handle_state.specs.declared.act_fault.ActFault.TheVariants.{Checkpoint, NoMemory, NotSent, UnknownShard}
+use Rattle.sm_handle_state.specs.declared.act_fault.ActFault.TheVariants.{WrongHandle}
+use Rattle.sm_handle_state.specs.declared.answer_parts.AnswerParts.{AnswerParts}
+use Rattle.sm_handle_state.specs.declared.handle_state.HandleState.{HandleState}
+use Rattle.sm_handle_state.specs.declared.handle_state.HandleState.TheVariants.{Answer, Envelope, Layout, TextPass}
+use Rattle.sm_handle_state.specs.declared.sent_as.SentAs.{SentAs}
+use Rattle.sm_handle_state.specs.declared.served_as.ServedAs.{ServedAs}
+use Rattle.sm_handle_state.specs.declared.served_as.ServedAs.TheVariants.{Answered, Forward, Refused}
 
 -- the meaning of the sample service
 abbrev pub sample : Meaning Request ReplyValue
 sample = meaning_of [] after reply key_of_request
-
--- the handle keeps the control of a new board of so many empty bodies that keep so many requests each, of so many
--- servers, under this cap of restarts and this ceiling
-abbrev pub IsServiceOpened : Option HandleState → ℕ → ℕ → ℕ → ℕ → ℕ → Type 0
-IsServiceOpened (Some (TextChief chief)) count kept servers ops ceiling =
-    (chief.value.chair.board.limits.count ≡ count) × (chief.value.chair.board.limits.ceiling ≡ ceiling)
-    × (chief.value.chair.board.limits.bodies ≡ replicate count kept)
-    × (chief.value.desk ≡ first_desk servers count ops)
-IsServiceOpened state count kept servers ops ceiling = ⊥
 
 -- the handle keeps an envelope with this number for this shard, which came so and was forwarded so often
 abbrev pub IsSentAs : Option HandleState → SentAs → Type 0

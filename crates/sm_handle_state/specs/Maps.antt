@@ -6,11 +6,11 @@ use Rattle.sm_service.specs.declared.reply.Reply.{Reply as ReplyValue}
 use Rattle.sm_service.specs.declared.reply.Reply.TheVariants.{Nothing, Done, Text, Count, Pairs}
 use Rattle.sm_service.specs.declared.reply.Reply.TheVariants.{WrongKind, Overflow, TooLong}
 use Rattle.sm_service.specs.declared.request.Request.{Request}
-use Rattle.sm_handle.specs.declared.act_fault.ActFault.{ActFault}
-use Rattle.sm_handle.specs.declared.act_fault.ActFault.TheVariants.{NoMemory, NoMore, TooShort, WrongHandle}
-use Rattle.sm_handle.specs.declared.handle_state.HandleState.{HandleState}
-use Rattle.sm_handle.specs.declared.handle_state.HandleState.TheVariants.{Answer, Map, Reply}
-use Rattle.sm_handle.specs.declared.reply_parts.ReplyParts.{ReplyParts}
+use Rattle.sm_handle_state.specs.declared.act_fault.ActFault.{ActFault}
+use Rattle.sm_handle_state.specs.declared.act_fault.ActFault.TheVariants.{NoMemory, NoMore, TooShort, WrongHandle}
+use Rattle.sm_handle_state.specs.declared.handle_state.HandleState.{HandleState}
+use Rattle.sm_handle_state.specs.declared.handle_state.HandleState.TheVariants.{Answer, Map, Reply}
+use Rattle.sm_handle_state.specs.declared.reply_parts.ReplyParts.{ReplyParts}
 
 -- the handle keeps a map in which no key holds anything
 abbrev pub IsEmptyMap : Option HandleState → Type 0

@@ -2,11 +2,11 @@
 use Rattle.std.specs.Prelude.{ℕ, ◌≡◌, ⊤, slice_get, Option, Some, None}
 use Rattle.sm_foreign.specs.Chiefs.{HasNoServer, planned_for}
 use Rattle.sm_place.specs.declared.plan.Move.{Move}
-use Rattle.sm_handle.specs.Acts.{KeepsNoControl}
-use Rattle.sm_handle.specs.declared.act_fault.ActFault.{ActFault}
-use Rattle.sm_handle.specs.declared.act_fault.ActFault.TheVariants.{NoMemory, NoMore, UnknownServer, WrongHandle}
-use Rattle.sm_handle.specs.declared.handle_state.HandleState.{HandleState}
-use Rattle.sm_handle.specs.declared.handle_state.HandleState.TheVariants.{Chief, Plan, TextChief}
+use Rattle.sm_handle_state.specs.Acts.{KeepsNoControl}
+use Rattle.sm_handle_state.specs.declared.act_fault.ActFault.{ActFault}
+use Rattle.sm_handle_state.specs.declared.act_fault.ActFault.TheVariants.{NoMemory, NoMore, UnknownServer, WrongHandle}
+use Rattle.sm_handle_state.specs.declared.handle_state.HandleState.{HandleState}
+use Rattle.sm_handle_state.specs.declared.handle_state.HandleState.TheVariants.{Chief, Plan, TextChief}
 
 -- the plan of the control's books
 abbrev pub IsPlanOf : Option HandleState → Option HandleState → Option ℕ → Type 0

@@ -2,10 +2,10 @@
 use Rattle.std.specs.Prelude.{◌≡◌, ◌⊎◌, ⊤, Option, Some, None, is_some, true}
 use Rattle.sm_rule.specs.Passes.{PassLooks}
 use Rattle.sm_rule.specs.Views.{Begins, IsMet}
-use Rattle.sm_handle.specs.declared.act_fault.ActFault.{ActFault}
-use Rattle.sm_handle.specs.declared.act_fault.ActFault.TheVariants.{NoMemory, WrongHandle}
-use Rattle.sm_handle.specs.declared.handle_state.HandleState.{HandleState}
-use Rattle.sm_handle.specs.declared.handle_state.HandleState.TheVariants.{Answer, Pass, TextPass}
+use Rattle.sm_handle_state.specs.declared.act_fault.ActFault.{ActFault}
+use Rattle.sm_handle_state.specs.declared.act_fault.ActFault.TheVariants.{NoMemory, WrongHandle}
+use Rattle.sm_handle_state.specs.declared.handle_state.HandleState.{HandleState}
+use Rattle.sm_handle_state.specs.declared.handle_state.HandleState.TheVariants.{Answer, Pass, TextPass}
 
 -- a pass with the server and on the board of the other one, which has seen all that the other has
 abbrev pub IsSplitFrom : Option HandleState → Option HandleState → Type 0

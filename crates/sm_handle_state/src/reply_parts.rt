@@ -1,6 +1,6 @@
 ghost use Rattle.std.specs.Prelude.{◌≡◌};
 ghost use Rattle.sm_map.specs.Val.{held_of};
-ghost use Rattle.sm_handle.specs.Maps.{AreReplyParts, AreValueParts};
+ghost use Rattle.sm_handle_state.specs.Maps.{AreReplyParts, AreValueParts};
 
 use sm_service::{Reply, Val};
 
@@ -17,7 +17,7 @@ pub struct ReplyParts {
 
 impl ReplyParts {
     /// The parts of a reply.
-    pub(crate) fn of(reply: &Reply) -> ReplyParts
+    pub fn of(reply: &Reply) -> ReplyParts
         ensures { AreReplyParts result reply.now }
     {
         match reply {

@@ -4,13 +4,13 @@ use Rattle.std.specs.Prelude.{Option, Some}
 use Rattle.sm_ranges.specs.Ranges.{IsLayout, shard_of}
 use Rattle.sm_ranges.specs.LayoutFault.{first_layout_fault}
 use Rattle.sm_ranges.specs.declared.layout.LayoutFault.TheVariants.{NoMemory}
-use Rattle.sm_handle.specs.declared.act_fault.ActFault.{ActFault}
-use Rattle.sm_handle.specs.declared.act_fault.ActFault.TheVariants.{TooShort, UnknownShard, WrongHandle}
-use Rattle.sm_handle.specs.declared.cut_fault.CutFault.{CutFault}
-use Rattle.sm_handle.specs.declared.cut_fault.CutFault.TheVariants.{Layout as NoLayout, Outside}
-use Rattle.sm_handle.specs.declared.handle_state.HandleState.{HandleState}
-use Rattle.sm_handle.specs.declared.handle_state.HandleState.TheVariants.{Layout}
-use Rattle.sm_handle.specs.declared.text_part.TextPart.{TextPart}
+use Rattle.sm_handle_state.specs.declared.act_fault.ActFault.{ActFault}
+use Rattle.sm_handle_state.specs.declared.act_fault.ActFault.TheVariants.{TooShort, UnknownShard, WrongHandle}
+use Rattle.sm_handle_state.specs.declared.cut_fault.CutFault.{CutFault}
+use Rattle.sm_handle_state.specs.declared.cut_fault.CutFault.TheVariants.{Layout as NoLayout, Outside}
+use Rattle.sm_handle_state.specs.declared.handle_state.HandleState.{HandleState}
+use Rattle.sm_handle_state.specs.declared.handle_state.HandleState.TheVariants.{Layout}
+use Rattle.sm_handle_state.specs.declared.text_part.TextPart.{TextPart}
 
 -- the bytes of this part
 abbrev pub part_of : List ℕ → TextPart → List ℕ

@@ -1,5 +1,5 @@
 -- What calls do to the state of a handle.
-use Rattle.std.specs.Prelude.{ℕ, ◌≡◌, ◌≤◌, ◌<◌, ◌+◌, ◌⊎◌, ⊤, true, List, length, map}
+use Rattle.std.specs.Prelude.{ℕ, ◌≡◌, ◌≤◌, ◌<◌, ◌+◌, ◌⊎◌, ⊤, true}
 use Rattle.std.specs.Prelude.{Option, Some, None, is_some, Result, Ok, Err}
 use Rattle.sm_ownership.specs.declared.mode.Mode.{Mode}
 use Rattle.sm_ownership.specs.declared.record.Record.{Record}
@@ -9,15 +9,14 @@ use Rattle.sm_rule.specs.Passes.{PassLooks, record_of}
 use Rattle.sm_rule.specs.Words.{IsWordOf}
 use Rattle.sm_desk.specs.declared.command.Command.{Command}
 use Rattle.sm_desk.specs.Desk.{desk_fault}
-use Rattle.sm_foreign.specs.declared.foreign.Foreign.{Foreign}
-use Rattle.sm_foreign.specs.Chiefs.{HasNoServer, HasServer, first_desk, foreign_of}
+use Rattle.sm_foreign.specs.Chiefs.{HasNoServer, HasServer}
 use Rattle.sm_foreign.specs.Controls.{Commanded}
 use Rattle.sm_foreign.specs.Holding.{AdmitsPass, EndsPermit, token_of}
-use Rattle.sm_handle.specs.declared.act_fault.ActFault.{ActFault}
-use Rattle.sm_handle.specs.declared.act_fault.ActFault.TheVariants.{WrongHandle, UnknownShard, NoMemory, Admit}
-use Rattle.sm_handle.specs.declared.act_fault.ActFault.TheVariants.{Command as CommandRefused, UnknownServer}
-use Rattle.sm_handle.specs.declared.handle_state.HandleState.{HandleState}
-use Rattle.sm_handle.specs.declared.handle_state.HandleState.TheVariants.{Chief, Pass, TextChief, TextPass}
+use Rattle.sm_handle_state.specs.declared.act_fault.ActFault.{ActFault}
+use Rattle.sm_handle_state.specs.declared.act_fault.ActFault.TheVariants.{WrongHandle, UnknownShard, NoMemory, Admit}
+use Rattle.sm_handle_state.specs.declared.act_fault.ActFault.TheVariants.{Command as CommandRefused, UnknownServer}
+use Rattle.sm_handle_state.specs.declared.handle_state.HandleState.{HandleState}
+use Rattle.sm_handle_state.specs.declared.handle_state.HandleState.TheVariants.{Chief, Pass, TextChief, TextPass}
 
 -- a pass that held nothing was admitted to the shard and holds the permit, and the number is that of the shard's body
 abbrev pub AdmitsState : HandleState → HandleState → ℕ → Mode → ℕ → Type 0
@@ -152,17 +151,3 @@ CommandsHandle before after command result = (before ≡ None) × (after ≡ Non
 abbrev pub IsPassOf : Option HandleState → Option HandleState → Option ℕ → Type 0
 IsPassOf (Some chief) (Some pass) server = IsPassOfState chief server pass
 IsPassOf chief pass server = ⊥
-
--- the limits that a board keeps for bodies of these numbers, which are the numbers
-abbrev pub foreign_limits : List ℕ → List ℕ
-foreign_limits numbers = map (λ (body : Foreign). body.number) (foreign_of numbers)
-
--- the handle keeps the control of a new board with a body for each number, of so many servers, under this cap of
--- restarts and this ceiling, whose tokens begin after this number
-abbrev pub IsOpened : Option HandleState → List ℕ → ℕ → ℕ → ℕ → ℕ → Type 0
-IsOpened (Some (Chief chief)) numbers servers ops ceiling after =
-    let board = chief.held.value.chair.board in
-    (board.limits.count ≡ length numbers) × (board.limits.ceiling ≡ ceiling)
-    × (board.limits.bodies ≡ foreign_limits numbers)
-    × (chief.held.value.desk ≡ first_desk servers (length numbers) ops) × (chief.fence.after ≡ after)
-IsOpened state numbers servers ops ceiling after = ⊥

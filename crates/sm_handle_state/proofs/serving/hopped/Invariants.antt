@@ -1,6 +1,6 @@
 use Rattle.std.proofs.Common.{◌≡◌, ◌≤◌}
 use Rattle.sm_ownership.specs.declared.mode.Mode.TheVariants.{Forwarded}
-use Rattle.sm_handle.proofs.serving.hopped.Given as goal
+use Rattle.sm_handle_state.proofs.serving.hopped.Given as goal
 
 abbrev pub invariant-loop-hop : goal.invariant-loop-hop
 invariant-loop-hop l =

@@ -4,12 +4,12 @@ use Rattle.sm_ownership.specs.declared.route.Route.{Route}
 use Rattle.sm_ownership.specs.Routes.{routes_of}
 use Rattle.sm_publish.specs.Publishing.{publish_fault, with_route}
 use Rattle.sm_publish.specs.Seen.{Extends}
-use Rattle.sm_handle.specs.declared.act_fault.ActFault.{ActFault}
-use Rattle.sm_handle.specs.declared.act_fault.ActFault.TheVariants.{WrongHandle, NoMemory}
-use Rattle.sm_handle.specs.declared.publish_fault.PublishFault.{PublishFault}
-use Rattle.sm_handle.specs.declared.publish_fault.PublishFault.TheVariants.{Refused, WrongHandle as NotPublisher}
-use Rattle.sm_handle.specs.declared.handle_state.HandleState.{HandleState}
-use Rattle.sm_handle.specs.declared.handle_state.HandleState.TheVariants.{Publisher, Router}
+use Rattle.sm_handle_state.specs.declared.act_fault.ActFault.{ActFault}
+use Rattle.sm_handle_state.specs.declared.act_fault.ActFault.TheVariants.{WrongHandle, NoMemory}
+use Rattle.sm_handle_state.specs.declared.publish_fault.PublishFault.{PublishFault}
+use Rattle.sm_handle_state.specs.declared.publish_fault.PublishFault.TheVariants.{Refused, WrongHandle as NotPublisher}
+use Rattle.sm_handle_state.specs.declared.handle_state.HandleState.{HandleState}
+use Rattle.sm_handle_state.specs.declared.handle_state.HandleState.TheVariants.{Publisher, Router}
 
 -- the handle keeps a publisher of so many shards, none of which has a route
 abbrev pub IsNewPublisher : Option HandleState → ℕ → Type 0
