@@ -7,7 +7,8 @@ from testing import workspace
 from testing.library import is_there
 
 BINDINGS, SIMULATION = ("-p", "durkenzo-store-sys"), ("-p", "simulation", "--release")
-LIMITS = ("--schedules", str(10**9), "--seconds", "20")
+# As many on each machine, so that none finds what another one does not; a slow one tries fewer.
+LIMITS = ("--schedules", "10000", "--seconds", "20")
 
 
 def passed(_room):
