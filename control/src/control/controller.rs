@@ -37,6 +37,8 @@ pub struct Controller {
     pub(super) homes: BTreeMap<u16, u16>,
     /// The servers that tasks restart, and how many tasks do.
     pub(super) restarting: BTreeMap<u16, usize>,
+    /// The server of which a drain moves shards.
+    draining: Option<u16>,
     /// The other processes, if this one leads several.
     pub(super) peers: Option<Arc<dyn OtherControls>>,
     /// Whether another process leads, as far as a command told.
@@ -59,6 +61,7 @@ impl Controller {
             tasks: Vec::new(),
             homes: BTreeMap::new(),
             restarting: BTreeMap::new(),
+            draining: None,
             peers: None,
             is_lost: false,
             has_fallen: false,
@@ -449,9 +452,21 @@ impl Controller {
     fn end(&mut self, work: &TaskWork) {
         match (work, work.server()) {
             (_, None) => {}
-            (TaskWork::Drain(_), Some(server)) => self.host.note_progress(server, None),
+            (TaskWork::Drain(_), Some(server)) => self.end_drain(server),
             (_, Some(server)) => self.end_restart(server),
         }
+    }
+
+    /// Whether the drain of the server moves shards now. One at a time does: each plan may have shards go to the server
+    /// of the other one, so they would go to and fro.
+    pub(super) fn is_drained_now(&mut self, server: u16) -> bool {
+        *self.draining.get_or_insert(server) == server
+    }
+
+    /// Ends the drain of the server, and lets another one go on.
+    fn end_drain(&mut self, server: u16) {
+        self.draining = self.draining.filter(|it| *it != server);
+        self.host.note_progress(server, None);
     }
 
     /// Ends what is told of the server's restart.
@@ -517,5 +532,21 @@ mod tests {
         assert_eq!(busy.try_recv(), Ok(Ok(ControlAnswer::Done)));
         assert_eq!(control.wait(), None);
         assert_eq!(backend.plain().stands, [Stand::Serving(1); 2]);
+    }
+
+    /// Each would have all shards go to the other one's server.
+    #[test]
+    fn a_drain_waits_for_another_one() {
+        let backend = PlainBackend::of(4, Stand::Serving(1));
+        let mut control = backend.control();
+        let first = asked(&mut control, ["SM", "DRAIN", "1"]);
+        let second = asked(&mut control, ["SM", "DRAIN", "2"]);
+        for _ in 0..200 {
+            backend.plain().passed += TICK;
+            control.turn(None);
+        }
+        let moves = |to| ControlAnswer::of_moves((0..4).map(|it| (it, to)));
+        assert_eq!(first.try_recv(), Ok(Ok(moves(2))));
+        assert_eq!(second.try_recv(), Ok(Ok(moves(1))));
     }
 }

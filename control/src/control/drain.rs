@@ -100,6 +100,10 @@ impl Drain {
         if self.of.is_none() {
             self.of = Some(self.begin(control)?);
         }
+        if !(self.is_restart || control.is_drained_now(self.server)) {
+            control.tell(self.server, Doing::Waiting(None));
+            return Ok(Advance::Later);
+        }
         match self.step(control) {
             Err(refusal) if !refusal.is_of_store() => match self.current.take() {
                 Some((migration, _)) => self.put_aside(migration.shard(), refusal),

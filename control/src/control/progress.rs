@@ -7,7 +7,8 @@ use std::sync::{Mutex, MutexGuard, PoisonError};
 /// What a restart, or a drain, of a server is about.
 #[derive(Clone, Copy, Debug, PartialEq, Eq)]
 pub enum Doing {
-    /// It waits until the caps let the server go: for this one, which stands so, if one is away.
+    /// It waits until the caps let the server go: for this one, which stands so, if one is away. A drain waits until
+    /// another one ends.
     Waiting(Option<(u16, ServerState)>),
     /// Shards of the server go to others.
     Draining(Share),

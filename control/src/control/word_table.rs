@@ -199,7 +199,7 @@ const WORDS: [SmWord; 34] = [
     SmWord::new("RESUME k", "the owner of the paused shard k executes again", Does::Makes(ControlCommand::Resume)),
     SmWord::new("REASSIGN k b", "the paused shard k gets the owner b", Does::Changes(ControlCommand::Reassign)),
     SmWord::new("MIGRATE k b", "moves shard k to server b by a whole migration, under load", Does::Pair(migrate)),
-    SmWord::new("DRAIN a", "migrates all shards of server a to other servers, as planned by the library",
+    SmWord::new("DRAIN a", "migrates all shards of server a, as the library plans; drains go one by one",
         Does::Number(|_, server| Ok(TaskWork::Drain(Drain::new(server, false)).into()))),
     SmWord::new("SPREAD", "migrates shards from servers that have many to those that have few",
         Does::Bare(|_| Ok(TaskWork::Spread(Spread::default()).into()))),
