@@ -35,6 +35,8 @@ pub struct Controller {
     pub(super) tasks: Vec<Task>,
     /// The shards that come home, and their servers.
     pub(super) homes: BTreeMap<u16, u16>,
+    /// Those of which the store doesn't say whether it keeps the intent.
+    pub(super) unsure_homes: BTreeSet<u16>,
     /// The servers that tasks restart, and how many tasks do.
     pub(super) restarting: BTreeMap<u16, usize>,
     /// The server of which a drain moves shards.
@@ -60,6 +62,7 @@ impl Controller {
             clock,
             tasks: Vec::new(),
             homes: BTreeMap::new(),
+            unsure_homes: BTreeSet::new(),
             restarting: BTreeMap::new(),
             draining: None,
             peers: None,
@@ -279,6 +282,7 @@ impl Controller {
     pub(super) fn renew(&mut self) {
         if self.backend.renew() {
             self.homes.clear();
+            self.unsure_homes.clear();
             self.paused.clear();
             self.host.note_load();
         }
