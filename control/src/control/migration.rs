@@ -132,7 +132,8 @@ impl Migration {
             Some(Stand::Prepared { .. } | Stand::Forwarding { .. }) => {
                 control.make(ControlCommand::Cancel(self.shard))
             }
-            _ => Ok(()),
+            Some(Stand::Vacant | Stand::Serving(_) | Stand::Paused(_) | Stand::Taken { .. })
+            | None => Ok(()),
         }
     }
 
@@ -148,7 +149,7 @@ impl Migration {
             Some(Stand::Prepared { .. } | Stand::Forwarding { .. }) => {
                 control.make_patiently(ControlCommand::Cancel(self.shard))
             }
-            _ => Ok(()),
+            Some(Stand::Vacant | Stand::Serving(_) | Stand::Paused(_)) | None => Ok(()),
         }
     }
 
