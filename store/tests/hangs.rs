@@ -187,7 +187,7 @@ fn passes_over_a_member_that_begins_no_watch() {
     hear(&told, &mut { Revision::NEVER }, write(&[&member]));
 }
 
-/// How often a silent member is asked while watches follow it on, how often it may be asked for one of them, and how many
+/// How often a silent member is asked while watches follow it on, how often it may be for one of them, and how many
 /// watches were begun.
 fn asked_of_silent(member: &Member) -> (u64, u64, usize) {
     let relay = Relay::before(&member.endpoint);

@@ -53,8 +53,7 @@ def demo(room, program):
 
 
 def asked(port):
-    """What a server of the demo answers to a text that each is given, once it isn't refused: on a crowded machine a lease
-    may end."""
+    """What a server of the demo answers to a text that each is given, once it isn't refused, as a lease may end."""
 
     def answer():
         with contextlib.suppress(fleet.served.Refused, OSError), fleet.served.Client(port) as client:

@@ -294,56 +294,12 @@ fn have_one_back(control: &mut Controller, server: u16) -> Result<(), Refusal> {
 #[cfg(test)]
 mod tests {
     use super::super::backend::{Backend, BackendFault};
-    use super::super::plain_backend::{PlainBackend, Teller};
-    use super::super::progress::Doing;
-    use super::super::{Asked, ControlAnswer, ControlHost, ReplyTo, Words};
+    use super::super::plain_backend::{PlainBackend, QuietHost, Teller};
+    use super::super::{Asked, ControlAnswer, Words};
     use super::*;
     use durkenzo::{Plan, PlanFault, Record, Stand};
     use durkenzo_driver::{Clock, Refused};
     use durkenzo_store::WriteError;
-
-    /// A program that shows nothing.
-    struct Silent;
-
-    impl ControlHost for Silent {
-        fn is_stopping(&self) -> bool {
-            false
-        }
-
-        fn pace(&self) -> Duration {
-            Duration::ZERO
-        }
-
-        fn note_state(&self, _server: u16, _state: ServerState) {}
-
-        fn note_progress(&self, _server: u16, _doing: Option<Doing>) {}
-
-        fn note_change(&self, _command: ControlCommand) {}
-
-        fn note_load(&self) {}
-
-        fn shard_line(&self, _shard: u16) -> Option<String> {
-            None
-        }
-
-        fn shard_lines(&self) -> Vec<String> {
-            Vec::new()
-        }
-
-        fn server_lines(&self) -> Vec<String> {
-            Vec::new()
-        }
-
-        fn settings_lines(&self) -> Vec<String> {
-            Vec::new()
-        }
-
-        fn route_lines(&self) -> Vec<String> {
-            Vec::new()
-        }
-
-        fn compact(&self, _reply_to: Box<dyn ReplyTo>) {}
-    }
 
     /// Two servers without shards, of which the second is always back as it is said to have failed; if another process
     /// leads, it tells nothing.
@@ -407,7 +363,7 @@ mod tests {
     fn begun(backend: Returning) -> (Controller, LeaderWatch, Instant) {
         let began = Clock::default().now();
         let clock = Clock::new(move || began);
-        let control = Controller::new(Arc::new(Silent), Box::new(backend), clock);
+        let control = Controller::new(Arc::new(QuietHost), Box::new(backend), clock);
         let watch = LeaderWatch::new(false, Arc::default(), began);
         (control, watch, began)
     }

@@ -227,7 +227,7 @@ impl ReplyTo for Teller {
 }
 
 /// A host that shows nothing, and has no pace.
-struct QuietHost;
+pub(super) struct QuietHost;
 
 impl ControlHost for QuietHost {
     fn is_stopping(&self) -> bool {

@@ -19,7 +19,8 @@ fn reading(stand: Stand, generation: u64, revision: u64) -> ShardReading {
     }
 }
 
-// The example of the crate's documentation, in the run of the law `permits_move`, by what both servers know: the permit goes from one to the other.
+// The example of the crate's documentation, in the run of the law `permits_move`, by what both servers know: the permit
+// goes from one to the other.
 #[test]
 fn moves_a_permit(rt: HostRuntime) {
     let (one, two) = (ServerId::of(1), ServerId::of(2));
