@@ -1,10 +1,9 @@
 -- Two passes that hold at one point of a history hold different shards.
 use Rattle.std.proofs.Common.{◌≡◌, ◌≢◌, append_assoc, ℕ, true, List, [], ◌∷◌, ◌++◌, refl, sym, ap, ◌∙◌, subst}
-use Rattle.std.proofs.Common.{⊎_elim}
 use Rattle.std.specs.Prelude.{Option, Some, None, reverse, ◌==◌}
-use Rattle.std.proofs.lemmas.Bool.{and_parts, cases_eq, eq-eqb, eqb-true, true≢false}
+use Rattle.std.proofs.lemmas.Bool.{and_parts, eq-eqb, eqb-true, true≢false}
 use Rattle.std.proofs.lemmas.List.{append-nil, append_cancel_left, reverse-append}
-use Rattle.std.proofs.lemmas.List.Elements.{All-append, All-nil, All-cons, All-head, All-tail}
+use Rattle.std.proofs.lemmas.List.Elements.{All-nil, All-cons, All-head, All-tail}
 use Rattle.sm_ownership.specs.declared.entry.Ending.{Ending}
 use Rattle.sm_ownership.specs.declared.entry.Entry.{Entry}
 use Rattle.sm_ownership.specs.declared.entry.Kind.{Kind}
@@ -13,7 +12,7 @@ use Rattle.sm_ownership.specs.declared.mode.Mode.{Mode}
 use Rattle.sm_ownership.specs.declared.record.Record.{Record}
 use Rattle.sm_ownership.specs.History.{IsLegal, IsLegalLatest, NoneBy, is_admission_of, is_admit, latest_of}
 use Rattle.sm_ownership.specs.lemmas.Growth.{legal_prefix}
-use Rattle.sm_ownership.specs.lemmas.Lasting.{NoneBy-reverse, admission_excludes, latest_of-other}
+use Rattle.sm_ownership.specs.lemmas.Lasting.{NoneBy-reverse, admission_excludes}
 use Rattle.sm_rule.specs.declared.limits.Limits.{Limits}
 use Rattle.sm_rule.specs.declared.view.HeldShard.{HeldShard}
 use Rattle.sm_rule.specs.Admissions.{HoldsPermit, PassAdmitted, PermitValue}
@@ -95,9 +94,9 @@ module _ {Q : Type 0} (limits : Limits) (number : ℕ) (first there last : List 
       (none_front number one.0 two.0 none_more) is)
 
 -- and it has seen an entry of another pass, which that one added meanwhile: they have different numbers
-module _ {Q : Type 0} (limits : Limits) (number : ℕ) (first last : List (Entry Q)) (grows : Grows limits number first last [])
-    (mine mine' : PassValue Q) (shard : ℕ) (kind : Kind Q) (added : PassAdds mine shard kind mine')
-    (told : Begins first mine.seen) (met : Begins mine'.seen last) where
+module _ {Q : Type 0} (limits : Limits) (number : ℕ) (first last : List (Entry Q))
+    (grows : Grows limits number first last []) (mine mine' : PassValue Q) (shard : ℕ) (kind : Kind Q)
+    (added : PassAdds mine shard kind mine') (told : Begins first mine.seen) (met : Begins mine'.seen last) where
   abbrev its_entry : Entry Q
   its_entry = entry_of mine.number shard kind
 
@@ -190,8 +189,8 @@ module _ {S Q : Type 0} (board : BoardValue) (mine mine' theirs theirs' theirs''
       (ended : PassAdds mine' shard (Done ending) mine'') (met : Begins mine''.seen theirs''.seen) where
     pub numbers_differ : mine.number ≢ theirs.number
     numbers_differ = λ same.
-        other_adds board.limits theirs.number theirs'.seen theirs''.seen grown mine' mine'' shard (Done ending) ended told
-        met (ap (λ (pass : PassValue Q). pass.number) then_looked.1 ∙ same)
+        other_adds board.limits theirs.number theirs'.seen theirs''.seen grown mine' mine'' shard (Done ending) ended
+        told met (ap (λ (pass : PassValue Q). pass.number) then_looked.1 ∙ same)
 
     pub ended_apart : permit.shard ≢ other.shard
     ended_apart =

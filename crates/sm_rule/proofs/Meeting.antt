@@ -19,8 +19,8 @@ use Rattle.sm_rule.specs.Rule.{AreHeard, AreParents, HasCut, IsHolding, IsTrueVi
 use Rattle.sm_rule.specs.Rule.{IsHeard}
 use Rattle.sm_rule.specs.Steps.{Met}
 use Rattle.sm_rule.specs.Views.{informed, left_behind, seeing}
-use Rattle.sm_rule.proofs.Keeping.{acting_uncut, acting_unjoined, below_end, in_order, look_keeps, looks_all, names_none}
-use Rattle.sm_rule.proofs.Keeping.{parents_set, same_some, views_set}
+use Rattle.sm_rule.proofs.Keeping.{acting_uncut, acting_unjoined, below_end, in_order, look_keeps, looks_all}
+use Rattle.sm_rule.proofs.Keeping.{names_none, parents_set, same_some, views_set}
 
 joined_unacting : Joined ≡ Acting → ⊥
 joined_unacting is = absurd (cc)
@@ -106,7 +106,8 @@ module _ {S Q : Type 0} (rests : S → ℕ → List Q → Type 0) (limit : S →
 
   parents_both : AreParents first
   parents_both =
-      parents_set views id view both at (acting_unjoined view.stage live) (λ _. le_refl view.cuts) both_name holds.parents
+      parents_set views id view both at (acting_unjoined view.stage live) (λ _. le_refl view.cuts) both_name
+      holds.parents
 
   parents_last : AreParents last
   parents_last =

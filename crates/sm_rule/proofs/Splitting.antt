@@ -20,8 +20,9 @@ use Rattle.sm_rule.specs.declared.view.View.{View}
 use Rattle.sm_rule.specs.Rule.{HasCut, IsTrueView, NamesParent, RuleHolds, IsCut, Rule}
 use Rattle.sm_rule.specs.Steps.{Enrolled}
 use Rattle.sm_rule.specs.Views.{cut_off, cutting, half_of}
-use Rattle.sm_rule.proofs.Keeping.{acting_uncut, acting_unjoined, at_end, below_end, in_order, none_some, parents_pushed}
-use Rattle.sm_rule.proofs.Keeping.{parents_set, same_some, told_pushed, told_set, views_pushed, views_set}
+use Rattle.sm_rule.proofs.Keeping.{acting_uncut, acting_unjoined, at_end, below_end, in_order, none_some}
+use Rattle.sm_rule.proofs.Keeping.{parents_pushed, parents_set, same_some, told_pushed, told_set, views_pushed}
+use Rattle.sm_rule.proofs.Keeping.{views_set}
 
 -- one more was cut from a seat that acts
 module _ {S Q : Type 0} (rests : S → ℕ → List Q → Type 0) (limit : S → ℕ) (limits : Limits) (words : List ℕ)
@@ -202,5 +203,6 @@ enrolls {S} {Q} rests limit limits slots id word me off table rule size at small
     names_before : (parent : Parent) → NamesParent (half_of me.0 id (reverse [])) parent → NamesParent me.0 parent
     names_before parent names =
         ⊎_elim inl
-        (λ (its : (heard : Heard Q) × (None ≡ Some heard) × (heard.parent ≡ Some parent)). absurd (none_some its.0 its.1))
+        (λ (its : (heard : Heard Q) × (None ≡ Some heard) × (heard.parent ≡ Some parent)).
+        absurd (none_some its.0 its.1))
         names

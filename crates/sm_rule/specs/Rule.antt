@@ -99,8 +99,8 @@ AreHome {S} keeps limit limits homes history =
     (all_of (reverse history) shard) × (limit body ≡ limit_at limits shard)
 
 -- the words are those of the table of a legal history of known servers; the bodies of its idle shards are at home; each
--- seat that acts knows it as far as it has looked, and so do those that were cut off or taken in; each parent was cut as
--- often as its seats say; a number that no seat has yet has no entry in it
+-- seat that acts knows it as far as it has looked, and so do those that were cut off or taken in; each parent was cut
+-- as often as its seats say; a number that no seat has yet has no entry in it
 pub record RuleHolds {S Q : Type 0} (keeps : S → ℕ → List Q → Type 0) (limit : S → ℕ) (limits : Limits) (words : List ℕ)
     (homes : List (math.Option (Option S))) (views : List (View Q)) (history : List (Entry Q)) : Type 0 where
   pub legal : IsLegalLatest limits.count limits.ceiling history

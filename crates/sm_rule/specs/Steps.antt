@@ -49,8 +49,8 @@ IsHalf view half =
 abbrev pub Enrolled : {S Q : Type 0} → Step S → Me S (View Q) → ℕ → Me S (View Q) → Type 0
 Enrolled step before found after = IsHalf before.0 after.0 × (after.1 ≡ before.1)
 
--- the load after another seat was taken in: more was seen, as at any load, and all that the other had seen; what is held
--- still stands; and if the other was cut from this one, so many were cut from it
+-- the load after another seat was taken in: more was seen, as at any load, and all that the other had seen; what is
+-- held still stands; and if the other was cut from this one, so many were cut from it
 abbrev pub Met : {S Q : Type 0} → Step S → Me S (View Q) → ℕ → Me S (View Q) → Type 0
 Met step before found after =
     Looks before.0 after.0

@@ -78,7 +78,7 @@ impl<S: Service> Board<S> {
         self.take_in(&mut pass.seat, seat);
     }
 
-    // Cuts a new seat from this one. It has a number of its own, has seen all that this one has, and names it as parent.
+    // A new seat with a number of its own, which has seen all that this one has. It names this one as its parent.
     pub(super) fn cut(&self, seat: &mut Seat<Option<S>, View<S::Request>>) -> Seat<Option<S>, View<S::Request>>
         requires table { seat.old.table_id ≡ self.now.id }
         requires live { seat.old.me.0.stage ≡ Acting }

@@ -2,7 +2,6 @@
 ghost use Rattle.std.specs.Prelude.{◌≡◌, ◌≢◌, ◌<◌, None, IfOk, OnOk};
 ghost use Rattle.sm_ownership.specs.declared.entry.Ending.{Ending};
 ghost use Rattle.sm_ownership.specs.declared.entry.Kind.TheVariants.{Done};
-ghost use Rattle.sm_ownership.specs.History.{NoneBy};
 ghost use Rattle.sm_rule.specs.Admissions.{HoldsPermit, PassAdmitted};
 ghost use Rattle.sm_rule.specs.Boards.{limit_at};
 ghost use Rattle.sm_rule.specs.Bodies.{Keeps};
@@ -46,8 +45,8 @@ impl<S: Service> Board<S> {
         self.take_in(&mut one.seat, answer);
     }
 
-    /// Shows that two permits that are held at one moment are of different shards, whoever the two passes are. Each pass
-    /// tells the other what it has seen.
+    /// Shows that two permits that are held at one moment are of different shards, whoever the two passes are. Each
+    /// pass tells the other what it has seen.
     pub fn apart(
         &self,
         mine: &mut Pass<S>,
@@ -102,9 +101,9 @@ impl<S: Service> Board<S> {
         front
     }
 
-    /// Admits a pass, as [`admit`](Board::admit) does, while another pass holds a permit. If it admits, it is to another
-    /// shard, whoever the two passes are. So of two permits that are held at one moment, the last to be given is of
-    /// another shard than the other.
+    /// Admits a pass, as [`admit`](Board::admit) does, while another pass holds a permit. If it admits, it is to
+    /// another shard, whoever the two passes are. So of two permits that are held at one moment, the last to be given
+    /// is of another shard than the other.
     pub fn admit_beside(
         &self,
         mine: &mut Pass<S>,
