@@ -9,7 +9,7 @@ use std::time::Instant;
 pub(super) enum BaseProgress {
     /// Its parts are being written: those of the base with this number of a ticket.
     Writes(u64),
-    /// One wasn't written: once no transaction is under way the server is read anew, which makes none then.
+    /// One wasn't written: once no transaction is under way the server catches up with the log, and makes none then.
     Failed,
     /// They are written, so the next transaction names it.
     Names,
@@ -79,7 +79,8 @@ impl Shard {
                 self.base_demand.is_wanted = true;
                 return;
             }
-            Some(ReplicaState::Unread(_) | ReplicaState::Reading(_)) | None => {
+            Some(ReplicaState::Unread(_) | ReplicaState::Behind(..) | ReplicaState::Reading(_))
+            | None => {
                 self.base_demand.is_wanted = true;
                 self.ready_core(server, now, actions);
                 return;
@@ -156,11 +157,11 @@ impl Shard {
         self.go_on(now, actions);
     }
 
-    /// Has a server be read anew whose base failed, where nothing that it sent is under way.
+    /// Has a server catch up whose base failed, where nothing that it sent is under way: it forgets that base.
     pub(super) fn end_failed_base(&mut self, server: u16) {
         let is_ready = matches!(self.replicas.get(&server), Some(ReplicaState::Ready(..)));
         if is_ready && self.base == Some((server, BaseProgress::Failed)) {
-            self.read_again(server);
+            self.fall_behind(server);
         }
     }
 
@@ -199,6 +200,7 @@ impl Shard {
 mod tests {
     use super::*;
     use crate::proved::Core;
+    use crate::recovery::ServerPlace;
     use crate::shard::Revisions;
     use crate::work::WorkOutcome;
     use crate::{
@@ -215,6 +217,13 @@ mod tests {
         r#""ops":1,"kept":9,"ceiling":99,"workers":1}"#
     );
 
+    /// The only server of the only shard.
+    const PLACE: ServerPlace = ServerPlace {
+        server: 1,
+        shard: 0,
+        count: 1,
+    };
+
     /// A store with a shard of server 1.
     fn written() -> Arc<dyn Store> {
         let store: Arc<dyn Store> = Arc::new(Embedded::in_memory());
@@ -228,7 +237,9 @@ mod tests {
     fn a_base_ends_where_its_server_reads_anew() {
         let (store, now) = (written(), Instant::now());
         let mut shard = Shard::new(0, 1, None, Tuning::default());
-        let read = recovery::recover(&*store, 1, 0, 1).unwrap();
+        let read = recovery::recover(&*store, None, PLACE)
+            .map_err(|it| it.fault)
+            .unwrap();
         let (bytes, stood) = (read.stored.bytes().to_vec(), read.stored.revision());
         let logged = read.logged;
         shard.replicas.insert(1, ReplicaState::Reading(1));
@@ -244,7 +255,7 @@ mod tests {
         shard.see(changed, now, &mut Vec::new());
         assert!(matches!(
             shard.replicas.get(&1),
-            Some(ReplicaState::Unread(_))
+            Some(ReplicaState::Behind(..))
         ));
         assert_eq!(shard.base, None);
     }
@@ -312,8 +323,8 @@ mod tests {
                     let outcome = store.make(transaction);
                     shard.on_outcome(ticket, outcome, now, &mut actions);
                 }
-                Action::Read(ticket) => {
-                    let read = recovery::recover(store, 1, 0, 1);
+                Action::Read(ticket, kept) => {
+                    let read = recovery::recover(store, kept, PLACE);
                     shard.on_read(ticket, read, now, &mut actions);
                 }
                 Action::WriteBase(ticket, _) => shard.on_base(ticket, true, now, &mut actions),
