@@ -15,7 +15,8 @@ ghost use Rattle.sm_driver.specs.Calls.{Between, ComesFrom, IsDecidedAs, IsMadeA
 ghost use Rattle.sm_driver.specs.Calls.{KeepsServer, LacksRoom, ScansKeys, ScansNothing};
 ghost use Rattle.sm_driver.specs.Calls.{MakesOn, TellsRead, WritesPart, WritesSending, WritesSent, is_decided};
 ghost use Rattle.sm_driver.specs.Servers.{AddsBatch, AddsPart, IsAny, IsAppending, IsNewServer, IsReading};
-ghost use Rattle.sm_driver.specs.Servers.{IsRecordReading, TellsAnswers, is_basing, is_clearing, is_sending, keys_held, passing_key};
+ghost use Rattle.sm_driver.specs.Servers.{IsRecordReading, TellsAnswers, is_basing, is_clearing, is_sending};
+ghost use Rattle.sm_driver.specs.Servers.{keys_held, passing_key};
 
 mod codes;
 mod driver_fault;

@@ -79,8 +79,8 @@ module _ {M Q R : Type 0} (service : Automaton M Q R) where
       }
 
   -- a server that takes back what it sent, and goes by another record, knows what it knew
-  pub taken_back_so : (log : StoreLog Q R) (me shard : ℕ) (old new : ShardState M Q R) → HasRead service log me shard old
-      → WasFound (stored_record shard) (record_key shard) log new.state new.stood
+  pub taken_back_so : (log : StoreLog Q R) (me shard : ℕ) (old new : ShardState M Q R)
+      → HasRead service log me shard old → WasFound (stored_record shard) (record_key shard) log new.state new.stood
       → new.replica ≡ old.replica → new.head ≡ old.head → new.logged ≡ old.logged
       → new.sent.items ≡ [] → new.waiting.items ≡ []
       → (IfSome old.work (IsWorkTrue service log shard old.head)

@@ -81,7 +81,8 @@ impl<Q: Drop, R: Copy + Drop, M: StoreMachine<Q, R>> ShardServer<M, Q, R> {
     ghost use Rattle.sm_store.specs.Deeds.{AreRight, Charter, MayClear, MaySend, WasFound};
     ghost use Rattle.sm_store.specs.System.{Ask, MayClaim};
     ghost use Rattle.sm_shard.specs.Decisions.{server_begins, server_behind, server_decision, server_read_decision};
-    ghost use Rattle.sm_shard.specs.Decisions.{batches_made, clients_kept, server_decides, server_sends, server_settled};
+    ghost use Rattle.sm_shard.specs.Decisions.{batches_made, clients_kept, server_decides, server_sends};
+    ghost use Rattle.sm_shard.specs.Decisions.{server_settled};
     ghost use Rattle.sm_shard.specs.declared.shard_state.Decision.TheVariants.{TooManyClients};
     ghost use Rattle.sm_shard.specs.Replicas.{read_of, replies_of};
     ghost use Rattle.sm_shard.specs.ShardServers.{AreAsked, AreRequestsAsked, DidHold, IsAsked, IsTrueOf, StoreLog};
