@@ -60,7 +60,7 @@ impl Shard {
 
     /// Begins a base, where the server that executes is of this process and makes none. Where it hasn't read the shard,
     /// it reads that first. If the store is full, nothing that takes room is sent until it is over: what is refused has
-    /// the server be read anew, and so its base begun anew.
+    /// the server read again, and so its base begun anew.
     pub(crate) fn want_base(&mut self, is_full: bool, now: Instant, actions: &mut Vec<Action>) {
         self.base_demand.is_wanted = false;
         if self.base.is_some() {
@@ -112,7 +112,7 @@ impl Shard {
     }
 
     /// Whether a base is made, or is to be made soon, in order to make room; or what is behind it isn't deleted yet, as
-    /// a server that is read anew wouldn't do that.
+    /// a server that reads again meanwhile wouldn't do that.
     pub(super) fn makes_room(&self) -> bool {
         self.base_demand.is_alone && self.makes_base()
     }
@@ -177,8 +177,11 @@ impl Shard {
     /// Deletes of what was found what is behind the base.
     pub(crate) fn on_swept(&mut self, server: u16, found: &[Passing], actions: &mut Vec<Action>) {
         self.sweeps = self.sweeps.saturating_sub(1);
-        let Some(ReplicaState::Ready(core, _) | ReplicaState::Sent(core, ..)) =
-            self.replicas.get_mut(&server)
+        let Some(
+            ReplicaState::Behind(core, _)
+            | ReplicaState::Ready(core, _)
+            | ReplicaState::Sent(core, ..),
+        ) = self.replicas.get_mut(&server)
         else {
             return;
         };
