@@ -1,6 +1,8 @@
 use crate::base_parts::BaseParts;
 use crate::clock::Clock;
 use crate::durable_threads::threads;
+use crate::proved::Core;
+use crate::recovery::ServerPlace;
 use crate::shard::{Action, Shard, Ticket};
 use crate::{
     keys, process, recovery, Came, Chores, CompactFault, Elsewhere, Member, NotDone, OpenFault,
@@ -71,8 +73,8 @@ impl Default for Tuning {
 
 /// What a thread of the readers does, as it waits for the store.
 pub(crate) enum ReaderJob {
-    /// Recovers this shard for a server.
-    Shard(u16, Ticket),
+    /// Recovers this shard for a server, which may have kept what it had made.
+    Shard(u16, Ticket, Option<Core>),
     /// Looks for what may be behind the base of this shard, for this server.
     Passing(u16, u16),
     /// Reads this shard's record.
@@ -476,7 +478,9 @@ impl DurableInner {
     fn perform(self: &Arc<DurableInner>, shard: u16, action: Action) {
         match action {
             Action::Submit(ticket, transaction) => self.send(shard, ticket, transaction),
-            Action::Read(ticket) => self.hand_to_reader(ReaderJob::Shard(shard, ticket)),
+            Action::Read(ticket, kept) => {
+                self.hand_to_reader(ReaderJob::Shard(shard, ticket, kept))
+            }
             Action::Sweep(server) => self.hand_to_reader(ReaderJob::Passing(shard, server)),
             Action::WriteBase(ticket, parts) => {
                 self.hand_to_reader(ReaderJob::Room(shard, ticket, parts))
@@ -698,9 +702,13 @@ impl DurableInner {
     pub(crate) fn read(self: &Arc<DurableInner>, job: ReaderJob) -> ReadBack {
         let inner = self.clone();
         match job {
-            ReaderJob::Shard(shard, ticket) => {
-                let count = self.shards.len() as u16;
-                let read = recovery::recover(&*self.store, ticket.server, shard, count);
+            ReaderJob::Shard(shard, ticket, kept) => {
+                let place = ServerPlace {
+                    server: ticket.server,
+                    shard,
+                    count: self.shards.len() as u16,
+                };
+                let read = recovery::recover(&*self.store, kept, place);
                 inner.told(shard, move |it, now, actions| {
                     it.on_read(ticket, read, now, actions);
                 })

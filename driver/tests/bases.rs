@@ -110,7 +110,7 @@ fn begun() -> (Arc<dyn Store>, Arc<Handed<Holding>>, Arc<Durable>) {
 #[test]
 fn a_base_that_was_given_up_is_not_named() {
     let (store, holding, durable) = begun();
-    // The server is read anew, and begins another base.
+    // The server catches up, and begins another base.
     holding.loses.store(true, Ordering::Release);
     assert_eq!(add(&durable, 0, b"a", 1), Ok(vec![MapReply::Count(9)]));
     holding.wait_for(2);

@@ -17,9 +17,11 @@
  *     at its number, where there are bytes for them. It compares the revisions of the record and the head; where it
  *     puts a head without a batch, which names a base, that of the head alone.
  *  4. Made: durkenzo_server_made with the store's revision, and tell the answers. A compare didn't hold, or the outcome
- *     isn't known: durkenzo_server_lost, then from 1, and what waited is given again.
- *  5. Where the watch shows a record: durkenzo_server_record, and what waited is given again; read anew where a
- *     transaction was under way.
+ *     isn't known: durkenzo_server_lost. Then read the record and the head, and the batches above those that
+ *     durkenzo_server_batch_count tells; durkenzo_server_append, and what waited is given again. Where a batch isn't
+ *     there any more it answers MISSING, as a base stands for it: go on from 1.
+ *  5. Where the watch shows a record: durkenzo_server_record, and what waited is given again; append, as after 4, where
+ *     a transaction was under way.
  *  6. Now and then durkenzo_server_base. Where it begins a base, put each of its parts, by durkenzo_server_part, at its
  *     place below the base's number, by transactions that compare nothing; once all are made durkenzo_server_parts_made,
  *     and the next transaction names the base. What durkenzo_server_is_behind says of a batch or a part may then be
@@ -141,13 +143,24 @@ uint32_t durkenzo_log_head_of(const uint8_t *bytes, size_t length, durkenzo_log_
 /* Adds the next part that was read of the base, in the order of their places, before durkenzo_server_read. */
 uint32_t durkenzo_server_part_read(durkenzo_server_handle *server, const uint8_t *bytes, size_t length);
 
-/* Adds the next batch that was read, in the order of their numbers, before durkenzo_server_read. */
+/* Adds the next batch that was read, in the order of their numbers, before durkenzo_server_read or
+ * durkenzo_server_append. */
 uint32_t durkenzo_server_batch(durkenzo_server_handle *server, const uint8_t *bytes, size_t length);
 
 /* The shard was read: its record, of revision `stood`, the head of its log, of revision `logged`, the parts of its base
  * and the batches; these are let go. */
 uint32_t durkenzo_server_read(durkenzo_server_handle *server, const uint8_t *record, size_t record_length,
                               uint64_t stood, const uint8_t *head, size_t head_length, uint64_t logged);
+
+/* Writes how many batches the server has made: none before it has read. Those above them are to be read for
+ * durkenzo_server_append. */
+uint32_t durkenzo_server_batch_count(durkenzo_server_handle *server, uint64_t *batches);
+
+/* The shard was read from where the server is: its record, of revision `stood`, the head of its log, of revision
+ * `logged`, and the batches above those that the server has made; these are let go. What was sent or waits here is to be
+ * given again. MISSING: not all of them were given, or the server has read nothing; the shard is to be read. */
+uint32_t durkenzo_server_append(durkenzo_server_handle *server, const uint8_t *record, size_t record_length,
+                                uint64_t stood, const uint8_t *head, size_t head_length, uint64_t logged);
 
 /* The record alone was read, or seen by a watch. What waits here is to be given again. */
 uint32_t durkenzo_server_record(durkenzo_server_handle *server, const uint8_t *record, size_t length, uint64_t stood);
@@ -178,7 +191,8 @@ uint32_t durkenzo_server_answer(durkenzo_server_handle *server, size_t at, durke
 uint32_t durkenzo_server_text(durkenzo_server_handle *server, size_t at, durkenzo_text_answer *answer, uint8_t *into,
                               size_t room);
 
-/* A compare of what was sent didn't hold, or what became of it isn't known. */
+/* A compare of what was sent didn't hold, or what became of it isn't known. The server answers NOT_READ before it has
+ * read or appended. */
 uint32_t durkenzo_server_lost(durkenzo_server_handle *server);
 
 /* Begins a base of all that is made, where none is made and there are batches that the last one doesn't stand for:

@@ -22,6 +22,8 @@ pub enum Bug {
     NewNumber,
     /// A server takes an unknown outcome as not made, and says so: it is told that.
     UnknownAsLost,
+    /// A server takes an unknown outcome for compares that didn't hold: it is told that.
+    UnknownAsUnheld,
     /// A server takes an unknown outcome as made: it is told that.
     UnknownAsMade,
     /// A server takes compares that didn't hold as made: it is told that.
@@ -30,6 +32,8 @@ pub enum Bug {
     UnsentRead,
     /// A server goes on from a head of one moment with the batches of another: it reads a head with a batch less.
     TornReading,
+    /// A server appends up to a head of one moment, and goes by the revision of another: it reads both so.
+    WrongHead,
     /// A server deletes what a base stands for before the head names it: that goes with each part.
     EarlyDeletion,
     /// A base is named for one batch more than it holds: the keys of its parts and the head that names it say so.
@@ -56,9 +60,9 @@ impl Bug {
 }
 
 /// The first of those of the control that ships.
-const FIRST_OF_CONTROL: usize = 16;
+const FIRST_OF_CONTROL: usize = 18;
 
-pub const BUGS: [Bug; 22] = [
+pub const BUGS: [Bug; 24] = [
     Bug::NoRecordCompare,
     Bug::NoHeadCompare,
     Bug::NoLeaderCompare,
@@ -69,10 +73,12 @@ pub const BUGS: [Bug; 22] = [
     Bug::EarlyReply,
     Bug::NewNumber,
     Bug::UnknownAsLost,
+    Bug::UnknownAsUnheld,
     Bug::UnknownAsMade,
     Bug::LostAsMade,
     Bug::UnsentRead,
     Bug::TornReading,
+    Bug::WrongHead,
     Bug::EarlyDeletion,
     Bug::ShortBase,
     Bug::ForgottenCommand,

@@ -106,6 +106,9 @@ impl SimulatedStore {
             (Some(Bug::UnknownAsLost), Err(WriteError::Unknown(why))) => {
                 Err(WriteError::Unavailable(why.clone()))
             }
+            (Some(Bug::UnknownAsUnheld), Err(WriteError::Unknown(_))) => {
+                Ok(Outcome::Lost(Reading::default()))
+            }
             (Some(Bug::UnknownAsMade), Err(WriteError::Unknown(_))) => made,
             (Some(Bug::LostAsMade), Ok(Outcome::Lost(_))) => made,
             _ => became,
@@ -119,6 +122,15 @@ impl SimulatedStore {
                 let heads = reading.pairs.iter_mut();
                 let heads = heads.filter(|it| it.key.starts_with(b"head/"));
                 heads.for_each(|it| one_batch_less(&mut it.value));
+            }
+            Some(Bug::WrongHead) => {
+                let moment = self.revision.saturating_sub(self.chance.below(6));
+                let heads = reading.pairs.iter_mut();
+                for it in heads.filter(|it| it.key.starts_with(b"head/")) {
+                    if let Some(before) = self.pair_at(&it.key, moment) {
+                        it.value = before.value;
+                    }
+                }
             }
             Some(Bug::TornRecords) if keys.contains(&&b"commands"[..]) => {
                 let moment = self.revision.saturating_sub(self.chance.below(6));

@@ -19,7 +19,7 @@ use Rattle.sm_shard.specs.declared.shard_server.ShardServer.{ShardServer}
 use Rattle.sm_shard.specs.declared.shard_state.ShardState.{ShardState}
 use Rattle.sm_shard.specs.declared.steps.ShardInput.{ShardInput}
 use Rattle.sm_shard.specs.declared.steps.ShardInput.TheVariants.{Read, Record as RecordRead, Request, Question}
-use Rattle.sm_shard.specs.declared.steps.ShardInput.TheVariants.{Made}
+use Rattle.sm_shard.specs.declared.steps.ShardInput.TheVariants.{Append, Made}
 use Rattle.sm_shard.specs.declared.steps.ShardOutput.{ShardOutput}
 use Rattle.sm_shard.specs.declared.steps.ShardOutput.TheVariants.{Sends, Answers, Bases, Clears}
 use Rattle.sm_shard.specs.ShardServers.{IsTrueOf, StoreLog, basing_by, parts_transactions, sending_transaction}
@@ -102,6 +102,14 @@ IsReading server record_text stood head_text logged (Read state stood' head logg
     SpellsRecord record_text state × (stood' ≡ stood) × (head_text ≡ head_bytes head) × (logged' ≡ logged)
     × (parts.now ≡ server.parts.items) × (batches.now ≡ server.batches.items)
 IsReading server record_text stood head_text logged input = ⊥
+
+-- the shard was read from where the server's replica ends: its record and the head of its log by these bytes, at these
+-- revisions, and the batches after those that the server has
+abbrev pub IsAppending : TextServer → List ℕ → ℕ → List ℕ → ℕ → TextInput → Type 0
+IsAppending server record_text stood head_text logged (Append state stood' head logged' batches) =
+    SpellsRecord record_text state × (stood' ≡ stood) × (head_text ≡ head_bytes head) × (logged' ≡ logged)
+    × (batches.now ≡ server.batches.items)
+IsAppending server record_text stood head_text logged input = ⊥
 
 -- the shard's record alone was read
 abbrev pub IsRecordReading : List ℕ → ℕ → TextInput → Type 0

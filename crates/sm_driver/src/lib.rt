@@ -10,12 +10,13 @@ ghost use Rattle.sm_shard.specs.declared.steps.ShardInput.TheVariants.{Base as B
 ghost use Rattle.sm_shard.specs.declared.steps.ShardInput.TheVariants.{Flush as FlushInput, Lost as LostInput};
 ghost use Rattle.sm_shard.specs.declared.steps.ShardInput.TheVariants.{PartsMade as PartsInput};
 ghost use Rattle.sm_codec.specs.Spelling.{head_bytes};
-ghost use Rattle.sm_shard.specs.Decisions.{clients_kept};
+ghost use Rattle.sm_shard.specs.Decisions.{batches_made, clients_kept};
 ghost use Rattle.sm_driver.specs.Calls.{Between, ComesFrom, IsDecidedAs, IsMadeAnswer, IsReadAnswer, IsRequestInput};
 ghost use Rattle.sm_driver.specs.Calls.{KeepsServer, LacksRoom, ScansKeys, ScansNothing};
 ghost use Rattle.sm_driver.specs.Calls.{MakesOn, TellsRead, WritesPart, WritesSending, WritesSent, is_decided};
-ghost use Rattle.sm_driver.specs.Servers.{AddsBatch, AddsPart, IsAny, IsNewServer, IsReading, IsRecordReading};
-ghost use Rattle.sm_driver.specs.Servers.{TellsAnswers, is_basing, is_clearing, is_sending, keys_held, passing_key};
+ghost use Rattle.sm_driver.specs.Servers.{AddsBatch, AddsPart, IsAny, IsAppending, IsNewServer, IsReading};
+ghost use Rattle.sm_driver.specs.Servers.{IsRecordReading, TellsAnswers, is_basing, is_clearing, is_sending};
+ghost use Rattle.sm_driver.specs.Servers.{keys_held, passing_key};
 
 mod codes;
 mod driver_fault;
@@ -100,7 +101,8 @@ pub extern "C" fn durkenzo_server(
     }
 }
 
-/// Adds the next batch that was read, in the order of their numbers, before `durkenzo_server_read`.
+/// Adds the next batch that was read, in the order of their numbers, before `durkenzo_server_read` or
+/// `durkenzo_server_append`.
 #[unsafe(no_mangle)]
 pub extern "C" fn durkenzo_server_batch(
     alloc: Global,
@@ -185,6 +187,50 @@ pub extern "C" fn durkenzo_server_read(
         Ok(()) => 0,
         Err(fault) => code_of_fault(fault),
     }
+}
+
+/// The shard was read from where the server's replica ends: the bytes of its record and of the head of its log, with
+/// their revisions, and the batches that were added, which are let go. What was sent or waits at the server is to be
+/// decided again.
+#[unsafe(no_mangle)]
+pub extern "C" fn durkenzo_server_append(
+    alloc: Global,
+    server: &mut ServerHandle,
+    standing: &[u8],
+    stood: u64,
+    head: &[u8],
+    logged: u64,
+) -> u32
+    ensures made { result ≡ 0 → MakesOn server.old.owned.state
+        (λ old. IsAppending old standing.now stood head.now logged) IsAny server.new.owned.state }
+{
+    if !server.full {
+        return WRONG_HANDLE;
+    }
+    match server
+        .owned
+        .state_mut()
+        .append(alloc, standing, stood, head, logged)
+    {
+        Ok(()) => 0,
+        Err(fault) => code_of_fault(fault),
+    }
+}
+
+/// Writes how many batches the server has made: none before it has read. Those after them are to be read for
+/// `durkenzo_server_append`.
+#[unsafe(no_mangle)]
+pub extern "C" fn durkenzo_server_batch_count(server: &mut ServerHandle, batches: &mut u64) -> u32
+    ensures told { result ≡ 0 → KeepsServer (λ server. batches.new ≡ batches_made server.core.ready)
+        server.old.owned.state }
+    ensures refused { result ≢ 0 → (result ≡ WRONG_HANDLE) × (server.old.owned.state ≡ None) }
+    ensures unchanged { server.new.owned.state ≡ server.old.owned.state }
+{
+    if !server.full {
+        return WRONG_HANDLE;
+    }
+    *batches = server.owned.state_mut().core.batches();
+    0
 }
 
 /// The shard's record alone was read, or seen by the watch. What waits at the server is to be decided again.
@@ -352,8 +398,8 @@ pub extern "C" fn durkenzo_server_text(
     text_in(server.owned.state_mut(), at, answer, into)
 }
 
-/// The compares of the transaction that was sent didn't hold, or what became of it isn't known. The server has
-/// forgotten what it read, and what it held is to be decided again.
+/// The compares of the transaction that was sent didn't hold, or what became of it isn't known. The server keeps what
+/// it has made, but decides nothing before it has read or appended. What it held is to be decided again then.
 #[unsafe(no_mangle)]
 pub extern "C" fn durkenzo_server_lost(alloc: Global, server: &mut ServerHandle) -> u32
     ensures made { result ≡ 0 → MakesOn server.old.owned.state (λ old input. input ≡ LostInput) IsAny

@@ -1,10 +1,10 @@
-ghost use Rattle.std.specs.Prelude.{◌≡◌, IfOk, IfSome, OnOk, length, take};
+ghost use Rattle.std.specs.Prelude.{◌≡◌, [], IfOk, IfSome, OnOk, length, take};
 ghost use Rattle.sm_map.specs.KeyMap.{within};
 ghost use Rattle.sm_shard.specs.declared.steps.ShardInput.TheVariants.{Base as BaseInput, Clear as ClearInput};
 ghost use Rattle.sm_shard.specs.declared.steps.ShardInput.TheVariants.{Flush as FlushInput, Lost as LostInput};
 ghost use Rattle.sm_shard.specs.declared.steps.ShardInput.TheVariants.{PartsMade as PartsInput};
 ghost use Rattle.sm_shard.specs.declared.steps.ShardOutput.TheVariants.{Decided};
-ghost use Rattle.sm_driver.specs.Servers.{AddsBatch, AddsPart, DoneOn, IsAny, IsComing, IsNewServer};
+ghost use Rattle.sm_driver.specs.Servers.{AddsBatch, AddsPart, DoneOn, IsAny, IsAppending, IsComing, IsNewServer};
 ghost use Rattle.sm_driver.specs.Servers.{IsPartOf, IsReading, IsRecordReading, SpellsSending, TellsAnswers};
 ghost use Rattle.sm_driver.specs.Servers.{is_basing, is_clearing, is_sending, keys_held, pairs_found};
 ghost use Rattle.sm_texts.specs.Keys.{spelled_keys};
@@ -128,6 +128,39 @@ impl TextServer {
         Ok(())
     }
 
+    /// The shard was read from where the server's replica ends: its record and the head of its log by these bytes, with
+    /// their revisions, and the batches that were added. What was sent or waits is to be decided again.
+    pub fn append(
+        &mut self,
+        alloc: Global,
+        standing: &[u8],
+        stood: u64,
+        head: &[u8],
+        logged: u64,
+    ) -> Result<(), DriverFault>
+        ensures read { OnOk result (DoneOn self.old (IsAppending self.old standing.now stood head.now logged) IsAny
+            self.new) }
+    {
+        let batches = std::mem::replace(&mut self.batches, Vec::new(alloc));
+        let stored = match read_record(standing) {
+            Ok(stored) => stored,
+            Err(error) => return Err(fault_of(error)),
+        };
+        let head = match read_head(head) {
+            Ok(head) => head,
+            Err(error) => return Err(fault_of(error)),
+        };
+        let input = ShardInput::Append {
+            state: stored.state,
+            stood,
+            head,
+            logged,
+            batches: &batches,
+        };
+        let _output = step(alloc, &mut self.core, input)?;
+        Ok(())
+    }
+
     /// The shard's record alone was read. What waits is to be decided again.
     pub fn record(&mut self, alloc: Global, standing: &[u8], stood: u64) -> Result<(), DriverFault>
         ensures read { OnOk result (DoneOn self.old (IsRecordReading standing.now stood) IsAny self.new) }
@@ -199,11 +232,14 @@ impl TextServer {
         }
     }
 
-    /// Its compares didn't hold, or what became of it isn't known. The server is to read again, and what it held is to
-    /// be decided again.
+    /// Its compares didn't hold, or what became of it isn't known. The server is to read again, or to append what it
+    /// hasn't read, and what it held is to be decided again. What was added and not read is let go.
     pub fn on_lost(&mut self, alloc: Global) -> Result<(), DriverFault>
         ensures lost { OnOk result (DoneOn self.old (λ input. input ≡ LostInput) IsAny self.new) }
+        ensures let_go { OnOk result ((self.new.parts.items ≡ []) × (self.new.batches.items ≡ [])) }
     {
+        self.parts = Vec::new(alloc);
+        self.batches = Vec::new(alloc);
         let _output = step(alloc, &mut self.core, ShardInput::Lost)?;
         Ok(())
     }

@@ -3,19 +3,20 @@ use Rattle.std.proofs.Common.{◌≡◌, ℕ, ◌+◌, ◌<◌, List, [], ◌∷
 use Rattle.std.proofs.Common.{append-nil, append_assoc, arith}
 use Rattle.std.specs.Global.{Vec}
 use Rattle.std.specs.Prelude.{Option, None, IfSome}
+use Rattle.sm_store.specs.declared.head.Head.{Head}
 use Rattle.sm_store.specs.declared.item.Item.{Item}
 use Rattle.sm_store.specs.Clients.{Automaton, AreNext}
-use Rattle.sm_store.specs.Store.{record_key, stored_record}
-use Rattle.sm_store.specs.Deeds.{AreAccepted, AreRight, Charter, WasFound}
+use Rattle.sm_store.specs.Store.{head_key, record_key, stored_record}
+use Rattle.sm_store.specs.Deeds.{AreAccepted, AreRight, Charter, WasFound, shard_log}
 use Rattle.sm_store.specs.Whole.{all_items}
 use Rattle.sm_store.specs.lemmas.Numbers.{next_front}
-use Rattle.sm_store.specs.lemmas.Seen.{read_whole}
+use Rattle.sm_store.specs.lemmas.Seen.{read_on, read_whole}
 use Rattle.sm_shard.specs.declared.base_work.BaseWork.{BaseWork}
 use Rattle.sm_shard.specs.declared.shard_state.ShardState.{ShardState}
 use Rattle.sm_shard.specs.Bases.{Part, base_of}
 use Rattle.sm_shard.specs.Replicas.{IsReplica}
 use Rattle.sm_shard.specs.ShardServers.{HasRead, IsWorkTrue, StoreLog}
-use Rattle.sm_shard.specs.Steps.{IsLogRead}
+use Rattle.sm_shard.specs.Steps.{IsLogRead, IsLogReadOn}
 
 module _ {M Q R : Type 0} (service : Automaton M Q R) where
   pub read_so : (charter : Charter Q (Part R)) (log : StoreLog Q R) (me shard : ℕ) (ready : ShardState M Q R)
@@ -48,6 +49,58 @@ module _ {M Q R : Type 0} (service : Automaton M Q R) where
               (record { accepted = tt; next = tt });
         };
         base = subst (λ (o : Option (BaseWork R)). IfSome o (IsWorkTrue service log shard ready.head)) (sym work) tt;
+      }
+
+  -- a server that has caught up with the log knows what it holds
+  pub read_on_so : (charter : Charter Q (Part R)) (log : StoreLog Q R) (me shard : ℕ) (old new : ShardState M Q R)
+      (batches : List (List (Item Q))) → AreRight charter log → HasRead service log me shard old
+      → WasFound (stored_record shard) (record_key shard) log new.state new.stood
+      → IsLogReadOn log shard old.head.batches new.head new.logged batches
+      → old.head.batches + length batches ≡ new.head.batches
+      → ((before : List (Item Q)) → IsReplica service before old.replica
+      → IsReplica service (before ++ all_items batches) new.replica)
+      → new.sent.items ≡ [] → new.waiting.items ≡ [] → new.work ≡ None
+      → HasRead service log me shard new
+  read_on_so charter log me shard old new batches right knows stood grown long replica sent waiting work =
+      let none : [] ≡ new.sent.items ++ new.waiting.items =
+      sym (ap (λ (list : List (Item Q)). list ++ new.waiting.items) sent ∙ waiting) in
+      let all = knows.before ++ all_items batches in
+      record {
+        stood = stood;
+        before = all;
+        logged = read_on charter shard log old.head.batches knows.before new.head new.logged batches right
+            (record { head = old.head; revision = old.logged; log_was = knows.logged; all = refl })
+            grown.read long grown.rest;
+        is = record {
+          replica = replica knows.before knows.is.replica;
+          accepted = subst (AreAccepted new.state me all) none (record { accepted = tt; next = tt });
+        };
+        base = subst (λ (o : Option (BaseWork R)). IfSome o (IsWorkTrue service log shard new.head)) (sym work) tt;
+      }
+
+  -- a server that takes back what it sent, and goes by another record, knows what it knew
+  pub taken_back_so : (log : StoreLog Q R) (me shard : ℕ) (old new : ShardState M Q R)
+      → HasRead service log me shard old → WasFound (stored_record shard) (record_key shard) log new.state new.stood
+      → new.replica ≡ old.replica → new.head ≡ old.head → new.logged ≡ old.logged
+      → new.sent.items ≡ [] → new.waiting.items ≡ []
+      → (IfSome old.work (IsWorkTrue service log shard old.head)
+      → IfSome new.work (IsWorkTrue service log shard new.head))
+      → HasRead service log me shard new
+  taken_back_so log me shard old new knows stood replica_is head_is logged_is sent waiting base =
+      let none : [] ≡ new.sent.items ++ new.waiting.items =
+      sym (ap (λ (list : List (Item Q)). list ++ new.waiting.items) sent ∙ waiting) in
+      record {
+        stood = stood;
+        before = knows.before;
+        logged = subst (λ (r : ℕ). WasFound (shard_log shard) (head_key shard) log
+            (record { head = new.head; items = knows.before }) r) (sym logged_is)
+            (subst (λ (h : Head). WasFound (shard_log shard) (head_key shard) log
+            (record { head = h; items = knows.before }) old.logged) (sym head_is) knows.logged);
+        is = record {
+          replica = subst (IsReplica service knows.before) (sym replica_is) knows.is.replica;
+          accepted = subst (AreAccepted new.state me knows.before) none (record { accepted = tt; next = tt });
+        };
+        base = base knows.base;
       }
 
 module _ {Q : Type 0} where

@@ -453,6 +453,7 @@ module _ {M Q R : Type 0} (service : Automaton M Q R) where
     carried = carried;
     asking = ready.asking;
     work = ready.work;
+    decides = ready.decides;
   }
 
   pub knows_settled : (log : StoreLog Q R) (me shard revision : ℕ) (ready : ShardState M Q R) (carried : Vec (Item Q))

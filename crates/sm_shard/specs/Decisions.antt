@@ -121,11 +121,12 @@ abbrev pub waiting_after : {M Q R : Type 0} → ShardLimits → (Q → ℕ) → 
 waiting_after limits size ready me item =
     if is_taken limits size ready me item then ready.waiting.items ++ item ∷ [] else ready.waiting.items
 
--- what is decided where the server has read, and where it hasn't
+-- what is decided where the server has read, and where it hasn't, or is to catch up first
 abbrev pub server_decision : {M Q R : Type 0} → ShardLimits → (Q → ℕ) → Option (ShardState M Q R) → ℕ → Item Q
     → Decision R
 server_decision limits size None me item = NotRead
-server_decision limits size (Some ready) me item = decision_of limits size ready me item
+server_decision limits size (Some ready) me item =
+    if ready.decides then decision_of limits size ready me item else NotRead
 
 -- the decision on a request that only reads: it waits where the record accepts it here and there is room, goes to whom
 -- the record forwards it, if it may go that far, or is refused
@@ -142,10 +143,11 @@ asking_after limits ready me item =
     then ready.asking.items ++ item ∷ []
     else ready.asking.items
 
--- what is decided of one that only reads, where the server has read, and where it hasn't
+-- what is decided of one that only reads, where the server has read, and where it hasn't, or is to catch up first
 abbrev pub server_read_decision : {M Q R : Type 0} → ShardLimits → Option (ShardState M Q R) → ℕ → Item Q → Decision R
 server_read_decision limits None me item = NotRead
-server_read_decision limits (Some ready) me item = read_decision_of limits ready me item
+server_read_decision limits (Some ready) me item =
+    if ready.decides then read_decision_of limits ready me item else NotRead
 
 -- each part of the base is there, and no transaction that names it was sent
 abbrev pub is_written : BaseStage → Bool
@@ -217,6 +219,21 @@ is_behind shard head _ = false
 abbrev pub server_behind : {M Q R : Type 0} → ℕ → Option (ShardState M Q R) → PassingKey → Bool
 server_behind shard None key = false
 server_behind shard (Some ready) key = is_behind shard ready.head key
+
+-- the server decides by what it has read
+abbrev pub server_decides : {M Q R : Type 0} → Option (ShardState M Q R) → Bool
+server_decides None = false
+server_decides (Some ready) = ready.decides
+
+-- the server decides, and no transaction of it is under way
+abbrev pub server_settled : {M Q R : Type 0} → Option (ShardState M Q R) → Bool
+server_settled None = false
+server_settled (Some ready) = ready.decides && not (is_under_way ready)
+
+-- how many batches the server has made: none before it has read
+abbrev pub batches_made : {M Q R : Type 0} → Option (ShardState M Q R) → ℕ
+batches_made None = 0
+batches_made (Some ready) = ready.head.batches
 
 -- the server has something to send
 abbrev pub server_sends : {M Q R : Type 0} → ShardLimits → (Q → ℕ) → Option (ShardState M Q R) → Bool

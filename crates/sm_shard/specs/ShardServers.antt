@@ -173,6 +173,7 @@ pub record IsButWork {M Q R : Type 0} (old new : ShardState M Q R) : Type 0 wher
   pub waiting : new.waiting ≡ old.waiting
   pub carried : new.carried ≡ old.carried
   pub asking : new.asking ≡ old.asking
+  pub decides : new.decides ≡ old.decides
 
 -- nothing is sent, and nothing waits any less
 pub record IsUnflushed {M Q R : Type 0} (old new : ShardState M Q R) : Type 0 where

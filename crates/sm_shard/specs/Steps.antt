@@ -1,8 +1,9 @@
 -- What a step of a server ensures, whatever the store is: if what the server holds is so there, and what comes to it
 -- is, then what it holds afterwards is so, what it sends may be sent, and what it claims is so.
 use Rattle.std.specs.Prelude.{ℕ, Option, Some, None, IfSome, Result, Ok, Err, ◌≡◌, ◌≤◌, List, [], ◌∷◌, ◌++◌, length}
-use Rattle.std.specs.Prelude.{if◌then◌else◌, map}
+use Rattle.std.specs.Prelude.{IsSomeAnd, false, true, if◌then◌else◌, map}
 use Rattle.std.specs.List.{AllByRecursion}
+use Rattle.sm_ownership.specs.declared.record.Record.{Record}
 use Rattle.sm_shard.specs.Bases.{Part, base_of}
 use Rattle.sm_store.specs.declared.head.Head.{Head}
 use Rattle.sm_store.specs.declared.item.Item.{Item}
@@ -20,12 +21,13 @@ use Rattle.sm_shard.specs.declared.shard_state.Decision.{Decision}
 use Rattle.sm_shard.specs.declared.shard_state.ShardState.{ShardState}
 use Rattle.sm_shard.specs.declared.steps.ShardInput.{ShardInput}
 use Rattle.sm_shard.specs.declared.steps.ShardInput.TheVariants.{Read, Record as RecordRead, Request, Flush, Made}
-use Rattle.sm_shard.specs.declared.steps.ShardInput.TheVariants.{Lost}
+use Rattle.sm_shard.specs.declared.steps.ShardInput.TheVariants.{Append, Lost}
 use Rattle.sm_shard.specs.declared.steps.ShardInput.TheVariants.{Question, Base, PartsMade, Clear}
 use Rattle.sm_shard.specs.declared.steps.ShardOutput.{ShardOutput}
 use Rattle.sm_shard.specs.declared.steps.ShardOutput.TheVariants.{Nothing, Sends, Decided, Answers, Decides, Bases}
 use Rattle.sm_shard.specs.declared.steps.ShardOutput.TheVariants.{Clears}
-use Rattle.sm_shard.specs.Decisions.{server_begins, server_behind, server_decision, server_read_decision, server_sends}
+use Rattle.sm_shard.specs.Decisions.{server_begins, server_behind, server_decides, server_decision}
+use Rattle.sm_shard.specs.Decisions.{server_read_decision, server_sends, server_settled}
 use Rattle.sm_shard.specs.Replicas.{read_of, replies_of, told_read}
 use Rattle.sm_shard.specs.ShardServers.{AreAsked, AreRequestsAsked, AreWritten, DidHold, IsAsked, IsTrueOf, StoreLog}
 use Rattle.sm_shard.specs.ShardServers.{StoreSystem}
@@ -84,6 +86,12 @@ pub record IsLogRead {Q R : Type 0} (log : StoreLog Q R) (shard : ℕ) (head : H
   pub base : AreParts shard log head.base 0 parts
   pub rest : AreBatches shard log head.base batches
 
+-- the log was read on from so many batches: the head, and the batches after those, each at some moment
+pub record IsLogReadOn {Q R : Type 0} (log : StoreLog Q R) (shard number : ℕ) (head : Head) (logged : ℕ)
+    (batches : List (List (Item Q))) : Type 0 where
+  pub read : WasFound (head_of shard) (head_key shard) log head logged
+  pub rest : AreBatches shard log number batches
+
 -- what comes to a server is so in the store, where the server last sent at this length of the log
 abbrev pub IsInput : {M Q R : Type 0} → Automaton M Q R → StoreSystem Q R → ℕ → ShardServer M Q R
     → ShardInput Q R
@@ -91,6 +99,10 @@ abbrev pub IsInput : {M Q R : Type 0} → Automaton M Q R → StoreSystem Q R �
 IsInput service system since server (Read state stood head logged parts batches) =
     WasFound (stored_record server.shard) (record_key server.shard) system.log state stood
     × IsLogRead system.log server.shard head logged parts.now (map (λ batch. batch.items) batches.now)
+IsInput service system since server (Append state stood head logged batches) =
+    WasFound (stored_record server.shard) (record_key server.shard) system.log state stood
+    × IfSome server.ready (λ ready. IsLogReadOn system.log server.shard ready.head.batches head logged
+    (map (λ batch. batch.items) batches.now))
 IsInput service system since server (RecordRead state stood) =
     WasFound (stored_record server.shard) (record_key server.shard) system.log state stood
 IsInput service system since server (Request item) = Unit {0}
@@ -162,6 +174,8 @@ AreAnswers service (Some ready) answers =
 abbrev pub IsOutputOf : {M Q R : Type 0} → Automaton M Q R → (Q → ℕ) → ShardServer M Q R
     → ShardInput Q R → ShardOutput Q R → Type 0
 IsOutputOf service size server (Read state stood head logged parts batches) output = output ≡ Nothing
+IsOutputOf {Q = Q} service size server (Append state stood head logged batches) output =
+    (again : Undecided Q) × (output ≡ Decides again) × IfSome server.ready (λ ready. AreUndecided ready again)
 IsOutputOf {Q = Q} service size server (RecordRead state stood) output =
     (again : Undecided Q) × (output ≡ Decides again) × IfSome server.ready (λ ready. AreUndecided ready again)
 IsOutputOf service size server (Request item) output =
@@ -178,3 +192,20 @@ IsOutputOf service size server Base output = output ≡ (if server_begins server
 IsOutputOf service size server PartsMade output = output ≡ Nothing
 IsOutputOf service size server (Clear key) output =
     output ≡ (if server_behind server.shard server.ready key then Clears key else Nothing)
+
+-- the server goes by this record and this head, and decides
+pub record GoesBy {M Q R : Type 0} (state : Record) (stood : ℕ) (head : Head) (logged : ℕ)
+    (ready : ShardState M Q R) : Type 0 where
+  pub state_is : ready.state ≡ state
+  pub stood_is : ready.stood ≡ stood
+  pub head_is : ready.head ≡ head
+  pub logged_is : ready.logged ≡ logged
+  pub decides : ready.decides ≡ true
+
+-- after these inputs the server goes by what was read, or decides nothing before it has caught up
+abbrev pub IsCaughtUp : {M Q R : Type 0} → ShardServer M Q R → ShardInput Q R → ShardServer M Q R → Type 0
+IsCaughtUp old (Read state stood head logged parts batches) new = IsSomeAnd new.ready (GoesBy state stood head logged)
+IsCaughtUp old (Append state stood head logged batches) new = IsSomeAnd new.ready (GoesBy state stood head logged)
+IsCaughtUp old (RecordRead state stood) new = server_decides new.ready ≡ server_settled old.ready
+IsCaughtUp old Lost new = server_decides new.ready ≡ false
+IsCaughtUp old input new = Unit {0}

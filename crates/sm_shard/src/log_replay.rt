@@ -1,4 +1,4 @@
-ghost use Rattle.std.specs.Prelude.{◌≡◌, ◌<◌, ◌+◌, ◌++◌, List, [], length, map, IfOk, OnOk};
+ghost use Rattle.std.specs.Prelude.{◌≡◌, ◌==◌, ◌<◌, ◌+◌, ◌++◌, List, [], length, map, IfOk, OnOk};
 ghost use Rattle.sm_store.specs.declared.item.Item.{Item as ItemValue};
 ghost use Rattle.sm_store.specs.Clients.{AreNext};
 ghost use Rattle.sm_store.specs.Whole.{all_items};
@@ -48,6 +48,16 @@ fn make_batches<Q: Drop, R: Copy + Drop, M: StoreMachine<Q, R>>(
     Ok(())
 }
 
+// Whether so many batches after the first ones are as many as all.
+fn are_all(first: u64, batches: usize, all: u64) -> bool
+    ensures { result ≡ (first + batches == all) }
+{
+    match first.checked_add(batches as u64) {
+        Some(count) => count == all,
+        None => false,
+    }
+}
+
 /// The replica of a shard's log, by the head, the parts of the base that it names, and the batches after it. `Missing`
 /// where those aren't as many as the head says, and it is to be read again.
 pub fn replay<Q: Drop, R: Copy + Drop, M: StoreMachine<Q, R>>(
@@ -62,13 +72,29 @@ pub fn replay<Q: Drop, R: Copy + Drop, M: StoreMachine<Q, R>>(
     ensures parts { OnOk result (0 < head.now.base → length parts.now ≡ head.now.parts) }
     ensures batches { OnOk result (head.now.base + length batches.now ≡ head.now.batches) }
 {
-    let Some(count) = head.base.checked_add(batches.len() as u64) else {
-        return Err(ReplayFault::Missing);
-    };
-    if count != head.batches {
+    if !are_all(head.base, batches.len(), head.batches) {
         return Err(ReplayFault::Missing);
     }
     let mut replica = based::<Q, R, M>(alloc, head, parts)?;
     make_batches(alloc, &mut replica, batches)?;
     Ok(replica)
+}
+
+/// Has the replica of the first batches, so many, catch up with the head by the batches between. Returns `Missing` if
+/// those aren't as many as the head says. After an error nothing is said of the replica.
+pub fn catch_up<Q: Drop, R: Copy + Drop, M: StoreMachine<Q, R>>(
+    alloc: Global,
+    replica: &mut Replica<M, R>,
+    first: u64,
+    head: &Head,
+    batches: &[Vec<Item<Q>>],
+) -> Result<(), ReplayFault>
+    ensures replica { OnOk result ((before : List (ItemValue Q)) → IsReplica M.service before replica.old
+        → IsReplica M.service (before ++ all_items (map (λ batch. batch.items) batches.now)) replica.new) }
+    ensures batches { OnOk result (first + length batches.now ≡ head.now.batches) }
+{
+    if !are_all(first, batches.len(), head.batches) {
+        return Err(ReplayFault::Missing);
+    }
+    make_batches(alloc, replica, batches)
 }

@@ -1,13 +1,13 @@
-ghost use Rattle.std.specs.Prelude.{◌≢◌, ◌<◌, ◌≡◌, IfSome};
+ghost use Rattle.std.specs.Prelude.{◌≢◌, ◌<◌, ◌≡◌, [], IfSome};
 
 use crate::base_part::BasePart;
 use crate::base_work::NamedBase;
-use crate::log_replay::replay;
+use crate::log_replay::{catch_up, replay};
 use crate::replica::{MadeReply, ReadReply, ReplayFault, read_all};
 use crate::shard_limits::ShardLimits;
 use crate::shard_state::{
-    Decision, ShardState, ask, begin_base, commit, flush, is_behind, is_under_way, name_base,
-    named, take, write_base,
+    Decision, ShardState, ask, begin_base, commit, flush, is_behind, name_base, named,
+    stop_deciding, take, unsettle, write_base,
 };
 use crate::store_machine::StoreMachine;
 use sm_ownership::record::Record;
@@ -73,15 +73,16 @@ pub struct PartsSending<'a, R> {
 }
 
 impl<Q: Drop, R: Copy + Drop, M: StoreMachine<Q, R>> ShardServer<M, Q, R> {
-    ghost use Rattle.std.specs.Prelude.{◌++◌, ◌+◌, ◌≤◌, List, ◌↔◌, false, IsTrue, IsSome, IfOk, OnErr};
-    ghost use Rattle.std.specs.Prelude.{ℕ, [], IfNone, length, map};
+    ghost use Rattle.std.specs.Prelude.{◌++◌, ◌+◌, ◌≤◌, List, ◌↔◌, false, IsTrue, IsSome, IsSomeAnd, IfOk, OnErr};
+    ghost use Rattle.std.specs.Prelude.{None, OnOk, ℕ, [], IfNone, length, map};
     ghost use Rattle.std.specs.List.{AllByRecursion};
     ghost use Rattle.sm_shard.specs.Bases.{Part, base_of, kept_from};
     ghost use Rattle.sm_store.specs.Store.{IsRising, record_key, stored_record};
     ghost use Rattle.sm_store.specs.Deeds.{AreRight, Charter, MayClear, MaySend, WasFound};
     ghost use Rattle.sm_store.specs.System.{Ask, MayClaim};
     ghost use Rattle.sm_shard.specs.Decisions.{server_begins, server_behind, server_decision, server_read_decision};
-    ghost use Rattle.sm_shard.specs.Decisions.{clients_kept, server_sends};
+    ghost use Rattle.sm_shard.specs.Decisions.{batches_made, clients_kept, server_decides, server_sends};
+    ghost use Rattle.sm_shard.specs.Decisions.{server_settled};
     ghost use Rattle.sm_shard.specs.declared.shard_state.Decision.TheVariants.{TooManyClients};
     ghost use Rattle.sm_shard.specs.Replicas.{read_of, replies_of, told_read};
     ghost use Rattle.sm_shard.specs.ShardServers.{AreAsked, AreRequestsAsked, DidHold, IsAsked, IsTrueOf, StoreLog};
@@ -89,7 +90,7 @@ impl<Q: Drop, R: Copy + Drop, M: StoreMachine<Q, R>> ShardServer<M, Q, R> {
     ghost use Rattle.sm_shard.specs.ShardServers.{WereMade, claimed_all, claimed_by, claimed_reads};
     ghost use Rattle.sm_shard.specs.ShardServers.{AreWritten, basing_by, parts_transactions, sending_transaction};
     ghost use Rattle.sm_shard.specs.ShardServers.{sent_transaction};
-    ghost use Rattle.sm_shard.specs.Steps.{ArePast, IsLogRead};
+    ghost use Rattle.sm_shard.specs.Steps.{ArePast, GoesBy, IsLogRead, IsLogReadOn};
 
     /// A server that has just started knows nothing. None where the store hasn't so many shards.
     pub fn new(
@@ -140,6 +141,7 @@ impl<Q: Drop, R: Copy + Drop, M: StoreMachine<Q, R>> ShardServer<M, Q, R> {
             → WasFound (stored_record self.old.shard) (record_key self.old.shard) log state stood
             → IsLogRead log self.old.shard head logged parts.now (map (λ batch. batch.items) batches.now)
             → IsTrueOf M.service log self.new }
+        ensures read { OnOk result (IsSomeAnd self.new.ready (GoesBy state stood head logged)) }
         ensures asked { (asked : List (Ask Q)) (since : ℕ) → AreAsked asked since self.new }
         ensures asked_for { (asked : List (Ask Q)) → AreRequestsAsked asked self.new }
     {
@@ -156,8 +158,57 @@ impl<Q: Drop, R: Copy + Drop, M: StoreMachine<Q, R>> ShardServer<M, Q, R> {
             carried: Vec::new(alloc),
             asking: Vec::new(alloc),
             work: None,
+            decides: true,
         });
         Ok(())
+    }
+
+    /// The shard's record was read, and its log from where the server's replica of it ends: the head, and the batches
+    /// after those that the replica has, each as it was at some moment. The server goes on by them, and what was sent
+    /// or waits is to be decided again: what was made of it is among those batches. Returns `Missing` if not all of
+    /// them were there, or the server has read nothing. After an error it has forgotten what it read.
+    pub fn on_append(
+        &mut self,
+        alloc: Global,
+        state: Record,
+        stood: u64,
+        head: Head,
+        logged: u64,
+        batches: &[Vec<Item<Q>>],
+    ) -> Result<Undecided<Q>, ReplayFault>
+        ensures me { self.new.me ≡ self.old.me }
+        ensures shard { self.new.shard ≡ self.old.shard }
+        ensures count { self.new.count ≡ self.old.count }
+        ensures limits { self.new.limits ≡ self.old.limits }
+        ensures again { IfOk result (λ again. IfSome self.old.ready (λ ready.
+            again.sent.items ++ again.waiting.items ≡ ready.sent.items ++ ready.waiting.items)) }
+        ensures questions { IfOk result (λ again. IfSome self.old.ready (λ ready.
+            again.carried.items ++ again.asking.items ≡ ready.carried.items ++ ready.asking.items)) }
+        ensures known { (charter : Charter Q (Part R)) (log : StoreLog Q R) → AreRight charter log
+            → IsTrueOf M.service log self.old
+            → WasFound (stored_record self.old.shard) (record_key self.old.shard) log state stood
+            → IfSome self.old.ready (λ ready. IsLogReadOn log self.old.shard ready.head.batches head logged
+            (map (λ batch. batch.items) batches.now))
+            → IsTrueOf M.service log self.new }
+        ensures caught_up { OnOk result (IsSomeAnd self.new.ready (GoesBy state stood head logged)) }
+        ensures err { OnErr result (self.new.ready ≡ None) }
+        ensures asked { (asked : List (Ask Q)) (since : ℕ) → AreAsked asked since self.new }
+        ensures asked_for { (asked : List (Ask Q)) → AreRequestsAsked asked self.new }
+    {
+        let Some(mut ready) = self.ready.take() else {
+            return Err(ReplayFault::Missing);
+        };
+        let first = ready.head.batches;
+        catch_up(alloc, &mut ready.replica, first, &head, batches)?;
+        let again = taken_back(alloc, &mut ready);
+        ready.state = state;
+        ready.stood = stood;
+        ready.head = head;
+        ready.logged = logged;
+        ready.work = None;
+        ready.decides = true;
+        self.ready = Some(ready);
+        Ok(again)
     }
 
     /// A request came.
@@ -183,7 +234,11 @@ impl<Q: Drop, R: Copy + Drop, M: StoreMachine<Q, R>> ShardServer<M, Q, R> {
     {
         let (me, limits) = (self.me, self.limits);
         match &mut self.ready {
-            Some(ready) => take(ready, limits, me, item),
+            Some(ready) => if ready.decides {
+                take(ready, limits, me, item)
+            } else {
+                Ok(Decision::NotRead)
+            },
             None => Ok(Decision::NotRead),
         }
     }
@@ -205,7 +260,11 @@ impl<Q: Drop, R: Copy + Drop, M: StoreMachine<Q, R>> ShardServer<M, Q, R> {
     {
         let (me, limits) = (self.me, self.limits);
         match &mut self.ready {
-            Some(ready) => ask(ready, limits, me, item),
+            Some(ready) => if ready.decides {
+                ask(ready, limits, me, item)
+            } else {
+                Ok(Decision::NotRead)
+            },
             None => Ok(Decision::NotRead),
         }
     }
@@ -311,8 +370,9 @@ impl<Q: Drop, R: Copy + Drop, M: StoreMachine<Q, R>> ShardServer<M, Q, R> {
         Ok(StoreAnswers { made, read })
     }
 
-    /// The shard's record was read, and the server's own log is still the last one that it knows of. Where nothing is
-    /// under way, it goes on by the new record, and what waits is to be decided again; else it forgets what it read.
+    /// The shard's record was read, and the server's own log is still the last one that it knows of. It goes on by the
+    /// new record, and what was sent or waits is to be decided again. If a transaction was under way, the server is to
+    /// catch up with the log first.
     pub fn on_record(&mut self, alloc: Global, state: Record, stood: u64) -> Undecided<Q>
         ensures me { self.new.me ≡ self.old.me }
         ensures shard { self.new.shard ≡ self.old.shard }
@@ -325,26 +385,19 @@ impl<Q: Drop, R: Copy + Drop, M: StoreMachine<Q, R>> ShardServer<M, Q, R> {
         ensures known { (log : StoreLog Q R) → IsTrueOf M.service log self.old
             → WasFound (stored_record self.old.shard) (record_key self.old.shard) log state stood
             → IsTrueOf M.service log self.new }
+        ensures decides { server_decides self.new.ready ≡ server_settled self.old.ready }
         ensures asked { (asked : List (Ask Q)) (since : ℕ) → AreAsked asked since self.new }
         ensures asked_for { (asked : List (Ask Q)) → AreRequestsAsked asked self.new }
     {
         let Some(mut ready) = self.ready.take() else {
-            return forgotten::<Q, R, M>(alloc, None);
+            return none_undecided(alloc);
         };
-        if is_under_way(&ready) {
-            return forgotten(alloc, Some(ready));
-        }
-        let waiting = std::mem::replace(&mut ready.waiting, Vec::new(alloc));
-        let asking = std::mem::replace(&mut ready.asking, Vec::new(alloc));
+        unsettle(&mut ready);
+        let again = taken_back(alloc, &mut ready);
         ready.state = state;
         ready.stood = stood;
         self.ready = Some(ready);
-        Undecided {
-            sent: Vec::new(alloc),
-            waiting,
-            carried: Vec::new(alloc),
-            asking,
-        }
+        again
     }
 
     /// Begins a base of all that is made, where none is made and there are batches that the last one doesn't stand for.
@@ -431,8 +484,19 @@ impl<Q: Drop, R: Copy + Drop, M: StoreMachine<Q, R>> ShardServer<M, Q, R> {
         }
     }
 
-    /// The transaction's compares didn't hold, or what became of it is unknown: the server forgets what it read, and
-    /// what was sent or waits is to be decided again once it has read.
+    /// Returns how many batches the server has made: none before the shard was read.
+    pub fn batches(&self) -> u64
+        ensures { result ≡ batches_made self.now.ready }
+    {
+        match &self.ready {
+            Some(ready) => ready.head.batches,
+            None => 0,
+        }
+    }
+
+    /// The transaction's compares didn't hold, or what became of it is unknown. The server keeps what it has read and
+    /// made, and decides nothing before it has caught up with the log. What was sent or waits is to be decided again
+    /// then.
     pub fn on_lost(&mut self, alloc: Global) -> Undecided<Q>
         ensures me { self.new.me ≡ self.old.me }
         ensures shard { self.new.shard ≡ self.old.shard }
@@ -442,35 +506,49 @@ impl<Q: Drop, R: Copy + Drop, M: StoreMachine<Q, R>> ShardServer<M, Q, R> {
             ≡ ready.sent.items ++ ready.waiting.items) }
         ensures questions { IfSome self.old.ready (λ ready. result.carried.items ++ result.asking.items
             ≡ ready.carried.items ++ ready.asking.items) }
-        ensures known { (log : StoreLog Q R) → IsTrueOf M.service log self.new }
+        ensures known { (log : StoreLog Q R) → IsTrueOf M.service log self.old → IsTrueOf M.service log self.new }
+        ensures decides { server_decides self.new.ready ≡ false }
         ensures asked { (asked : List (Ask Q)) (since : ℕ) → AreAsked asked since self.new }
         ensures asked_for { (asked : List (Ask Q)) → AreRequestsAsked asked self.new }
     {
-        let ready = self.ready.take();
-        forgotten(alloc, ready)
+        let Some(mut ready) = self.ready.take() else {
+            return none_undecided(alloc);
+        };
+        stop_deciding(&mut ready);
+        let again = taken_back(alloc, &mut ready);
+        self.ready = Some(ready);
+        again
     }
 }
 
-// What a server that forgets leaves to be decided again.
-fn forgotten<Q: Drop, R: Copy + Drop, M: StoreMachine<Q, R>>(
+// Nothing is to be decided again.
+fn none_undecided<Q: Drop>(alloc: Global) -> Undecided<Q> {
+    Undecided {
+        sent: Vec::new(alloc),
+        waiting: Vec::new(alloc),
+        carried: Vec::new(alloc),
+        asking: Vec::new(alloc),
+    }
+}
+
+// Takes back what was sent or waits, which is to be decided again.
+fn taken_back<Q: Drop, R: Copy + Drop, M: StoreMachine<Q, R>>(
     alloc: Global,
-    ready: Option<ShardState<M, Q, R>>,
+    ready: &mut ShardState<M, Q, R>,
 ) -> Undecided<Q>
-    ensures { IfSome ready (λ ready. (result.sent ≡ ready.sent) × (result.waiting ≡ ready.waiting)
-        × (result.carried ≡ ready.carried) × (result.asking ≡ ready.asking)) }
+    ensures again { (result.sent ≡ ready.old.sent) × (result.waiting ≡ ready.old.waiting)
+        × (result.carried ≡ ready.old.carried) × (result.asking ≡ ready.old.asking) }
+    ensures none { (ready.new.sent.items ≡ []) × (ready.new.waiting.items ≡ [])
+        × (ready.new.carried.items ≡ []) × (ready.new.asking.items ≡ []) }
+    ensures read { (ready.new.state ≡ ready.old.state) × (ready.new.stood ≡ ready.old.stood)
+        × (ready.new.head ≡ ready.old.head) × (ready.new.logged ≡ ready.old.logged) }
+    ensures made { (ready.new.replica ≡ ready.old.replica) × (ready.new.work ≡ ready.old.work)
+        × (ready.new.decides ≡ ready.old.decides) }
 {
-    match ready {
-        Some(ready) => Undecided {
-            sent: ready.sent,
-            waiting: ready.waiting,
-            carried: ready.carried,
-            asking: ready.asking,
-        },
-        None => Undecided {
-            sent: Vec::new(alloc),
-            waiting: Vec::new(alloc),
-            carried: Vec::new(alloc),
-            asking: Vec::new(alloc),
-        },
+    Undecided {
+        sent: std::mem::replace(&mut ready.sent, Vec::new(alloc)),
+        waiting: std::mem::replace(&mut ready.waiting, Vec::new(alloc)),
+        carried: std::mem::replace(&mut ready.carried, Vec::new(alloc)),
+        asking: std::mem::replace(&mut ready.asking, Vec::new(alloc)),
     }
 }

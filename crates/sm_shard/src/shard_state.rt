@@ -1,5 +1,5 @@
-ghost use Rattle.std.specs.Prelude.{◌≡◌, ◌≤◌, ◌++◌, ◌+◌, List, [], ◌<◌, false, IsTrue, IfOk, OnOk, OnErr, IfSome};
-ghost use Rattle.std.specs.Prelude.{IfNone};
+ghost use Rattle.std.specs.Prelude.{◌≡◌, ◌≤◌, ◌++◌, ◌+◌, List, [], ◌<◌, ◌&&◌, false, not, IsTrue, IfOk, OnOk};
+ghost use Rattle.std.specs.Prelude.{IfNone, IfSome, None, OnErr};
 ghost use Rattle.std.specs.Prelude.{ℕ, length, nat_le, take, drop};
 ghost use Rattle.sm_ownership.specs.declared.record.Record.{Record as RecordValue};
 ghost use Rattle.sm_ownership.specs.Rules.{forward_to};
@@ -82,6 +82,9 @@ pub struct ShardState<M, Q, R> {
     pub asking: Vec<Item<Q>>,
     /// The base that is made.
     pub work: Option<BaseWork<R>>,
+    /// Whether the server decides by it. After a transaction that was lost, or of which nothing is known, it has to
+    /// catch up with the log first.
+    pub decides: bool,
 }
 
 // The number of the client's first request among these.
@@ -461,6 +464,31 @@ pub fn commit<Q: Drop, R: Copy + Drop, M: StoreMachine<Q, R>>(
     ready.head.batches = batches;
     ready.logged = revision;
     Ok(answers)
+}
+
+/// Has the server catch up with the log before it decides, if a transaction is under way: that one may be made.
+pub fn unsettle<Q: Drop, R: Copy + Drop, M: StoreMachine<Q, R>>(ready: &mut ShardState<M, Q, R>)
+    ensures read { (ready.new.state ≡ ready.old.state) × (ready.new.stood ≡ ready.old.stood)
+        × (ready.new.head ≡ ready.old.head) × (ready.new.logged ≡ ready.old.logged) }
+    ensures replica { ready.new.replica ≡ ready.old.replica }
+    ensures requests { (ready.new.sent ≡ ready.old.sent) × (ready.new.waiting ≡ ready.old.waiting)
+        × (ready.new.carried ≡ ready.old.carried) × (ready.new.asking ≡ ready.old.asking) }
+    ensures base { (log : StoreLog Q R) (shard : ℕ)
+        → IfSome ready.old.work (IsWorkTrue M.service log shard ready.old.head)
+        → IfSome ready.new.work (IsWorkTrue M.service log shard ready.new.head) }
+    ensures decides { ready.new.decides ≡ (ready.old.decides && not (is_under_way ready.old)) }
+{
+    if is_under_way(ready) {
+        stop_deciding(ready);
+    }
+}
+
+/// Has the server catch up with the log before it decides, and forget the base that it makes.
+pub fn stop_deciding<Q: Drop, R: Copy + Drop, M: StoreMachine<Q, R>>(ready: &mut ShardState<M, Q, R>)
+    ensures { ready.new ≡ record ready.old { work = None; decides = false } }
+{
+    ready.work = None;
+    ready.decides = false;
 }
 
 /// Begins a base of all that is made, where none is made and there are batches that the last one doesn't stand for.

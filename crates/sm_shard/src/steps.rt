@@ -1,5 +1,5 @@
-ghost use Rattle.std.specs.Prelude.{◌≡◌, IfOk};
-ghost use Rattle.sm_shard.specs.Steps.{IsOutputOf, IsStepOf, KeepsAsked};
+ghost use Rattle.std.specs.Prelude.{◌≡◌, IfOk, OnOk};
+ghost use Rattle.sm_shard.specs.Steps.{IsCaughtUp, IsOutputOf, IsStepOf, KeepsAsked};
 
 use crate::base_part::BasePart;
 use crate::replica::ReplayFault;
@@ -24,6 +24,15 @@ pub enum ShardInput<'a, Q, R> {
         head: Head,
         logged: u64,
         parts: &'a [BasePart<R>],
+        batches: &'a [Vec<Item<Q>>],
+    },
+    /// The shard's record and the head of its log were read, and the revision of each; and the batches after those that
+    /// the server has, as far as they are there.
+    Append {
+        state: Record,
+        stood: u64,
+        head: Head,
+        logged: u64,
         batches: &'a [Vec<Item<Q>>],
     },
     /// The shard's record alone was read, or seen by the watch.
@@ -80,6 +89,7 @@ pub fn step<Q: Drop, R: Copy + Drop, M: StoreMachine<Q, R>>(
     ensures exact { IfOk result (IsOutputOf M.service M.size server.old input.entry) }
     ensures call { IsStepOf M.service server.old input.entry result server.new }
     ensures asked_for { KeepsAsked server.old input.entry result server.new }
+    ensures caught_up { OnOk result (IsCaughtUp server.old input.entry server.new) }
 {
     match input {
         ShardInput::Read {
@@ -93,6 +103,13 @@ pub fn step<Q: Drop, R: Copy + Drop, M: StoreMachine<Q, R>>(
             server.on_read(alloc, state, stood, head, logged, parts, batches)?;
             Ok(Nothing)
         }
+        ShardInput::Append {
+            state,
+            stood,
+            head,
+            logged,
+            batches,
+        } => Ok(Decides(server.on_append(alloc, state, stood, head, logged, batches)?)),
         ShardInput::Record { state, stood } => Ok(Decides(server.on_record(alloc, state, stood))),
         ShardInput::Request(item) => Ok(Decided(server.on_request(item)?)),
         ShardInput::Question(item) => Ok(Decided(server.on_question(item)?)),

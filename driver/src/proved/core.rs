@@ -81,6 +81,27 @@ impl Core {
         Ok(self.server.read((record, stood.0), (head, logged.0))?)
     }
 
+    /// Returns how many batches the server has made.
+    pub(crate) fn batch_count(&mut self) -> Result<u64, CoreFault> {
+        Ok(self.server.batch_count()?)
+    }
+
+    /// The shard was read from where the server is: its record and the head of its log, each with its revision, and the
+    /// batches that were added. What was sent or waits here is to be given again.
+    pub(crate) fn append(
+        &mut self,
+        (record, stood): (&[u8], Revision),
+        (head, logged): (&[u8], Revision),
+    ) -> Result<(), CoreFault> {
+        Ok(self.server.append((record, stood.0), (head, logged.0))?)
+    }
+
+    /// What was sent wasn't made, or isn't known to be. The server decides nothing before it has appended what it
+    /// hasn't read, and what it held is to be given again.
+    pub(crate) fn lost(&mut self) -> Result<(), CoreFault> {
+        Ok(self.server.lost()?)
+    }
+
     /// The record was seen. What waits here is to be given again.
     pub(crate) fn record(&mut self, record: &[u8], stood: Revision) -> Result<(), CoreFault> {
         Ok(self.server.record(record, stood.0)?)

@@ -1,3 +1,4 @@
+use crate::proved::Core;
 use crate::work::{self, Work, WorkStep};
 use crate::Elsewhere;
 use durkenzo_store::Transaction;
@@ -6,8 +7,9 @@ use durkenzo_store::Transaction;
 pub(crate) enum Action {
     /// Sends a server's transaction. The outcome is told by [`super::Shard::on_outcome`], with this ticket.
     Submit(Ticket, Transaction),
-    /// Recovers the shard for a server. What was read is told by [`super::Shard::on_read`], with this ticket.
-    Read(Ticket),
+    /// Recovers the shard for a server: what it lacks, if it has kept what it made, and else all. What was read is told
+    /// by [`super::Shard::on_read`], with this ticket.
+    Read(Ticket, Option<Core>),
     /// Writes the parts of a server's base at these keys. Whether all were written is told by
     /// [`super::Shard::on_base`], with this ticket.
     WriteBase(Ticket, Vec<(Vec<u8>, Vec<u8>)>),

@@ -9,7 +9,7 @@ use std::time::Instant;
 pub(super) enum BaseProgress {
     /// Its parts are being written: those of the base with this number of a ticket.
     Writes(u64),
-    /// One wasn't written: once no transaction is under way the server is read anew, which makes none then.
+    /// One wasn't written: once no transaction is under way the server catches up with the log, and makes none then.
     Failed,
     /// They are written, so the next transaction names it.
     Names,
@@ -60,7 +60,7 @@ impl Shard {
 
     /// Begins a base, where the server that executes is of this process and makes none. Where it hasn't read the shard,
     /// it reads that first. If the store is full, nothing that takes room is sent until it is over: what is refused has
-    /// the server be read anew, and so its base begun anew.
+    /// the server read again, and so its base begun anew.
     pub(crate) fn want_base(&mut self, is_full: bool, now: Instant, actions: &mut Vec<Action>) {
         self.base_demand.is_wanted = false;
         if self.base.is_some() {
@@ -79,7 +79,8 @@ impl Shard {
                 self.base_demand.is_wanted = true;
                 return;
             }
-            Some(ReplicaState::Unread(_) | ReplicaState::Reading(_)) | None => {
+            Some(ReplicaState::Unread(_) | ReplicaState::Behind(..) | ReplicaState::Reading(_))
+            | None => {
                 self.base_demand.is_wanted = true;
                 self.ready_core(server, now, actions);
                 return;
@@ -111,7 +112,7 @@ impl Shard {
     }
 
     /// Whether a base is made, or is to be made soon, in order to make room; or what is behind it isn't deleted yet, as
-    /// a server that is read anew wouldn't do that.
+    /// a server that reads again meanwhile wouldn't do that.
     pub(super) fn makes_room(&self) -> bool {
         self.base_demand.is_alone && self.makes_base()
     }
@@ -156,11 +157,11 @@ impl Shard {
         self.go_on(now, actions);
     }
 
-    /// Has a server be read anew whose base failed, where nothing that it sent is under way.
+    /// Has a server catch up whose base failed, where nothing that it sent is under way: it forgets that base.
     pub(super) fn end_failed_base(&mut self, server: u16) {
         let is_ready = matches!(self.replicas.get(&server), Some(ReplicaState::Ready(..)));
         if is_ready && self.base == Some((server, BaseProgress::Failed)) {
-            self.read_again(server);
+            self.fall_behind(server);
         }
     }
 
@@ -176,8 +177,11 @@ impl Shard {
     /// Deletes of what was found what is behind the base.
     pub(crate) fn on_swept(&mut self, server: u16, found: &[Passing], actions: &mut Vec<Action>) {
         self.sweeps = self.sweeps.saturating_sub(1);
-        let Some(ReplicaState::Ready(core, _) | ReplicaState::Sent(core, ..)) =
-            self.replicas.get_mut(&server)
+        let Some(
+            ReplicaState::Behind(core, _)
+            | ReplicaState::Ready(core, _)
+            | ReplicaState::Sent(core, ..),
+        ) = self.replicas.get_mut(&server)
         else {
             return;
         };
@@ -199,6 +203,7 @@ impl Shard {
 mod tests {
     use super::*;
     use crate::proved::Core;
+    use crate::recovery::ServerPlace;
     use crate::shard::Revisions;
     use crate::work::WorkOutcome;
     use crate::{
@@ -215,6 +220,13 @@ mod tests {
         r#""ops":1,"kept":9,"ceiling":99,"workers":1}"#
     );
 
+    /// The only server of the only shard.
+    const PLACE: ServerPlace = ServerPlace {
+        server: 1,
+        shard: 0,
+        count: 1,
+    };
+
     /// A store with a shard of server 1.
     fn written() -> Arc<dyn Store> {
         let store: Arc<dyn Store> = Arc::new(Embedded::in_memory());
@@ -228,7 +240,9 @@ mod tests {
     fn a_base_ends_where_its_server_reads_anew() {
         let (store, now) = (written(), Instant::now());
         let mut shard = Shard::new(0, 1, None, Tuning::default());
-        let read = recovery::recover(&*store, 1, 0, 1).unwrap();
+        let read = recovery::recover(&*store, None, PLACE)
+            .map_err(|it| it.fault)
+            .unwrap();
         let (bytes, stood) = (read.stored.bytes().to_vec(), read.stored.revision());
         let logged = read.logged;
         shard.replicas.insert(1, ReplicaState::Reading(1));
@@ -244,7 +258,7 @@ mod tests {
         shard.see(changed, now, &mut Vec::new());
         assert!(matches!(
             shard.replicas.get(&1),
-            Some(ReplicaState::Unread(_))
+            Some(ReplicaState::Behind(..))
         ));
         assert_eq!(shard.base, None);
     }
@@ -312,8 +326,8 @@ mod tests {
                     let outcome = store.make(transaction);
                     shard.on_outcome(ticket, outcome, now, &mut actions);
                 }
-                Action::Read(ticket) => {
-                    let read = recovery::recover(store, 1, 0, 1);
+                Action::Read(ticket, kept) => {
+                    let read = recovery::recover(store, kept, PLACE);
                     shard.on_read(ticket, read, now, &mut actions);
                 }
                 Action::WriteBase(ticket, _) => shard.on_base(ticket, true, now, &mut actions),

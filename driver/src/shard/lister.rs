@@ -23,9 +23,10 @@ impl Lister {
                 at,
                 has_failed: false,
             }),
-            ReplicaState::Unread(_) | ReplicaState::Reading(_) | ReplicaState::Sent(..) => {
-                Err(state)
-            }
+            ReplicaState::Unread(_)
+            | ReplicaState::Behind(..)
+            | ReplicaState::Reading(_)
+            | ReplicaState::Sent(..) => Err(state),
         }
     }
 

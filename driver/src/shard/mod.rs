@@ -9,7 +9,8 @@ mod retry;
 mod rounds;
 mod transaction;
 
-use crate::recovery::{LogSize, Recovered, RecoveryFault};
+use crate::proved::Core;
+use crate::recovery::{LogSize, Recovered, RecoveryFault, Unrecovered};
 use crate::round::{Round, MOST_BYTES};
 use crate::run::{DecidedChange, Origin, Run};
 use crate::work::{NotDone, WorkStep};
@@ -17,6 +18,7 @@ use crate::{Came, Elsewhere, Member, StoredRecord, Tuning};
 pub(crate) use action::{Action, Ticket};
 use base::{BaseDemand, BaseProgress};
 use base_pause::BasePause;
+use durkenzo::Stand;
 use durkenzo_store::Revision;
 use lease_reads::LeaseReads;
 pub(crate) use lister::Lister;
@@ -140,7 +142,9 @@ impl Shard {
             .values_mut()
             .filter_map(|replica| match replica {
                 ReplicaState::Unread(_) | ReplicaState::Reading(_) => None,
-                ReplicaState::Ready(core, _) | ReplicaState::Sent(core, _, _, _) => Some(core),
+                ReplicaState::Behind(core, _)
+                | ReplicaState::Ready(core, _)
+                | ReplicaState::Sent(core, ..) => Some(core),
             });
         // One that can't tell is closed at its next step.
         cores.filter_map(|it| it.clients().ok()).max().unwrap_or(0)
@@ -240,7 +244,7 @@ impl Shard {
             true => drop(self.away.insert(server)),
             false => drop(self.away.remove(&server)),
         }
-        self.catch_up();
+        self.follow_record();
         self.go_on(now, actions);
     }
 
@@ -263,49 +267,81 @@ impl Shard {
             return;
         }
         self.stored = stored;
-        self.catch_up();
+        self.follow_record();
+        self.read_ahead(now, actions);
         self.go_on(now, actions);
     }
 
+    /// Has this process's server read the shard if it comes next, before anybody asks it: when it executes, it lacks
+    /// only what was written since.
+    fn read_ahead(&mut self, now: Instant, actions: &mut Vec<Action>) {
+        let stand = self.stored.record().map(|it| it.stand);
+        let next = match stand {
+            Some(Stand::Prepared { next, .. } | Stand::Forwarding { next, .. }) => Some(next),
+            Some(Stand::Vacant | Stand::Serving(_) | Stand::Taken { .. } | Stand::Paused(_)) => {
+                None
+            }
+            None => None,
+        };
+        if let Some(server) = next.filter(|it| self.me() == Some(*it) && self.is_reached(*it)) {
+            self.ready_core(server, now, actions);
+        }
+    }
+
     /// Has each server that is ready go by the last record, and lets those go that it doesn't name.
-    pub(super) fn catch_up(&mut self) {
+    pub(super) fn follow_record(&mut self) {
         let (stored, away, round) = (&self.stored, &self.away, &self.round);
         // By what it reads it is found out what became of the round.
         let finds_out = round.as_ref().is_some_and(|it| it.may_be_made);
         let stays = |it: &u16| finds_out || stored.names(*it) && !away.contains(it);
         self.replicas
             .retain(|server, replica| matches!(replica, ReplicaState::Sent(..)) || stays(server));
-        let mut behind = Vec::new();
+        // Until the record changed, what is unknown may be made, and the owner before may write: that is read.
+        let is_unknown = self.unknown_at.is_some();
+        let next = stored.record().and_then(|it| match it.stand {
+            Stand::Forwarding { next, .. } => Some(next),
+            Stand::Vacant
+            | Stand::Serving(_)
+            | Stand::Prepared { .. }
+            | Stand::Taken { .. }
+            | Stand::Paused(_) => None,
+        });
+        let mut changed = Vec::new();
         for (server, replica) in &mut self.replicas {
-            if let ReplicaState::Ready(core, at) = replica {
-                if at.stood < stored.revision() {
-                    behind.push(*server);
-                    if self.unknown_at.is_some() {
-                        // It may be made until the record changed: that is read.
-                        *replica = ReplicaState::Unread(None);
-                        continue;
-                    }
-                    match core.record(stored.bytes(), stored.revision()) {
-                        Ok(()) => at.stood = stored.revision(),
-                        Err(_) => *replica = ReplicaState::Unread(None),
-                    }
-                }
+            let ReplicaState::Ready(core, at) = replica else {
+                continue;
+            };
+            if at.stood >= stored.revision() {
+                continue;
+            }
+            changed.push(*server);
+            if is_unknown || next == Some(*server) {
+                continue;
+            }
+            match core.record(stored.bytes(), stored.revision()) {
+                Ok(()) => at.stood = stored.revision(),
+                Err(_) => *replica = ReplicaState::Unread(None),
             }
         }
-        // A server that reads anew knows nothing of the base that it made.
-        let is_unread =
-            |it: u16| matches!(self.replicas.get(&it), Some(ReplicaState::Unread(_)) | None);
-        self.base = self.base.filter(|it| !is_unread(it.0));
-        if let Some(round) = &mut self.round {
-            behind.into_iter().for_each(|it| round.take_back(it));
+        for server in changed {
+            match is_unknown || next == Some(server) {
+                true => self.fall_behind(server),
+                false => self.round.iter_mut().for_each(|it| it.take_back(server)),
+            }
         }
+        // A server that reads again knows nothing of the base that it made.
+        let reads = |it: u16| {
+            let state = self.replicas.get(&it);
+            state.is_none_or(|it| it.reads_from().is_some())
+        };
+        self.base = self.base.filter(|it| !reads(it.0));
     }
 
     /// The shard was read for a server. What was asked for before the server forgot it is too old.
     pub(crate) fn on_read(
         &mut self,
         ticket: Ticket,
-        read: Result<Recovered, RecoveryFault>,
+        read: Result<Recovered, Unrecovered>,
         now: Instant,
         actions: &mut Vec<Action>,
     ) {
@@ -320,26 +356,42 @@ impl Shard {
                     self.want_base(self.base_demand.is_alone, now, actions);
                 }
             }
-            Err(later @ (RecoveryFault::Later | RecoveryFault::Unanswered(_))) => {
-                if let RecoveryFault::Unanswered(told) = later {
+            Err(Unrecovered { kept, fault }) => {
+                self.on_unread(server, kept, fault, (now, actions));
+            }
+        }
+        self.read_ahead(now, actions);
+        self.go_on(now, actions);
+    }
+
+    /// Has the server read again later, or ends what waits if that wouldn't help.
+    fn on_unread(
+        &mut self,
+        server: u16,
+        kept: Option<Core>,
+        fault: RecoveryFault,
+        (now, actions): (Instant, &mut Vec<Action>),
+    ) {
+        match fault {
+            RecoveryFault::Later | RecoveryFault::Unanswered(_) => {
+                if let RecoveryFault::Unanswered(told) = fault {
                     self.unanswered = Some(told);
                 }
-                let again = ReplicaState::Unread(Some(now + READ_AGAIN));
+                let again = ReplicaState::later(kept, now + READ_AGAIN);
                 self.replicas.insert(server, again);
             }
-            Err(RecoveryFault::Ended(why)) => {
+            RecoveryFault::Ended(why) => {
                 self.base_demand.is_wanted = false;
                 self.replicas.insert(server, ReplicaState::Unread(None));
                 self.give_up(&NotDone::Stopped, actions);
                 actions.push(Action::StoreEnded(why));
             }
-            Err(RecoveryFault::Damaged(why)) => {
+            RecoveryFault::Damaged(why) => {
                 self.base_demand.is_wanted = false;
                 self.replicas.insert(server, ReplicaState::Unread(None));
                 self.give_up(&NotDone::Damaged(why), actions);
             }
         }
-        self.go_on(now, actions);
     }
 
     /// Makes the server ready by what it read.
@@ -350,9 +402,9 @@ impl Shard {
             logged,
             log,
         } = read;
-        self.log = log;
         // What was read may have deletions.
-        self.base_demand.has_freed |= log.batches > 0;
+        self.base_demand.has_freed |= log.batches_read > 0;
+        self.log.note(log);
         self.unanswered = None;
         let stood = stored.revision();
         let at = Revisions { stood, logged };
@@ -363,7 +415,7 @@ impl Shard {
         if stood > self.stored.revision() {
             self.stored = stored;
         }
-        self.catch_up();
+        self.follow_record();
     }
 
     /// Refuses what has waited for so long, where no transaction is under way for it.
@@ -373,8 +425,7 @@ impl Shard {
         if is_idle || is_sent || self.holds > 0 {
             return;
         }
-        let reads_again =
-            |it: &ReplicaState| matches!(it, ReplicaState::Unread(Some(at)) if *at <= now);
+        let reads_again = |it: &ReplicaState| it.reads_from().flatten().is_some_and(|at| at <= now);
         if self.replicas.values().any(reads_again) {
             self.go_on(now, actions);
         }
@@ -419,8 +470,8 @@ impl Shard {
             return NotDone::TooManyClients;
         }
         match record.map(|it| it.stand) {
-            Some(durkenzo::Stand::Paused(_)) => NotDone::Paused,
-            Some(durkenzo::Stand::Vacant) => NotDone::Vacant,
+            Some(Stand::Paused(_)) => NotDone::Paused,
+            Some(Stand::Vacant) => NotDone::Vacant,
             Some(_) => match owner.filter(|it| !self.is_reached(*it)) {
                 Some(owner) => NotDone::Away(owner),
                 None if self.is_unread() => match &self.unanswered {
@@ -439,7 +490,7 @@ impl Shard {
     /// Whether a server is still to read the shard.
     fn is_unread(&self) -> bool {
         let mut replicas = self.replicas.values();
-        replicas.any(|it| matches!(it, ReplicaState::Unread(_) | ReplicaState::Reading(_)))
+        replicas.any(|it| it.reads_from().is_some() || matches!(it, ReplicaState::Reading(_)))
     }
 
     /// Refuses all that waits.
@@ -463,7 +514,7 @@ impl Shard {
         for server in round.waits_at() {
             match self.replicas.get(&server) {
                 Some(ReplicaState::Sent(..)) => may_be_made = true,
-                _ => self.read_again(server),
+                _ => self.fall_behind(server),
             }
         }
         let why = match (may_be_made, why) {

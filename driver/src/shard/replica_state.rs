@@ -6,12 +6,40 @@ use std::time::Instant;
 pub(super) enum ReplicaState {
     /// The server has read nothing. It may be read from this time on, or at once.
     Unread(Option<Instant>),
-    /// The server recovers the shard from the store, by the ticket of this number.
+    /// The server is to read what the log has and it hasn't, from this time on, or at once. What it has made lasts.
+    Behind(Core, Option<Instant>),
+    /// The server recovers the shard from the store, or catches up with it, by the ticket of this number.
     Reading(u64),
     /// The server decides requests, by what it has read and made up to these revisions.
     Ready(Core, Revisions),
     /// The server's transaction with this payload is under way, by the ticket of this number.
     Sent(Core, Revisions, u64, TransactionPayload),
+}
+
+impl ReplicaState {
+    /// The server has lost a transaction, or doesn't know what became of it.
+    pub(super) fn lost(mut core: Core) -> ReplicaState {
+        match core.lost() {
+            Ok(()) => ReplicaState::Behind(core, None),
+            Err(_) => ReplicaState::Unread(None),
+        }
+    }
+
+    /// The server reads again from this time on: what it lacks, if it has kept what it made, or else all.
+    pub(super) fn later(kept: Option<Core>, later: Instant) -> ReplicaState {
+        match kept {
+            Some(core) => ReplicaState::Behind(core, Some(later)),
+            None => ReplicaState::Unread(Some(later)),
+        }
+    }
+
+    /// When the server may read, if it is to: at once for none.
+    pub(super) fn reads_from(&self) -> Option<Option<Instant>> {
+        match self {
+            ReplicaState::Unread(later) | ReplicaState::Behind(_, later) => Some(*later),
+            ReplicaState::Reading(_) | ReplicaState::Ready(..) | ReplicaState::Sent(..) => None,
+        }
+    }
 }
 
 /// What a server's transaction does.

@@ -165,7 +165,10 @@ impl Shard {
     fn logged_of(&self, server: u16) -> Option<Revision> {
         match self.replicas.get(&server)? {
             ReplicaState::Ready(_, at) => Some(at.logged),
-            ReplicaState::Unread(_) | ReplicaState::Reading(_) | ReplicaState::Sent(..) => None,
+            ReplicaState::Unread(_)
+            | ReplicaState::Behind(..)
+            | ReplicaState::Reading(_)
+            | ReplicaState::Sent(..) => None,
         }
     }
 
@@ -364,7 +367,7 @@ impl Shard {
         }
     }
 
-    /// The server, where it can decide now; where it hasn't read the shard it is to read it.
+    /// The server, if it can decide now. One that hasn't read the shard, or lacks some of its log, is to read that.
     pub(super) fn ready_core(
         &mut self,
         server: u16,
@@ -375,18 +378,26 @@ impl Shard {
             .replicas
             .entry(server)
             .or_insert(ReplicaState::Unread(None));
+        if let Some(later) = replica.reads_from() {
+            if later.is_none_or(|it| it <= now) {
+                self.tickets += 1;
+                let number = self.tickets;
+                let kept = match std::mem::replace(replica, ReplicaState::Reading(number)) {
+                    ReplicaState::Behind(core, _) => Some(core),
+                    ReplicaState::Unread(_)
+                    | ReplicaState::Reading(_)
+                    | ReplicaState::Ready(..)
+                    | ReplicaState::Sent(..) => None,
+                };
+                actions.push(Action::Read(Ticket { server, number }, kept));
+            }
+        }
         match replica {
             ReplicaState::Ready(core, _) => Some(core),
-            ReplicaState::Unread(later) => {
-                if later.is_none_or(|it| it <= now) {
-                    self.tickets += 1;
-                    let number = self.tickets;
-                    *replica = ReplicaState::Reading(number);
-                    actions.push(Action::Read(Ticket { server, number }));
-                }
-                None
-            }
-            ReplicaState::Reading(_) | ReplicaState::Sent(..) => None,
+            ReplicaState::Unread(_)
+            | ReplicaState::Behind(..)
+            | ReplicaState::Reading(_)
+            | ReplicaState::Sent(..) => None,
         }
     }
 

@@ -108,13 +108,13 @@ impl Shard {
             Ok(Outcome::Made(revision)) => {
                 self.on_sent_made(ticket, (core, at, payload), (revision, sent_at), actions);
             }
-            Ok(Outcome::Lost(_)) => self.read_again(server),
+            Ok(Outcome::Lost(_)) => self.lose(server, core),
             Err(WriteError::Unknown(_)) => {
                 self.note_may_be_made(at, payload);
-                self.read_again(server);
+                self.lose(server, core);
             }
             Err(error) => {
-                self.read_again(server);
+                self.lose(server, core);
                 match payload {
                     // Nothing of the round was sent, so it goes on.
                     TransactionPayload::Base => self.base_pause.begin(now),
@@ -125,7 +125,7 @@ impl Shard {
                 note_ended(&error, actions);
             }
         }
-        self.catch_up();
+        self.follow_record();
         self.go_on(now, actions);
     }
 
@@ -182,12 +182,30 @@ impl Shard {
 
     /// Has the server forget what it read. What it held is to be decided again.
     pub(super) fn read_again(&mut self, server: u16) {
+        self.begin_anew(server, ReplicaState::Unread(None));
+    }
+
+    /// Has the server whose transaction wasn't made, or isn't known to be, read what it lacks of the log.
+    fn lose(&mut self, server: u16, core: Core) {
+        self.begin_anew(server, ReplicaState::lost(core));
+    }
+
+    /// Has the server read what it lacks of the log, if it decides now. What it held is to be decided again.
+    pub(super) fn fall_behind(&mut self, server: u16) {
+        match self.replicas.remove(&server) {
+            Some(ReplicaState::Ready(core, _)) => self.lose(server, core),
+            other => self.replicas.extend(other.map(|it| (server, it))),
+        }
+    }
+
+    /// Has the server read, from where this state says. What it held is to be decided again, and its base is forgotten.
+    fn begin_anew(&mut self, server: u16, state: ReplicaState) {
         self.base = self.base.filter(|it| it.0 != server);
-        self.replicas.insert(server, ReplicaState::Unread(None));
+        self.replicas.insert(server, state);
         self.round.iter_mut().for_each(|it| it.take_back(server));
     }
 
-    /// A batch that compared so may be made: what the server reads anew tells whether the round with it is.
+    /// A batch that compared so may be made: what the server reads of the log tells whether the round with it is.
     fn note_may_be_made(&mut self, at: Revisions, payload: TransactionPayload) {
         let TransactionPayload::Batch(number) = payload else {
             return;

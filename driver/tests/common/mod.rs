@@ -1,6 +1,7 @@
 //! What tests of the driver need: work that waits for its answer, and a store that doesn't tell all.
 #![allow(dead_code)]
 pub mod cluster;
+pub mod counting;
 pub mod handing;
 pub mod late;
 pub mod withheld;

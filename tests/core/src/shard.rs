@@ -224,6 +224,35 @@ fn steps_write_and_clear(rt: HostRuntime) {
     );
 }
 
+// The head of a log of so many batches.
+fn log_of(batches: u64) -> Head {
+    Head { batches, ..HEAD }
+}
+
+#[test]
+fn catches_up_with_the_log(rt: HostRuntime) {
+    let (alloc, one) = (rt.alloc(), ServerId::of(1));
+    let mut server = ready(&rt, alloc);
+    executes(&rt, alloc, &mut server, 7, 5, 4);
+    assert!(rt; matches!(server.on_request(item(8, 6)), Ok(Decision::Waits)));
+    assert!(rt; matches!(server.flush(alloc), Ok(true)));
+    // It was made, but nobody knows.
+    let again = server.on_lost(alloc);
+    assert!(rt; (again.sent.len(), again.waiting.len()) == (1, 0));
+    assert!(rt; matches!(server.on_request(item(8, 6)), Ok(Decision::NotRead)));
+    assert!(rt; matches!(server.on_question(item(9, 0)), Ok(Decision::NotRead)));
+    assert!(rt; server.batches() == 1);
+    let mut batches = Vec::new(alloc);
+    assert!(rt; batches.push(batch(&rt, alloc, 8, 6)).is_ok());
+    let appended = server.on_append(alloc, serving(one), 3, log_of(2), 5, &batches);
+    assert!(rt; appended.is_ok());
+    assert!(rt; server.batches() == 2);
+    assert!(rt; matches!(server.on_request(item(8, 6)), Ok(Decision::Replied(11))));
+    let missing = server.on_append(alloc, serving(one), 3, log_of(4), 7, &batches);
+    assert!(rt; matches!(missing, Err(ReplayFault::Missing)));
+    assert!(rt; matches!(server.on_request(item(8, 6)), Ok(Decision::NotRead)));
+}
+
 // The item as it came to its server after so many hops.
 fn hopped(client: u64, hops: u8) -> Item<u64> {
     Item {

@@ -13,10 +13,10 @@ use Rattle.sm_store.specs.Store.{Transaction, batch_at, head_key, head_of, made,
 use Rattle.sm_store.specs.Store.{deletes_key, last_revision}
 use Rattle.sm_store.specs.Deeds.{Charter, Deed, Electing, Expiring, Changing, Executing, Basing, Naming, Clearing}
 use Rattle.sm_store.specs.Deeds.{Following, Restarting, Settling, Checking, Foreign, transaction_of, IsRight, AreRight}
-use Rattle.sm_store.specs.Deeds.{WasFound, done_at, shard_log}
+use Rattle.sm_store.specs.Deeds.{HasRequests, WasFound, done_at, shard_log}
 use Rattle.sm_store.specs.Whole.{AreBatches, AreParts, WasSeen, all_items, base_parts}
 use Rattle.sm_store.specs.lemmas.Growth.{made_next}
-use Rattle.sm_store.specs.lemmas.Heads.{right_past, risen, until_all, until_stays, until_there}
+use Rattle.sm_store.specs.lemmas.Heads.{read_until, right_past, risen, until_all, until_stays, until_there}
 use Rattle.sm_store.specs.lemmas.Parts.{none_or, part_is, some_or}
 use Rattle.sm_store.specs.lemmas.Whole.{based, none}
 
@@ -218,4 +218,33 @@ module _ {Q P : Type 0} (charter : Charter Q P) (shard : ℕ) where
               ∙ ap (λ (list : List (Item Q)). record { head = head; items = list }) items;
         };
         next = subst (AreNext []) items (made_next charter shard past right_then);
+      }
+
+  -- who has the requests of the first batches, so many, has those of a later head by the batches between
+  pub read_on : (log : List (Transaction Q P)) (number : ℕ) (before : List (Item Q)) (head : Head) (logged : ℕ)
+      (batches : List (List (Item Q))) → AreRight charter log → HasRequests log shard number before
+      → WasFound (head_of shard) (head_key shard) log head logged
+      → number + length batches ≡ head.batches → AreBatches shard log number batches
+      → WasFound (shard_log shard) (head_key shard) log
+      (record { head = head; items = before ++ all_items batches }) logged
+  read_on log number before head logged batches right has found long seen =
+      let past = found.past in
+      let all : AreRight charter (found.later ++ past) = subst (AreRight charter) found.is right in
+      let right_then = right_past charter shard found.later past all in
+      let many : (head_of shard past).batches ≡ head.batches = ap (λ (h : Head). h.batches) found.was in
+      let was = read_until charter shard number before log right has in
+      let items : made shard past ≡ before ++ all_items batches =
+      sym (until_all charter shard head.batches past right_then (omega arith))
+      ∙ sym (until_stays charter shard head.batches found.later past all (omega arith))
+      ∙ sym (ap (made_until shard head.batches) found.is)
+      ∙ ap (λ (n : ℕ). made_until shard n log) (sym long)
+      ∙ batches_were log number batches right seen
+      ∙ ap (λ (list : List (Item Q)). list ++ all_items batches) was.1 in
+      record {
+        later = found.later;
+        past = past;
+        is = found.is;
+        at = found.at;
+        was = ap (λ (h : Head). record { head = h; items = made shard past }) found.was
+            ∙ ap (λ (list : List (Item Q)). record { head = head; items = list }) items;
       }

@@ -105,6 +105,16 @@ extern "C" {
         head_length: usize,
         logged: u64,
     ) -> u32;
+    pub fn durkenzo_server_append(
+        server: *mut Handle,
+        record: *const u8,
+        record_length: usize,
+        stood: u64,
+        head: *const u8,
+        head_length: usize,
+        logged: u64,
+    ) -> u32;
+    pub fn durkenzo_server_batch_count(server: *mut Handle, batches: *mut u64) -> u32;
     pub fn durkenzo_server_record(
         server: *mut Handle,
         record: *const u8,

@@ -204,6 +204,36 @@ impl Server {
         })
     }
 
+    /// Returns how many batches the server has made: none before the shard was read.
+    pub fn batch_count(&mut self) -> Result<u64, Code> {
+        let mut batches = 0;
+        let handle = &mut self.handle;
+        Code::judged(unsafe { calls::durkenzo_server_batch_count(handle, &mut batches) })?;
+        Ok(batches)
+    }
+
+    /// The shard was read from where the server is: its record and the head of its log, each with its revision, and the
+    /// batches that were added. What was sent or waits here is to be given again.
+    ///
+    /// After [`Code::MISSING`] the shard is to be read.
+    pub fn append(
+        &mut self,
+        (record, stood): (&[u8], u64),
+        (head, logged): (&[u8], u64),
+    ) -> Result<(), Code> {
+        Code::judged(unsafe {
+            calls::durkenzo_server_append(
+                &mut self.handle,
+                record.as_ptr(),
+                record.len(),
+                stood,
+                head.as_ptr(),
+                head.len(),
+                logged,
+            )
+        })
+    }
+
     /// The record was seen. What waits here is to be given again.
     pub fn record(&mut self, record: &[u8], stood: u64) -> Result<(), Code> {
         let (bytes, length) = (record.as_ptr(), record.len());
@@ -304,7 +334,7 @@ impl Server {
         Ok(told(&answer, &self.room[..answer.length]))
     }
 
-    /// What was sent wasn't made, or isn't known to be.
+    /// What was sent wasn't made, or isn't known to be. The server decides nothing before it has read or appended.
     pub fn lost(&mut self) -> Result<(), Code> {
         Code::judged(unsafe { calls::durkenzo_server_lost(&mut self.handle) })
     }

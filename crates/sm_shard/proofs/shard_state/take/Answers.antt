@@ -22,6 +22,7 @@ returns-clause-kept g c = λ before ready.
       carried = c.args.ready.now.carried;
       asking = c.args.ready.now.asking;
       work = c.args.ready.now.work;
+      decides = c.args.ready.now.decides;
     })
     refl refl refl c.in_ok-push.ensures.items
     (sym c.accepts.ensures ∙ c.if-not-accepts.false)

@@ -147,6 +147,22 @@ returns-in-PartsMade-clause-call g c = λ charter system since count parts right
           (step_claims c.args.server.now i (Ok out))) (sym c.in-PartsMade.is) tt;
     }
 
+pub returns-in_ok-on_append-in-Append-clause-exact : goal.returns-in_ok-on_append-in-Append-clause-exact
+returns-in_ok-on_append-in-Append-clause-exact g c =
+    let again = c.in_ok-on_append-in-Append.field-0 in
+    let done = c.in_ok-on_append-in-Append.ensures in
+    subst (λ (i : ShardInput g.row.Q.Denot g.row.R.Denot). IsOutputOf g.M.StoreMachine.service
+    g.M.StoreMachine.size c.args.server.now i (Decides again)) (sym c.in-Append.is) (
+      again,
+      refl,
+      both_so c.args.server.now.ready
+          (λ (ready : ShardState g.row.M.Denot g.row.Q.Denot g.row.R.Denot).
+          again.sent.items ++ again.waiting.items ≡ ready.sent.items ++ ready.waiting.items)
+          (λ (ready : ShardState g.row.M.Denot g.row.Q.Denot g.row.R.Denot).
+          again.carried.items ++ again.asking.items ≡ ready.carried.items ++ ready.asking.items)
+          done.again done.questions,
+    )
+
 pub returns-in-Record-clause-exact : goal.returns-in-Record-clause-exact
 returns-in-Record-clause-exact g c =
     let again = c.on_record.result in

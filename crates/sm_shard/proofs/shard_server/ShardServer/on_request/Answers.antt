@@ -14,8 +14,8 @@ use Rattle.sm_shard.proofs.Crowds.{crowded_if_full}
 use Rattle.sm_shard.proofs.ShardServers.{ok_map, some_of, decided_so, known_of, knows_same, request_taken, same_base}
 use Rattle.sm_shard.proofs.shard_server.ShardServer.on_request.Goals as goal
 
-pub returns-in-Some-clause-told : goal.returns-in-Some-clause-told
-returns-in-Some-clause-told g c =
+pub returns-then-ready-clause-told : goal.returns-then-ready-clause-told
+returns-then-ready-clause-told g c =
     let service = g.M.StoreMachine.service in
     let me = c.args.self.now.me in
     let shard = c.args.self.now.shard in
@@ -35,8 +35,8 @@ returns-in-Some-clause-told g c =
     ready.logged c.args.item knows.logged decision (decided knows.before knows.is))
     c.take.ensures.decided
 
-pub returns-in-Some-clause-known : goal.returns-in-Some-clause-known
-returns-in-Some-clause-known g c = λ log known.
+pub returns-then-ready-clause-known : goal.returns-then-ready-clause-known
+returns-then-ready-clause-known g c = λ log known.
     let service = g.M.StoreMachine.service in
     let shard = c.args.self.now.shard in
     let ready = c.in-Some.ready in
@@ -46,8 +46,8 @@ returns-in-Some-clause-known g c = λ log known.
     (same_base service log shard ready new done.head done.work)
     (known_of service log c.args.self.now.me shard c.args.self.now.ready ready c.in-Some.is known)
 
-pub returns-in-Some-clause-crowded : goal.returns-in-Some-clause-crowded
-returns-in-Some-clause-crowded g c =
+pub returns-then-ready-clause-crowded : goal.returns-then-ready-clause-crowded
+returns-then-ready-clause-crowded g c =
     let self = c.args.self.now in
     let item = c.args.item in
     let size = g.M.StoreMachine.size in
@@ -62,8 +62,8 @@ returns-in-Some-clause-crowded g c =
     (sym c.in-Some.is) (crowded_if_full self.limits size c.in-Some.ready self.me item (sym is ∙ crowded)))
     c.take.ensures.decision
 
-pub returns-in-Some-clause-asked_for : goal.returns-in-Some-clause-asked_for
-returns-in-Some-clause-asked_for g c = λ asked all one.
+pub returns-then-ready-clause-asked_for : goal.returns-then-ready-clause-asked_for
+returns-then-ready-clause-asked_for g c = λ asked all one.
     let shard = c.args.self.now.shard in
     let done = c.take.ensures in
     request_taken g.M.StoreMachine.service asked shard c.args.self.now.me c.args.self.now.limits

@@ -1,0 +1,238 @@
+//! What a server reads of the store: all of a shard once, and then only what it lacks.
+mod common;
+
+use common::cluster::{campaign, kill, settle, until, Net, Node};
+use common::counting::{Counting, Counts, Loss};
+use common::{add, held, write};
+use durkenzo_driver::{ControlCommand, DurableControl, MapReply, MapRequest};
+use durkenzo_store::{Embedded, Store};
+use std::sync::atomic::{AtomicBool, Ordering};
+use std::sync::{Arc, Mutex};
+use std::thread;
+use std::time::{Duration, Instant};
+
+/// How many batches a log gets before a base stands for them, at least.
+const BATCHES: i64 = 50;
+
+/// Three processes over one store, a control, and what each process read.
+struct Trio {
+    store: Arc<dyn Store>,
+    nodes: Vec<Node>,
+    counts: Vec<Arc<Counts>>,
+    control: DurableControl,
+}
+
+impl Trio {
+    /// One whose shard is owned by server 1. Each page that is read takes so long.
+    fn new(page: Duration) -> Trio {
+        let store: Arc<dyn Store> = Arc::new(Embedded::in_memory());
+        let (net, mut nodes, mut counts) = (Arc::new(Net::default()), Vec::new(), Vec::new());
+        for server in 1..=3 {
+            let count = Arc::new(Counts::default());
+            let by = |line| Arc::new(Counting::over(line, &count, page)) as Arc<dyn Store>;
+            nodes.push(net.start(&store, server, 1, by));
+            counts.push(count);
+        }
+        let mut control = campaign(&nodes[2]);
+        control.command(ControlCommand::Assign(0, 1)).unwrap();
+        Trio {
+            store,
+            nodes,
+            counts,
+            control,
+        }
+    }
+
+    /// The same, with a base, and `BATCHES` as the count of the key.
+    fn with_base() -> Trio {
+        let trio = Trio::new(Duration::ZERO);
+        (0..BATCHES).for_each(|_| drop(add(&trio.nodes[0].durable, 0, b"a", 1).unwrap()));
+        trio.await_base();
+        trio
+    }
+
+    /// Waits until a base is named, and what it stands for is deleted.
+    fn await_base(&self) {
+        until("a base is made", || {
+            let parts = self.store.read_all(b"base/").unwrap().pairs.len();
+            let batches = self.store.read_all(b"batch/").unwrap().pairs.len();
+            parts > 0 && batches < BATCHES as usize / 2
+        });
+    }
+
+    /// Adds to the key at the server's process, which tells what it then holds.
+    fn adds(&self, server: usize, holds: i64) {
+        adds(&self.nodes[server - 1], holds);
+    }
+
+    /// Has the shard go to the server, after it has read the shard where it may before.
+    fn moves_to(&mut self, server: u16) {
+        let (change, counts) = (
+            ControlCommand::PrepareAddShard(0, server),
+            self.counts[usize::from(server) - 1].clone(),
+        );
+        let heads = counts.heads();
+        self.control.command(change).unwrap();
+        until("the next owner reads", || counts.heads() > heads);
+    }
+}
+
+/// Adds to the key at the process, which tells what it then holds.
+fn adds(node: &Node, holds: i64) {
+    let told = add(&node.durable, 0, b"a", 1);
+    assert_eq!(told, Ok(vec![MapReply::Count(holds)]));
+}
+
+#[test]
+fn a_transaction_that_is_lost_costs_no_base() {
+    let trio = Trio::with_base();
+    trio.adds(1, BATCHES + 1);
+    let (parts, batches) = (trio.counts[0].parts(), trio.counts[0].batches());
+    let control = Arc::new(Mutex::new(trio.control));
+    let change = control.clone();
+    *trio.nodes[0].meanwhile.lock().unwrap() = Some(Box::new(move || {
+        let prepare = ControlCommand::PrepareAddShard(0, 2);
+        change.lock().unwrap().command(prepare).unwrap();
+    }));
+    let told = add(&trio.nodes[0].durable, 0, b"a", 1);
+    assert_eq!(told, Ok(vec![MapReply::Count(BATCHES + 2)]));
+    assert_eq!(trio.counts[0].parts(), parts);
+    assert_eq!(trio.counts[0].batches(), batches);
+}
+
+#[test]
+fn what_is_unknown_is_told_once_and_costs_no_base() {
+    let trio = Trio::with_base();
+    let parts = trio.counts[0].parts();
+    let mut holds = BATCHES;
+    for loss in [Loss::Made, Loss::NotMade, Loss::Made] {
+        let batches = trio.counts[0].batches();
+        trio.counts[0].lose(loss);
+        holds += 1;
+        trio.adds(1, holds);
+        let read = usize::from(loss == Loss::Made);
+        assert_eq!(trio.counts[0].batches(), batches + read, "{loss:?}");
+    }
+    assert_eq!(trio.counts[0].parts(), parts);
+}
+
+#[test]
+fn a_store_that_does_not_answer_for_a_while_costs_no_base() {
+    let trio = Trio::with_base();
+    let parts = trio.counts[0].parts();
+    trio.counts[0].is_down.store(true, Ordering::Release);
+    trio.counts[0].lose(Loss::Made);
+    thread::scope(|scope| {
+        let (node, counts) = (&trio.nodes[0], &trio.counts[0]);
+        scope.spawn(|| adds(node, BATCHES + 1));
+        let heads = counts.heads();
+        until("it reads", || counts.heads() > heads + 1);
+        counts.is_down.store(false, Ordering::Release);
+    });
+    assert_eq!(trio.counts[0].parts(), parts);
+}
+
+#[test]
+fn a_record_that_changes_costs_nothing() {
+    let mut trio = Trio::with_base();
+    let (heads, parts) = (trio.counts[0].heads(), trio.counts[0].parts());
+    for _ in 0..3 {
+        trio.control.command(ControlCommand::Pause(0)).unwrap();
+        trio.control.command(ControlCommand::Resume(0)).unwrap();
+    }
+    let revision = trio.store.read(&[b"record/00000"]).unwrap().pairs[0].revision;
+    until("the record is seen", || {
+        let seen = trio.nodes[0].durable.standing(0);
+        seen.is_some_and(|it| it.revision() == revision)
+    });
+    trio.adds(1, BATCHES + 1);
+    assert_eq!(trio.counts[0].heads(), heads);
+    assert_eq!(trio.counts[0].parts(), parts);
+}
+
+#[test]
+fn the_next_owner_reads_before_it_executes() {
+    let mut trio = Trio::with_base();
+    trio.moves_to(2);
+    until("the base is read", || trio.counts[1].parts() > 0);
+    let parts = trio.counts[1].parts();
+    // The owner executes, whoever is asked.
+    trio.adds(2, BATCHES + 1);
+    trio.adds(1, BATCHES + 2);
+    settle(&mut trio.control, 0);
+    trio.adds(2, BATCHES + 3);
+    trio.adds(1, BATCHES + 4);
+    assert_eq!(trio.counts[1].parts(), parts);
+}
+
+#[test]
+fn the_next_owner_reads_the_base_if_what_it_lacks_is_gone() {
+    let mut trio = Trio::with_base();
+    trio.moves_to(2);
+    until("the base is read", || trio.counts[1].parts() > 0);
+    let parts = trio.counts[1].parts();
+    for more in 1..=BATCHES {
+        trio.adds(1, BATCHES + more);
+    }
+    trio.await_base();
+    settle(&mut trio.control, 0);
+    trio.adds(2, 2 * BATCHES + 1);
+    assert!(trio.counts[1].parts() > parts);
+}
+
+/// How many texts the large shard has, of how many bytes: some 20 MiB.
+const TEXTS: usize = 320;
+const BYTES: usize = 65_000;
+/// How long each page takes that is read of the large shard.
+const PAGE: Duration = Duration::from_millis(60);
+
+fn text(number: usize) -> MapRequest {
+    MapRequest::Put(format!("t{number}").as_bytes().into(), vec![b'x'; BYTES])
+}
+
+/// How long the process takes until it tells what the key holds.
+fn waits(node: &Node) -> Duration {
+    let asked = Instant::now();
+    assert!(matches!(
+        held(&node.durable, 0, b"t0").as_deref(),
+        Ok([MapReply::Text(_)])
+    ));
+    asked.elapsed()
+}
+
+/// A server that has read the shard early waits for what was written since, and one that hasn't waits for all of it.
+#[test]
+fn a_large_shard_moves_without_a_wait() {
+    let mut trio = Trio::new(PAGE);
+    let durable = trio.nodes[0].durable.clone();
+    for first in (0..TEXTS).step_by(20) {
+        let texts = (first..first + 20).map(text).collect();
+        write(&durable, 0, texts).unwrap();
+    }
+    durable.compact().unwrap();
+    let parts = trio.store.read_all(b"base/").unwrap().pairs.len();
+    trio.moves_to(2);
+    until("the next owner has read it", || {
+        trio.counts[1].parts() >= parts
+    });
+    let is_over = AtomicBool::new(false);
+    let warm = thread::scope(|scope| {
+        let load = scope.spawn(|| {
+            while !is_over.load(Ordering::Acquire) {
+                add(&durable, 0, b"a", 1).unwrap();
+            }
+        });
+        settle(&mut trio.control, 0);
+        let warm = waits(&trio.nodes[1]);
+        is_over.store(true, Ordering::Release);
+        load.join().unwrap();
+        warm
+    });
+    // Server 1 is gone when its shard comes back to server 3, which has read nothing.
+    kill(&trio.nodes[0]);
+    trio.control.command(ControlCommand::Pause(0)).unwrap();
+    let reassign = ControlCommand::Reassign(0, 3);
+    trio.control.command(reassign).unwrap();
+    let cold = waits(&trio.nodes[2]);
+    assert!(2 * warm < cold, "{warm:?} and {cold:?}");
+}
