@@ -23,7 +23,14 @@ fn elected(rt: &impl Abort, alloc: Global) -> StoreControl {
     };
     let records = Vec::from_slice(alloc, &[unwritten; 4]).expect(rt, "memory");
     let lead = Leadership::new(9, 1).expect(rt, "a revision");
-    let read = StoreControl::read(desk(rt, alloc), lead, 100, records, &[ServerState::Up; 3], 0);
+    let read = StoreControl::read(
+        desk(rt, alloc),
+        lead,
+        100,
+        records,
+        &[ServerState::Up; 3],
+        0,
+    );
     read.ok().expect(rt, "a control")
 }
 
@@ -80,7 +87,11 @@ fn moves_with_what_was_made(rt: HostRuntime) {
     let read = read_at(&control.records, shard);
     let mut items = Vec::new(rt.alloc());
     assert!(rt; items.push(item(7, 5)).is_ok());
-    let head = Head { batches: 1, base: 0, parts: 0 };
+    let head = Head {
+        batches: 1,
+        base: 0,
+        parts: 0,
+    };
     let mut next = started(&rt, two);
     let known = next.on_read(rt.alloc(), read.state, read.stood, head, 3, &[], &[items]);
     assert!(rt; known.is_ok());
