@@ -7,7 +7,8 @@
 //! };
 //! let control = sent.outcome(SendOutcome::Made(2)).expect(&rt, "made");
 //! let read = read_at(&control.records, shard);
-//! assert!(rt; server.on_read(rt.alloc(), read.state, read.stood, head, 0, &[], &[]).is_ok());
+//! let known = server.on_read(rt.alloc(), read.state, read.stood, head, 0, &[], &[]);
+//! assert!(rt; known.is_ok());
 //! assert!(rt; matches!(server.on_request(item), Ok(Decision::Waits)));
 //! assert!(rt; matches!(server.flush(rt.alloc()), Ok(true)));
 //! let told = server.on_made(rt.alloc(), 3).ok().expect(&rt, "answers");

@@ -68,7 +68,8 @@ fn executes_once_it_is_assigned(rt: HostRuntime) {
     };
     let control = sent.outcome(SendOutcome::Made(2)).expect(&rt, "made");
     let read = read_at(&control.records, shard);
-    assert!(rt; server.on_read(rt.alloc(), read.state, read.stood, head, 0, &[], &[]).is_ok());
+    let known = server.on_read(rt.alloc(), read.state, read.stood, head, 0, &[], &[]);
+    assert!(rt; known.is_ok());
     assert!(rt; matches!(server.on_request(item), Ok(Decision::Waits)));
     assert!(rt; matches!(server.flush(rt.alloc()), Ok(true)));
     let told = server.on_made(rt.alloc(), 3).ok().expect(&rt, "answers");
@@ -102,6 +103,7 @@ fn moves_with_what_was_made(rt: HostRuntime) {
     let mut old = started(&rt, one);
     let mut again = Vec::new(rt.alloc());
     assert!(rt; again.push(item(7, 5)).is_ok());
-    assert!(rt; old.on_read(rt.alloc(), read.state, read.stood, head, 3, &[], &[again]).is_ok());
+    let known = old.on_read(rt.alloc(), read.state, read.stood, head, 3, &[], &[again]);
+    assert!(rt; known.is_ok());
     assert!(rt; matches!(old.on_request(item(9, 1)), Ok(Decision::Forwards(_, _))));
 }
