@@ -25,11 +25,11 @@ use Rattle.sm_desk.specs.lemmas.Changes.{let_through}
 use Rattle.sm_store.specs.declared.compare.Compare.{Compare}
 use Rattle.sm_store.specs.declared.item.Item.{Item}
 use Rattle.sm_store.specs.Store.{Placement, Transaction, all_hold, leader_key, placement_key, placement_of, record_key}
-use Rattle.sm_store.specs.Store.{IsRising, made_at, revision_of, stored_record, stored_state}
-use Rattle.sm_store.specs.Deeds.{Changing, Charter, Deed, HasLed, IsChanged, IsHonest, MaySend, Restarting}
+use Rattle.sm_store.specs.Store.{IsRising, revision_of, stored_record, stored_state}
+use Rattle.sm_store.specs.Deeds.{AreRight, Changing, Charter, Deed, HasLed, IsChanged, MaySend, Restarting}
 use Rattle.sm_store.specs.Deeds.{WasFound, absence_compares, at, done_at, transaction_of}
 use Rattle.sm_store.specs.lemmas.Heart.{first_held, stood_among}
-use Rattle.sm_store.specs.lemmas.Views.{IsOfDeed, placement_view}
+use Rattle.sm_store.specs.lemmas.Views.{IsOfDeed, deeds_of_right, placement_view, rising_of_right}
 use Rattle.sm_lead.specs.declared.command_write.CommandWrite.TheVariants.{State as WritesState}
 use Rattle.sm_lead.specs.declared.leadership.Leadership.{Leadership}
 use Rattle.sm_lead.specs.declared.record_read.RecordRead.{RecordRead}
@@ -171,17 +171,6 @@ module _ {Q P : Type 0} (parts : List (Item Q) → List P) (log : List (Transact
   may_be_sent exactly (Fail a) none = restart_may a states.Failed (allowed (Fail a) (none_both _ _ none).0)
 
 module _ {Q P : Type 0} where
-  pub deeds_of : (charter : Charter Q P) (log : List (Transaction Q P)) → IsHonest charter log
-      → AllByRecursion IsOfDeed log
-  deeds_of charter [] honest = tt
-  deeds_of charter (txn ∷ earlier) honest =
-      let one = honest.0 in
-      ((one.may.deed, one.is ∙ ap (made_at txn.revision) one.may.is), deeds_of charter earlier honest.1)
-
-  rising_of : (charter : Charter Q P) (log : List (Transaction Q P)) → IsHonest charter log → IsRising log
-  rising_of charter [] honest = tt
-  rising_of charter (txn ∷ earlier) honest = (honest.0.above, rising_of charter earlier honest.1)
-
   -- the records and states that were read stood when the command was made
   stood_then : (log : List (Transaction Q P)) (control : StoreControl) → IsRising log → AllByRecursion IsOfDeed log
       → (knows : KnowsStore log control) → (later past : List (Transaction Q P)) (txn : Transaction Q P)
@@ -317,36 +306,36 @@ module _ {Q P : Type 0} where
       }
 
   pub outcome_known : (charter : Charter Q P) (log : List (Transaction Q P)) (control new : StoreControl)
-      (command : Command) (revision : ℕ) → IsHonest charter log → AreSound control.desk.books → KnowsStore log control
+      (command : Command) (revision : ℕ) → AreRight charter log → AreSound control.desk.books → KnowsStore log control
       → command_fault control command ≡ None
       → CommandWasMade log (command_transaction (sending_of control (write_of control command))) revision
       → IsAfter control command (write_of control command) revision new → KnowsStore log new
-  outcome_known charter log control new (Change k change) revision honest sound knows none made after =
-      changed_known log control new k change revision (rising_of charter log honest)
-      (deeds_of charter log honest) knows
+  outcome_known charter log control new (Change k change) revision right sound knows none made after =
+      changed_known log control new k change revision (rising_of_right charter log right)
+      (deeds_of_right charter log right) knows
       (let_through control.desk.books k change (none_both _ _ none).0).within made after
-  outcome_known charter log control new (Ask a) revision honest sound knows none made after =
-      entered_known log control new (Ask a) a states.Asked revision (rising_of charter log honest)
-      (deeds_of charter log honest) sound knows
+  outcome_known charter log control new (Ask a) revision right sound knows none made after =
+      entered_known log control new (Ask a) a states.Asked revision (rising_of_right charter log right)
+      (deeds_of_right charter log right) sound knows
       (known_of control.desk.books a _ (none_both _ _ none).0) made (ap (λ (d : DeskView). d.books) after.desk)
       after.records after.lead after.placed
-  outcome_known charter log control new (Approve a) revision honest sound knows none made after =
-      entered_known log control new (Approve a) a states.Approved revision (rising_of charter log honest)
-      (deeds_of charter log honest) sound knows
+  outcome_known charter log control new (Approve a) revision right sound knows none made after =
+      entered_known log control new (Approve a) a states.Approved revision (rising_of_right charter log right)
+      (deeds_of_right charter log right) sound knows
       (known_of control.desk.books a _ (none_both _ _ none).0) made (ap (λ (d : DeskView). d.books) after.desk)
       after.records after.lead after.placed
-  outcome_known charter log control new (Stopped a) revision honest sound knows none made after =
-      entered_known log control new (Stopped a) a states.Stopped revision (rising_of charter log honest)
-      (deeds_of charter log honest) sound knows
+  outcome_known charter log control new (Stopped a) revision right sound knows none made after =
+      entered_known log control new (Stopped a) a states.Stopped revision (rising_of_right charter log right)
+      (deeds_of_right charter log right) sound knows
       (known_of control.desk.books a _ (none_both _ _ none).0) made (ap (λ (d : DeskView). d.books) after.desk)
       after.records after.lead after.placed
-  outcome_known charter log control new (Back a) revision honest sound knows none made after =
-      entered_known log control new (Back a) a states.Up revision (rising_of charter log honest)
-      (deeds_of charter log honest) sound knows
+  outcome_known charter log control new (Back a) revision right sound knows none made after =
+      entered_known log control new (Back a) a states.Up revision (rising_of_right charter log right)
+      (deeds_of_right charter log right) sound knows
       (known_of control.desk.books a _ (none_both _ _ none).0) made (ap (λ (d : DeskView). d.books) after.desk)
       after.records after.lead after.placed
-  outcome_known charter log control new (Fail a) revision honest sound knows none made after =
-      entered_known log control new (Fail a) a states.Failed revision (rising_of charter log honest)
-      (deeds_of charter log honest) sound knows
+  outcome_known charter log control new (Fail a) revision right sound knows none made after =
+      entered_known log control new (Fail a) a states.Failed revision (rising_of_right charter log right)
+      (deeds_of_right charter log right) sound knows
       (known_of control.desk.books a _ (none_both _ _ none).0) made (ap (λ (d : DeskView). d.books) after.desk)
       after.records after.lead after.placed

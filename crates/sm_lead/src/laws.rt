@@ -13,15 +13,16 @@ ghost use Rattle.sm_desk.specs.declared.command.Command.{Command};
 ghost use Rattle.sm_desk.specs.Desk.{DeskView};
 ghost use Rattle.sm_store.specs.declared.item.Item.{Item};
 ghost use Rattle.sm_store.specs.Store.{Transaction, placement_of};
-ghost use Rattle.sm_store.specs.Deeds.{AreRight, Charter, IsHonest, MaySend};
+ghost use Rattle.sm_store.specs.Deeds.{AreRight, Charter, MaySend};
 ghost use Rattle.sm_store.specs.Linear.{AsksFor};
 ghost use Rattle.sm_store.specs.System.{Ask};
+ghost use Rattle.sm_lead.specs.declared.command_write.CommandWrite.{CommandWrite};
 ghost use Rattle.sm_lead.specs.declared.leadership.Leadership.{Leadership};
 ghost use Rattle.sm_lead.specs.declared.record_read.RecordRead.{RecordRead};
 ghost use Rattle.sm_lead.specs.declared.store_control.StoreControl.{StoreControl};
 ghost use Rattle.sm_lead.specs.Commands.{IsAfter, command_fault, write_of};
 ghost use Rattle.sm_lead.specs.Controls.{CommandWasMade, IsLoaded, IsReadOf, KnowsStore};
-ghost use Rattle.sm_lead.specs.Placements.{books_in, charter_of, rows_of};
+ghost use Rattle.sm_lead.specs.Placements.{HasRowsOf, books_in, charter_of, rows_of};
 ghost use Rattle.sm_lead.specs.Sendings.{command_transaction, compares_of, sending_of};
 
 use sm_desk::laws::{commands_keep_caps, commands_keep_soundness};
@@ -64,10 +65,16 @@ pub fn commands_ask_for_nothing<Q, P>()
 /// What the control is after its command was made is so in the store, of which it then knows all records and states.
 pub fn outcomes_are_known<Q, P>()
     ensures { (charter : Charter Q P) (log : List (Transaction Q P)) (control new : StoreControl) (command : Command)
-        (revision : ℕ) → IsHonest charter log → AreSound control.desk.books → KnowsStore log control
+        (revision : ℕ) → AreRight charter log → AreSound control.desk.books → KnowsStore log control
         → command_fault control command ≡ None
         → CommandWasMade log (command_transaction (sending_of control (write_of control command))) revision
         → IsAfter control command (write_of control command) revision new → KnowsStore log new }
+{}
+
+/// A command leaves the rows of the settings, and the caps by which restarts are approved.
+pub fn commands_keep_rows()
+    ensures { (control new : StoreControl) (command : Command) (write : CommandWrite) (revision : ℕ)
+        → IsAfter control command write revision new → HasRowsOf control.desk new.desk }
 {}
 
 /// Of the records and states in the store the caps of approved restarts hold at each moment, and there is room, whoever

@@ -167,7 +167,7 @@ module _ {Q R : Type 0} where
   claims_asked (claim ∷ claims) events asked = claims_asked claims events asked
 
   -- the system of a fleet is that of its events
-  system_is : {M : Type 0} (acts : List (Act M Q R)) → (fleet_after acts).system ≡ system_after (events_of acts)
+  pub system_is : {M : Type 0} (acts : List (Act M Q R)) → (fleet_after acts).system ≡ system_after (events_of acts)
   system_is [] = refl
   system_is (Starts server ∷ acts) = system_is acts
   system_is (Steps which old input result new ∷ acts) =
@@ -375,6 +375,17 @@ module _ {M Q R : Type 0} (service : Automaton M Q R) (charter : Charter Q (Part
   lawful law acts parts might =
       let run = runs law parts acts might in
       subst (IsLawful service charter) (sym (system_is acts)) (law (events_of acts) run.might)
+
+  -- and each server's view of the store is so
+  pub fleet_known : Lawful → (acts : List (Act M Q R)) → charter.parts ≡ base_of service
+      → MightAct service charter acts
+      → AllByRecursion (λ (running : Running M Q R). IsTrueOf service (fleet_after acts).system.log running.server)
+      (fleet_after acts).servers
+  fleet_known law acts parts might =
+      let fleet = fleet_after acts in
+      all_map (IsGoodServer service charter fleet.system.log fleet.system.asked)
+      (λ (running : Running M Q R). IsTrueOf service fleet.system.log running.server) (λ running good. good.known)
+      fleet.servers (runs law parts acts might).good
 
   -- and linearizable
   pub fleet_linear : Lawful → ((events : List (Event Q (Part R) R)) → MightHappen service charter events

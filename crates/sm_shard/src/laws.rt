@@ -1,12 +1,14 @@
 //! Laws of servers and the store together.
 
 ghost use Rattle.std.specs.Prelude.{◌≡◌, List};
+ghost use Rattle.std.specs.List.{AllByRecursion};
 ghost use Rattle.sm_store.specs.Clients.{Automaton};
 ghost use Rattle.sm_store.specs.Deeds.{Charter};
 ghost use Rattle.sm_store.specs.Linear.{IsLinear};
-ghost use Rattle.sm_store.specs.System.{IsLawful};
+ghost use Rattle.sm_store.specs.System.{IsLawful, system_after};
 ghost use Rattle.sm_shard.specs.Bases.{Part, base_of};
 ghost use Rattle.sm_shard.specs.Fleet.{Act, AllAskFor, MightAct, events_of, fleet_after};
+ghost use Rattle.sm_shard.specs.ShardServers.{IsTrueOf};
 
 use crate::base_part::BasePart;
 use crate::store_machine::StoreMachine;
@@ -14,11 +16,17 @@ use sm_store::laws::{runs_are_lawful, runs_are_linear};
 
 /// The law of the store holds in every run of any number of servers, each step of which is a step of the code, with
 /// any messages lost, late or twice, any process stopped, forgotten and started at any moment, and any control that
-/// sends only what it may.
+/// sends only what it may. Then what each server holds is so in the store.
 pub fn fleets_are_lawful<Q, R, M>()
-    ensures { (service : Automaton M Q R) (charter : Charter Q (Part R))
+    ensures lawful { (service : Automaton M Q R) (charter : Charter Q (Part R))
         (acts : List (Act M Q R)) → charter.parts ≡ base_of service → MightAct service charter acts
         → IsLawful service charter (fleet_after acts).system }
+    ensures known { (service : Automaton M Q R) (charter : Charter Q (Part R))
+        (acts : List (Act M Q R)) → charter.parts ≡ base_of service → MightAct service charter acts
+        → let fleet = fleet_after acts in
+        AllByRecursion (λ running. IsTrueOf service fleet.system.log running.server) fleet.servers }
+    // The system of the servers is that of their events.
+    ensures events { (acts : List (Act M Q R)) → (fleet_after acts).system ≡ system_after (events_of acts) }
 {
     runs_are_lawful::<Q, BasePart<R>, R, M>();
 }

@@ -94,7 +94,7 @@ impl MemoryStore {
 }
 
 // The desk of the settings: each server takes three shards, one server may be leaving, and one shard may be down.
-fn desk(rt: &impl Abort, alloc: Global) -> Desk {
+pub fn desk(rt: &impl Abort, alloc: Global) -> Desk {
     let row = |number| ServerRow {
         id: ServerId::of(number),
         domain: number,

@@ -24,4 +24,6 @@ mod sum;
 #[cfg(test)]
 mod texts;
 #[cfg(test)]
+mod whole;
+#[cfg(test)]
 mod word;

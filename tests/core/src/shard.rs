@@ -9,14 +9,14 @@ use sm_store::{Head, Item, PassingKey};
 use std::alloc::Global;
 use std::process::Abort;
 
-const LIMITS: ShardLimits = ShardLimits {
+pub const LIMITS: ShardLimits = ShardLimits {
     batch_bytes: 16,
     batch_requests: 8,
     waiting: 3,
     clients: 4,
 };
 
-fn item(client: u64, request: u64) -> Item<u64> {
+pub fn item(client: u64, request: u64) -> Item<u64> {
     Item {
         client,
         number: 1,
@@ -28,7 +28,7 @@ fn item(client: u64, request: u64) -> Item<u64> {
 }
 
 // The head of a shard of which nothing was made.
-const HEAD: Head = Head {
+pub const HEAD: Head = Head {
     batches: 0,
     base: 0,
     parts: 0,

@@ -1,0 +1,116 @@
+-- What a control knows stays so as the store goes on, and so does each step of it.
+use Rattle.std.proofs.Common.{◌≡◌, ℕ, List, ◌++◌, Option, Some, None, refl, sym, subst, ◌∙◌}
+use Rattle.std.specs.Option.{option_or}
+use Rattle.sm_place.specs.Sound.{AreSound}
+use Rattle.sm_tasks.specs.Caps.{RestartCaps}
+use Rattle.sm_desk.specs.declared.command.Command.{Command}
+use Rattle.sm_desk.specs.Desk.{DeskView, commanded, desk_fault}
+use Rattle.sm_store.specs.declared.item.Item.{Item}
+use Rattle.sm_store.specs.Deeds.{Charter, MaySend}
+use Rattle.sm_store.specs.Store.{Transaction}
+use Rattle.sm_store.specs.lemmas.Growth.{found_grows}
+use Rattle.sm_lead.specs.declared.command_write.CommandWrite.{CommandWrite}
+use Rattle.sm_lead.specs.declared.sent_command.SentCommand.{SentCommand}
+use Rattle.sm_lead.specs.declared.store_control.StoreControl.{StoreControl}
+use Rattle.sm_lead.specs.Commands.{IsAfter, command_fault, write_of}
+use Rattle.sm_lead.specs.Controls.{CommandWasMade, KnowsStore}
+use Rattle.sm_lead.specs.Placements.{HasRowsOf, SettingsRows, charter_of, rows_of}
+use Rattle.sm_lead.specs.Sendings.{command_transaction, sending_of}
+use Rattle.sm_whole.specs.Runs.{Given, command_sent, first_books, desk_given}
+
+none_first : {A : Type 0} (a b : Option A) → option_or a b ≡ None → a ≡ None
+none_first None b is = refl
+none_first (Some x) b is = absurd cc
+
+module _ {Q P : Type 0} where
+  knows_grows : (more log : List (Transaction Q P)) (control : StoreControl) → KnowsStore log control
+      → KnowsStore (more ++ log) control
+  knows_grows more log control knows = record {
+    led = record {
+      was_elected = knows.led.was_elected;
+      leads = found_grows _ _ more log _ _ knows.led.leads;
+    };
+    read = knows.read;
+    placement_was = found_grows _ _ more log _ _ knows.placement_was;
+    agrees = knows.agrees;
+    records = knows.records;
+    stood = λ k below. found_grows _ _ more log _ _ (knows.stood k below);
+    count = knows.count;
+  }
+
+  -- a control that knows the store, and goes by what was given
+  pub record IsGoodControl (given : Given) (log : List (Transaction Q P)) (control : StoreControl) : Type 0 where
+    pub knows : KnowsStore log control
+    pub sound : AreSound control.desk.books
+    pub rows : HasRowsOf (desk_given given) control.desk
+    pub ceiling : control.ceiling ≡ given.ceiling
+
+  -- a command that such a control sent
+  pub record IsGoodCommand (given : Given) (log : List (Transaction Q P)) (sent : SentCommand) : Type 0 where
+    pub by : IsGoodControl given log sent.control
+    pub allowed : command_fault sent.control sent.command ≡ None
+    pub write : sent.write ≡ write_of sent.control sent.command
+
+  pub control_grows : (given : Given) (more log : List (Transaction Q P)) (control : StoreControl)
+      → IsGoodControl given log control → IsGoodControl given (more ++ log) control
+  control_grows given more log control good = record {
+    knows = knows_grows more log control good.knows;
+    sound = good.sound;
+    rows = good.rows;
+    ceiling = good.ceiling;
+  }
+
+  pub command_grows : (given : Given) (more log : List (Transaction Q P)) (sent : SentCommand)
+      → IsGoodCommand given log sent → IsGoodCommand given (more ++ log) sent
+  command_grows given more log sent good = record {
+    by = control_grows given more log sent.control good.by;
+    allowed = good.allowed;
+    write = good.write;
+  }
+
+  -- a command that was judged may be sent by the charter
+  pub sent_may : (parts : List (Item Q) → List P) (given : Given) (log : List (Transaction Q P))
+      (sent : SentCommand) → IsGoodCommand given log sent
+      → MaySend (charter_of (rows_of sent.control.desk.books) sent.control.desk.caps sent.control.ceiling parts) log
+      (command_transaction (sending_of sent.control (write_of sent.control sent.command)))
+      → MaySend (charter_of (rows_of (first_books given.rows)) given.caps given.ceiling parts) log (command_sent sent)
+  sent_may parts given log sent good may =
+      let control = sent.control in
+      let first = rows_of (first_books given.rows) in
+      subst (λ (write : CommandWrite). MaySend (charter_of first given.caps given.ceiling parts) log
+      (command_transaction (sending_of control write))) (sym good.write)
+      (subst (λ (ceiling : ℕ). MaySend (charter_of first given.caps ceiling parts) log
+      (command_transaction (sending_of control (write_of control sent.command)))) good.by.ceiling
+      (subst (λ (caps : RestartCaps). MaySend (charter_of first caps control.ceiling parts) log
+      (command_transaction (sending_of control (write_of control sent.command)))) good.by.rows.caps
+      (subst (λ (rows : SettingsRows). MaySend (charter_of rows control.desk.caps control.ceiling parts) log
+      (command_transaction (sending_of control (write_of control sent.command)))) good.by.rows.rows may)))
+
+  -- the control that sent a command knows the store once it is told that this was made
+  pub left_knows : (charter : Charter Q P) (given : Given) (log : List (Transaction Q P)) (sent : SentCommand)
+      (revision : ℕ) (new : StoreControl)
+      → ((desk : DeskView) (command : Command) → AreSound desk.books → desk_fault desk command ≡ None
+      → AreSound (commanded desk command).books)
+      → HasRowsOf sent.control.desk new.desk
+      → (IsAfter sent.control sent.command (write_of sent.control sent.command) revision new
+      → CommandWasMade log
+      (command_transaction {Q = Q} {P = P} (sending_of sent.control (write_of sent.control sent.command))) revision
+      → KnowsStore log new)
+      → IsGoodCommand given log sent → CommandWasMade log (command_sent {Q = Q} {P = P} sent) revision
+      → IsAfter sent.control sent.command sent.write revision new → IsGoodControl given log new
+  left_knows charter given log sent revision new keeps rows known good made after =
+      let control = sent.control in
+      let command = sent.command in
+      record {
+        knows = known
+            (subst (λ (write : CommandWrite). IsAfter control command write revision new) good.write after)
+            (subst (λ (write : CommandWrite). CommandWasMade log
+            (command_transaction {Q = Q} {P = P} (sending_of control write)) revision) good.write made);
+        sound = subst (λ (desk : DeskView). AreSound desk.books) (sym after.desk)
+            (keeps control.desk command good.by.sound (none_first _ _ good.allowed));
+        rows = record {
+          rows = rows.rows ∙ good.by.rows.rows;
+          caps = rows.caps ∙ good.by.rows.caps;
+        };
+        ceiling = after.ceiling ∙ good.by.ceiling;
+      }

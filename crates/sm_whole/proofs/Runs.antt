@@ -1,0 +1,358 @@
+-- Every run of servers and controls is one of a fleet, in which each command that a control sends may be sent.
+use Rattle.std.proofs.Common.{◌≡◌, ℕ, Bool, true, false, List, [], ◌∷◌, ◌++◌, Option, Some, None, refl, sym, ap, subst}
+use Rattle.std.proofs.Common.{◌∙◌}
+use Rattle.std.specs.Prelude.{IfSome, if◌then◌else◌}
+use Rattle.std.specs.List.{AllByRecursion}
+use Rattle.std.proofs.lemmas.Bool.{true≢false}
+use Rattle.sm_place.specs.declared.server_state.ServerState.{ServerState}
+use Rattle.sm_place.specs.Books.{new_books}
+use Rattle.sm_place.specs.Sound.{AreSound}
+use Rattle.sm_rows.specs.declared.domain_row.DomainRow.{DomainRow}
+use Rattle.sm_rows.specs.declared.group_row.GroupRow.{GroupRow}
+use Rattle.sm_rows.specs.declared.server_row.ServerRow.{ServerRow}
+use Rattle.sm_rows.specs.declared.shard_row.ShardRow.{ShardRow}
+use Rattle.sm_tasks.specs.Caps.{MeetsCaps, RestartCaps}
+use Rattle.sm_desk.specs.declared.command.Command.{Command}
+use Rattle.sm_desk.specs.Desk.{DeskView, commanded, desk_fault}
+use Rattle.sm_store.specs.declared.item.Item.{Item}
+use Rattle.sm_store.specs.Clients.{Automaton}
+use Rattle.sm_store.specs.Deeds.{AreRight, Charter, Deed, Electing, Expiring, Changing, Restarting, Settling}
+use Rattle.sm_store.specs.Deeds.{Executing, Basing, Naming, Clearing, Following, Checking, Foreign, MaySend}
+use Rattle.sm_store.specs.Deeds.{transaction_of}
+use Rattle.sm_store.specs.Linear.{AsksFor, DidAsk, IsLinear}
+use Rattle.sm_store.specs.Store.{Deletes, Transaction, head_key, placement_of, touches}
+use Rattle.sm_store.specs.System.{Ask, Event, Comes, Sends, Reaches, Claims, IsLawful, May, System, system_after}
+use Rattle.sm_store.specs.lemmas.Logs.{GoesOnFrom, all_among, all_map, log_step}
+use Rattle.sm_shard.specs.Bases.{Part, base_of}
+use Rattle.sm_shard.specs.Fleet.{Act, AllAskFor, AsksForAct, Fleet, MayAct, MightAct, Otherwise, Starts, Steps}
+use Rattle.sm_shard.specs.Fleet.{AsksForEvent, Running, events_of, fleet_acted, fleet_after}
+use Rattle.sm_shard.specs.ShardServers.{IsTrueOf, StoreLog}
+use Rattle.sm_lead.specs.declared.command_write.CommandWrite.{CommandWrite}
+use Rattle.sm_lead.specs.declared.leadership.Leadership.{Leadership}
+use Rattle.sm_lead.specs.declared.record_read.RecordRead.{RecordRead}
+use Rattle.sm_lead.specs.declared.sent_command.Judged.TheVariants.{Sent, Refused}
+use Rattle.sm_lead.specs.declared.sent_command.SendOutcome.{SendOutcome}
+use Rattle.sm_lead.specs.declared.sent_command.SendOutcome.TheVariants.{Made, Lost, Unknown}
+use Rattle.sm_lead.specs.declared.sent_command.SentCommand.{SentCommand}
+use Rattle.sm_lead.specs.declared.store_control.StoreControl.{StoreControl}
+use Rattle.sm_lead.specs.Commands.{IsAfter, command_fault, write_of}
+use Rattle.sm_lead.specs.Controls.{CommandWasMade, IsLoaded, IsReadOf, KnowsStore}
+use Rattle.sm_lead.specs.Placements.{HasRowsOf, books_in, charter_of, rows_of}
+use Rattle.sm_lead.specs.Sendings.{command_transaction, sending_of}
+use Rattle.sm_whole.specs.Runs.{AreGivenAsked, Given, IsRun, MayBeActed, MayOccur, WholeAct, charter_given}
+use Rattle.sm_whole.specs.Runs.{Serves, Loads, Judges, Hears, command_sent, desk_given, fleet_acts, is_of_world}
+use Rattle.sm_whole.specs.Runs.{AreByExecutors, IsGivenAsked, IsConcluded, IsToldSo, MayServe, first_books}
+use Rattle.sm_whole.specs.Runs.{whole_after, with_left}
+use Rattle.sm_whole.proofs.Executors.{by_executors}
+use Rattle.sm_whole.proofs.Controls.{IsGoodCommand, IsGoodControl, command_grows, control_grows, left_knows, sent_may}
+
+-- what the laws of the crates below say of controls
+pub record ControlLaws (Q R : Type 0) : Type 0 where
+  pub sound : (desk : DeskView) (command : Command) → AreSound desk.books → desk_fault desk command ≡ None
+      → AreSound (commanded desk command).books
+  pub rows : (control new : StoreControl) (command : Command) (write : CommandWrite) (revision : ℕ)
+      → IsAfter control command write revision new → HasRowsOf control.desk new.desk
+  pub reading : (log : StoreLog Q R) (desk : DeskView) (lead : Leadership) (ceiling : ℕ)
+      (reads : List RecordRead) (states : List ServerState) (placed : ℕ) (control : StoreControl)
+      → AreSound control.desk.books → IsLoaded desk lead ceiling reads states placed control
+      → IsReadOf log desk lead reads states placed → KnowsStore log control
+  pub sending : (parts : List (Item Q) → List (Part R)) (log : StoreLog Q R) (control : StoreControl)
+      (command : Command) → AreSound control.desk.books → KnowsStore log control
+      → command_fault control command ≡ None
+      → MaySend (charter_of (rows_of control.desk.books) control.desk.caps control.ceiling parts) log
+      (command_transaction (sending_of control (write_of control command)))
+  pub outcome : (charter : Charter Q (Part R)) (log : StoreLog Q R) (control new : StoreControl) (command : Command)
+      (revision : ℕ) → AreRight charter log → AreSound control.desk.books → KnowsStore log control
+      → command_fault control command ≡ None
+      → CommandWasMade log (command_transaction (sending_of control (write_of control command))) revision
+      → IsAfter control command (write_of control command) revision new → KnowsStore log new
+  pub asks : (asked : List (Ask Q)) (control : StoreControl) (command : Command) (txn : Transaction Q (Part R))
+      → txn ≡ command_transaction (sending_of control (write_of control command)) → AsksFor asked txn
+  pub caps : (servers : List ServerRow) (groups : List GroupRow) (shards : List ShardRow) (domains : List DomainRow)
+      (caps : RestartCaps) (ceiling : ℕ) (parts : List (Item Q) → List (Part R)) (log : StoreLog Q R)
+      → AreSound (new_books servers groups shards domains)
+      → AreRight (charter_of (rows_of (new_books servers groups shards domains)) caps ceiling parts) log
+      → AreSound (books_in (rows_of (new_books servers groups shards domains)) (placement_of log))
+      × MeetsCaps caps (books_in (rows_of (new_books servers groups shards domains)) (placement_of log))
+
+-- and those of servers
+pub record FleetLaws {M Q R : Type 0} (service : Automaton M Q R) : Type 0 where
+  pub lawful : (charter : Charter Q (Part R)) (acts : List (Act M Q R)) → charter.parts ≡ base_of service
+      → MightAct service charter acts → IsLawful service charter (fleet_after acts).system
+  pub known : (charter : Charter Q (Part R)) (acts : List (Act M Q R)) → charter.parts ≡ base_of service
+      → MightAct service charter acts
+      → AllByRecursion (λ (running : Running M Q R). IsTrueOf service (fleet_after acts).system.log running.server)
+      (fleet_after acts).servers
+  pub linear : (charter : Charter Q (Part R)) (acts : List (Act M Q R)) → charter.parts ≡ base_of service
+      → MightAct service charter acts → AllAskFor acts → IsLinear service (events_of acts)
+
+none_asked : {Q : Type 0} (asked : List (Ask Q)) (shard : ℕ) (b : Bool)
+    → AllByRecursion (λ (item : Item Q). DidAsk asked shard item.client item.number item.request)
+    (if b then [] else [])
+none_asked asked shard true = tt
+none_asked asked shard false = tt
+
+-- a deed of the world makes no request
+module _ {Q P : Type 0} (asked : List (Ask Q)) where
+  world_asks : (deed : Deed Q P) → is_of_world deed ≡ true → AsksFor asked (transaction_of deed)
+  world_asks (Electing process) so = λ shard. tt
+  world_asks (Expiring keys) so =
+      λ shard. none_asked asked shard (touches {Q = Q} {P = P} (head_key shard) (Deletes keys ∷ []))
+  world_asks (Settling settings) so = λ shard. tt
+  world_asks (Following server revision) so = λ shard. tt
+  world_asks (Checking compares) so = λ shard. tt
+  world_asks Foreign so = λ shard. tt
+  world_asks (Changing process shard change next elected placed) so = absurd (true≢false (sym so))
+  world_asks (Restarting process server state elected placed) so = absurd (true≢false (sym so))
+  world_asks (Executing shard server items head stood logged) so = absurd (true≢false (sym so))
+  world_asks (Basing shard number place part) so = absurd (true≢false (sym so))
+  world_asks (Naming shard head number parts logged) so = absurd (true≢false (sym so))
+  world_asks (Clearing keys) so = absurd (true≢false (sym so))
+
+module _ {M Q R : Type 0} where
+  -- the fleet of a run is that of its acts
+  pub fleet_is : (acts : List (WholeAct M Q R)) → (whole_after acts).fleet ≡ fleet_after (fleet_acts acts)
+  fleet_is [] = refl
+  fleet_is (Serves act ∷ acts) = ap (λ (fleet : Fleet M Q R). fleet_acted fleet act) (fleet_is acts)
+  fleet_is (Loads lead reads states placed control ∷ acts) = fleet_is acts
+  fleet_is (Judges control command (Sent sent) ∷ acts) =
+      ap (λ (fleet : Fleet M Q R). fleet_acted fleet (Otherwise (Sends (command_sent sent)))) (fleet_is acts)
+  fleet_is (Judges control command (Refused kept fault) ∷ acts) = fleet_is acts
+  fleet_is (Hears sent outcome left ∷ acts) = fleet_is acts
+
+  fleet_grows : (fleet : Fleet M Q R) (act : Act M Q R)
+      → GoesOnFrom fleet.system.log (fleet_acted fleet act).system
+  fleet_grows fleet (Starts server) = ([], refl)
+  fleet_grows fleet (Steps which old input result new) = ([], refl)
+  fleet_grows fleet (Otherwise event) = log_step fleet.system event
+
+module _ {M Q R : Type 0} (service : Automaton M Q R) (given : Given) where
+  abbrev charter : Charter Q (Part R)
+  charter = charter_given service given
+
+  occur_may : (system : System Q (Part R) R) (event : Event Q (Part R) R) → MayOccur service charter system event
+      → May service charter system event
+  occur_may system (Sends txn) may = record { deed = may.deed; is = may.is; may = may.may }
+  occur_may system (Claims claim) may = absurd may
+  occur_may system (Comes shard client number request) may = may
+  occur_may system (Reaches which revision) may = may
+
+  serve_may : (fleet : Fleet M Q R) (act : Act M Q R)
+      → MayServe service charter fleet act → MayAct service charter fleet act
+  serve_may fleet (Starts server) may = may
+  serve_may fleet (Steps which old input result new) may = may.0
+  serve_may fleet (Otherwise event) may = occur_may fleet.system event may
+
+  -- the run is one of a fleet, and what each control holds is so
+  pub record IsGoodRun (acts : List (WholeAct M Q R)) : Type 0 where
+    pub might : MightAct service charter (fleet_acts acts)
+    pub controls : AllByRecursion (IsGoodControl given (whole_after acts).fleet.system.log) (whole_after acts).controls
+    pub commands : AllByRecursion (IsGoodCommand given (whole_after acts).fleet.system.log) (whole_after acts).commands
+
+  controls_grow : (before now : StoreLog Q R) (more : StoreLog Q R) → now ≡ more ++ before
+      → (controls : List StoreControl) → AllByRecursion (IsGoodControl given before) controls
+      → AllByRecursion (IsGoodControl given now) controls
+  controls_grow before now more is controls all =
+      subst (λ (log : StoreLog Q R). AllByRecursion (IsGoodControl given log) controls) (sym is)
+      (all_map (IsGoodControl given before) (IsGoodControl given (more ++ before)) (control_grows given more before)
+      controls all)
+
+  commands_grow : (before now : StoreLog Q R) (more : StoreLog Q R) → now ≡ more ++ before
+      → (commands : List SentCommand) → AllByRecursion (IsGoodCommand given before) commands
+      → AllByRecursion (IsGoodCommand given now) commands
+  commands_grow before now more is commands all =
+      subst (λ (log : StoreLog Q R). AllByRecursion (IsGoodCommand given log) commands) (sym is)
+      (all_map (IsGoodCommand given before) (IsGoodCommand given (more ++ before)) (command_grows given more before)
+      commands all)
+
+  with_one : (log : StoreLog Q R) (left : Option StoreControl) (controls : List StoreControl)
+      → IfSome left (IsGoodControl given log) → AllByRecursion (IsGoodControl given log) controls
+      → AllByRecursion (IsGoodControl given log) (with_left left controls)
+  with_one log None controls one all = all
+  with_one log (Some control) controls one all = (one, all)
+
+  left_good : ControlLaws Q R → (log : StoreLog Q R) → AreRight charter log → (sent : SentCommand)
+      → IsGoodCommand given log sent → (outcome : SendOutcome) (left : Option StoreControl)
+      → IsToldSo {Q = Q} {P = Part R} log sent outcome
+      → IsConcluded sent outcome left → IfSome left (IsGoodControl given log)
+  left_good laws log right sent good (Made revision) None told left = tt
+  left_good laws log right sent good (Made revision) (Some new) told left =
+      left_knows charter given log sent revision new laws.sound
+      (laws.rows sent.control new sent.command sent.write revision left)
+      (λ after made. laws.outcome charter log sent.control new sent.command revision right good.by.sound good.by.knows
+      good.allowed made after)
+      good told left
+  left_good laws log right sent good Lost left told is =
+      subst (λ (o : Option StoreControl). IfSome o (IsGoodControl given log)) (sym is) tt
+  left_good laws log right sent good Unknown left told is =
+      subst (λ (o : Option StoreControl). IfSome o (IsGoodControl given log)) (sym is) tt
+
+  run_acts : ControlLaws Q R → FleetLaws service → (acts : List (WholeAct M Q R)) (act : WholeAct M Q R)
+      → IsGoodRun acts → MayBeActed service given (whole_after acts) act → IsGoodRun (act ∷ acts)
+  run_acts laws fleets acts (Serves act) run may =
+      let whole = whole_after acts in
+      let log = whole.fleet.system.log in
+      let grown = fleet_grows whole.fleet act in
+      record {
+        might = (
+          subst (λ (fleet : Fleet M Q R). MayAct service charter fleet act) (fleet_is acts)
+              (serve_may whole.fleet act may),
+          run.might,
+        );
+        controls = controls_grow log (fleet_acted whole.fleet act).system.log grown.0 grown.1 whole.controls
+            run.controls;
+        commands = commands_grow log (fleet_acted whole.fleet act).system.log grown.0 grown.1 whole.commands
+            run.commands;
+      }
+  run_acts laws fleets acts (Loads lead reads states placed control) run may =
+      let log = (whole_after acts).fleet.system.log in
+      let loaded = may.1 in
+      record {
+        might = run.might;
+        controls = (
+          record {
+            knows = laws.reading log (desk_given given) lead given.ceiling reads states placed control may.0 loaded
+                may.2;
+            sound = may.0;
+            rows = loaded.rows;
+            ceiling = loaded.ceiling_is;
+          },
+          run.controls,
+        );
+        commands = run.commands;
+      }
+  run_acts laws fleets acts (Judges control command (Sent sent)) run may =
+      let whole = whole_after acts in
+      let log = whole.fleet.system.log in
+      let good : IsGoodControl given log control =
+      all_among (IsGoodControl given log) whole.controls control run.controls may.0 in
+      let judged = may.1 in
+      let mine : IsGoodCommand given log sent = record {
+        by = subst (IsGoodControl given log) (sym judged.1) good;
+        allowed = subst (λ (c : StoreControl). command_fault c sent.command ≡ None) (sym judged.1)
+            (subst (λ (c : Command). command_fault control c ≡ None) (sym judged.2) judged.0);
+        write = judged.3
+            ∙ ap (λ (c : StoreControl). write_of c command) (sym judged.1)
+            ∙ ap (λ (c : Command). write_of sent.control c) (sym judged.2);
+      } in
+      let sends : MaySend charter log (command_sent sent) =
+      sent_may (base_of service) given log sent mine
+      (laws.sending (base_of service) log sent.control sent.command mine.by.sound mine.by.knows mine.allowed) in
+      record {
+        might = (
+          subst (λ (fleet : Fleet M Q R). MaySend charter fleet.system.log (command_sent sent)) (fleet_is acts) sends,
+          run.might,
+        );
+        controls = run.controls;
+        commands = (mine, run.commands);
+      }
+  run_acts laws fleets acts (Judges control command (Refused kept fault)) run may = record {
+    might = run.might;
+    controls = run.controls;
+    commands = run.commands;
+  }
+  run_acts laws fleets acts (Hears sent outcome left) run may =
+      let whole = whole_after acts in
+      let log = whole.fleet.system.log in
+      let good : IsGoodCommand given log sent =
+      all_among (IsGoodCommand given log) whole.commands sent run.commands may.0 in
+      let right : AreRight charter log =
+      subst (λ (fleet : Fleet M Q R). AreRight charter fleet.system.log) (sym (fleet_is acts))
+      (fleets.lawful charter (fleet_acts acts) refl run.might).right in
+      record {
+        might = run.might;
+        controls = with_one log left whole.controls (left_good laws log right sent good outcome left may.1 may.2)
+            run.controls;
+        commands = run.commands;
+      }
+
+  good_run : ControlLaws Q R → FleetLaws service → (acts : List (WholeAct M Q R)) → IsRun service given acts
+      → IsGoodRun acts
+  good_run laws fleets [] run = record { might = tt; controls = tt; commands = tt }
+  good_run laws fleets (act ∷ earlier) run =
+      run_acts laws fleets earlier act (good_run laws fleets earlier run.1) run.0
+
+  event_asks : (system : System Q (Part R) R) (servers : List (Running M Q R))
+      (event : Event Q (Part R) R) → MayOccur service charter system event
+      → AsksForEvent {M = M} (record { system = system; servers = servers }) event
+  event_asks system servers (Sends txn) may =
+      subst (AsksFor system.asked) (sym may.is) (world_asks system.asked may.deed may.of_world)
+  event_asks system servers (Claims claim) may = tt
+  event_asks system servers (Comes shard client number request) may = tt
+  event_asks system servers (Reaches which revision) may = tt
+
+  act_asks : (fleet : Fleet M Q R) (act : Act M Q R)
+      → MayServe service charter fleet act
+      → IsGivenAsked fleet act → AsksForAct fleet act
+  act_asks fleet (Starts server) may given_asked = tt
+  act_asks fleet (Steps which old input result new) may given_asked = (given_asked, may.1)
+  act_asks fleet (Otherwise event) may given_asked = event_asks fleet.system fleet.servers event may
+
+  -- nobody makes a request that wasn't asked, if servers are given only such
+  all_ask : ControlLaws Q R → (acts : List (WholeAct M Q R)) → IsRun service given acts → AreGivenAsked acts
+      → AllAskFor (fleet_acts acts)
+  all_ask laws [] run asked = tt
+  all_ask laws (Serves act ∷ acts) run asked = (
+    subst (λ (fleet : Fleet M Q R). AsksForAct fleet act) (fleet_is acts)
+        (act_asks (whole_after acts).fleet act run.0 asked.0),
+    all_ask laws acts run.1 asked.1,
+  )
+  all_ask laws (Loads lead reads states placed control ∷ acts) run asked = all_ask laws acts run.1 asked
+  all_ask laws (Judges control command (Sent sent) ∷ acts) run asked =
+      let judged = run.0.1 in (
+        laws.asks (fleet_after (fleet_acts acts)).system.asked control command (command_sent sent)
+            (ap (λ (c : StoreControl). command_transaction (sending_of c sent.write)) judged.1
+            ∙ ap (λ (w : CommandWrite). command_transaction (sending_of control w)) judged.3),
+        all_ask laws acts run.1 asked,
+      )
+  all_ask laws (Judges control command (Refused kept fault) ∷ acts) run asked = all_ask laws acts run.1 asked
+  all_ask laws (Hears sent outcome left ∷ acts) run asked = all_ask laws acts run.1 asked
+
+  -- what holds of all runs of servers holds with controls
+  pub lawful : ControlLaws Q R → FleetLaws service → (acts : List (WholeAct M Q R)) → IsRun service given acts
+      → IsLawful service charter (whole_after acts).fleet.system
+  lawful laws fleets acts run =
+      subst (λ (fleet : Fleet M Q R). IsLawful service charter fleet.system) (sym (fleet_is acts))
+      (fleets.lawful charter (fleet_acts acts) refl (good_run laws fleets acts run).might)
+
+  pub keeps_caps : ControlLaws Q R → FleetLaws service → (acts : List (WholeAct M Q R))
+      → AreSound (first_books given.rows) → IsRun service given acts
+      → AreSound (books_in (rows_of (first_books given.rows)) (placement_of (whole_after acts).fleet.system.log))
+      × MeetsCaps given.caps
+      (books_in (rows_of (first_books given.rows)) (placement_of (whole_after acts).fleet.system.log))
+  keeps_caps laws fleets acts sound run =
+      let rows = given.rows in
+      laws.caps rows.servers rows.groups rows.shards rows.domains given.caps given.ceiling (base_of service)
+      (whole_after acts).fleet.system.log sound (lawful laws fleets acts run).right
+
+  pub executed : ControlLaws Q R → FleetLaws service → (acts : List (WholeAct M Q R)) → IsRun service given acts
+      → AreByExecutors (whole_after acts).fleet.system.log
+  executed laws fleets acts run =
+      by_executors charter (whole_after acts).fleet.system.log (lawful laws fleets acts run).right
+
+  pub whole_linear : ControlLaws Q R → FleetLaws service → (acts : List (WholeAct M Q R)) → IsRun service given acts
+      → AreGivenAsked acts → IsLinear service (events_of (fleet_acts acts))
+  whole_linear laws fleets acts run asked =
+      fleets.linear charter (fleet_acts acts) refl (good_run laws fleets acts run).might
+      (all_ask laws acts run asked)
+
+  pub all_known : ControlLaws Q R → FleetLaws service → (acts : List (WholeAct M Q R)) → IsRun service given acts
+      → AllByRecursion (λ (running : Running M Q R). IsTrueOf service (whole_after acts).fleet.system.log
+      running.server) (whole_after acts).fleet.servers
+      × AllByRecursion (KnowsStore (whole_after acts).fleet.system.log) (whole_after acts).controls
+  all_known laws fleets acts run =
+      let good = good_run laws fleets acts run in
+      let log = (whole_after acts).fleet.system.log in (
+        subst (λ (fleet : Fleet M Q R). AllByRecursion (λ (running : Running M Q R). IsTrueOf service
+            fleet.system.log running.server) fleet.servers) (sym (fleet_is acts))
+            (fleets.known charter (fleet_acts acts) refl good.might),
+        all_map (IsGoodControl given log) (KnowsStore log) (λ control one. one.knows) (whole_after acts).controls
+            good.controls,
+      )
+
+module _ {M Q R : Type 0} where
+  -- the system of a run is that of its events
+  pub system_is : ((acts : List (Act M Q R)) → (fleet_after acts).system ≡ system_after (events_of acts))
+      → (acts : List (WholeAct M Q R)) → (whole_after acts).fleet.system ≡ system_after (events_of (fleet_acts acts))
+  system_is fleets acts =
+      ap (λ (fleet : Fleet M Q R). fleet.system) (fleet_is acts) ∙ fleets (fleet_acts acts)
