@@ -293,3 +293,223 @@ impl<H: Host> fmt::Debug for Dial<H> {
         f.debug_struct("Dial").finish_non_exhaustive()
     }
 }
+
+#[cfg(test)]
+mod tests {
+    use super::super::trial::{links_of, moment, TestCloser, TestDestination, TestHost};
+    use super::super::trial::{TestCommand, TestRequest};
+    use super::super::Links;
+    use super::*;
+    use std::sync::atomic::{AtomicU64, Ordering};
+    use std::sync::mpsc::Receiver;
+
+    /// The bytes of one direction, of which so many are on their way at most.
+    #[derive(Default)]
+    struct TestPipe(Vec<u8>);
+
+    const MOST: usize = 7;
+
+    impl Write for TestPipe {
+        fn write(&mut self, bytes: &[u8]) -> io::Result<usize> {
+            let count = bytes.len().min(MOST - self.0.len());
+            self.0.extend_from_slice(&bytes[..count]);
+            match count {
+                0 => Err(ErrorKind::WouldBlock.into()),
+                count => Ok(count),
+            }
+        }
+
+        fn flush(&mut self) -> io::Result<()> {
+            Ok(())
+        }
+    }
+
+    impl Read for TestPipe {
+        fn read(&mut self, room: &mut [u8]) -> io::Result<usize> {
+            if self.0.is_empty() {
+                return Err(ErrorKind::WouldBlock.into());
+            }
+            let count = room.len().min(self.0.len());
+            let taken = self.0.drain(..count);
+            room.iter_mut().zip(taken).for_each(|it| *it.0 = it.1);
+            Ok(count)
+        }
+    }
+
+    /// The processes of servers 1 and 2, a connection of the first one to the second one, and the time.
+    struct Pair {
+        time: Arc<AtomicU64>,
+        first: Links<TestHost>,
+        second: Links<TestHost>,
+        caller: Option<Connection<TestHost>>,
+        called: Option<Connection<TestHost>>,
+        pipes: [TestPipe; 2],
+    }
+
+    impl Pair {
+        fn new() -> Pair {
+            let time = Arc::default();
+            let [first, second] = [1, 2].map(|it| links_of(it, &time));
+            second.begin_without_threads(2, TestHost);
+            Pair {
+                time,
+                first,
+                second,
+                caller: None,
+                called: None,
+                pipes: Default::default(),
+            }
+        }
+
+        /// Has the first process ask the second one these. Returns where their ends are told.
+        fn asked(&self, names: &[&'static str]) -> Receiver<String> {
+            let (requests, told) = TestRequest::each(names);
+            let destination = TestDestination(moment(self.time.load(Ordering::Relaxed)));
+            self.first.forward(&destination, requests);
+            told
+        }
+
+        /// Makes the connection that the first process needs.
+        fn connect(&mut self) {
+            let mut dials = self.first.dials();
+            assert_eq!(dials.len(), 1);
+            assert!(self.first.dials().is_empty());
+            let closers = [(); 2].map(|()| Arc::new(TestCloser::default()));
+            let [caller, called] = closers;
+            self.caller = dials.pop().map(|it| it.made(caller));
+            self.called = self.second.accept(called);
+        }
+
+        /// Moves all bytes, each seven at a time. Returns how either side ended, if it did.
+        fn move_all(&mut self) -> [io::Result<()>; 2] {
+            let Pair {
+                caller: Some(caller),
+                called: Some(called),
+                pipes: [there, back],
+                ..
+            } = self
+            else {
+                panic!("nobody is connected");
+            };
+            let ended = |moved: io::Result<()>| match moved {
+                Err(error) if error.kind() == ErrorKind::WouldBlock => Ok(()),
+                other => other,
+            };
+            let mut ends = [Ok(()), Ok(())];
+            for _ in 0..99 {
+                let first = ended(caller.write(there)).and_then(|()| ended(caller.read(back)));
+                let second = ended(called.read(there)).and_then(|()| ended(called.write(back)));
+                ends = [first, second];
+                if ends.iter().any(Result::is_err) {
+                    break;
+                }
+            }
+            ends
+        }
+
+        fn pass(&self, milliseconds: u64) {
+            self.time.fetch_add(milliseconds, Ordering::Relaxed);
+        }
+    }
+
+    #[test]
+    fn requests_and_answers_go_as_bytes() {
+        let mut pair = Pair::new();
+        let told = pair.asked(&["a", "b"]);
+        pair.connect();
+        assert!(pair.move_all().iter().all(Result::is_ok));
+        assert_eq!(told.try_iter().collect::<Vec<_>>(), ["a: a", "b: b"]);
+        let counts = (pair.first.counts().sent(), pair.second.counts().came());
+        assert_eq!(counts, (2, 2));
+        assert_eq!(
+            (pair.first.connections(), pair.second.connections()),
+            ((1, 0), (0, 1))
+        );
+        let sides = [&pair.caller, &pair.called];
+        let is_quiet = |it: &Connection<TestHost>| !it.has_more() && it.wakes().is_none();
+        assert!(sides.into_iter().flatten().all(is_quiet));
+    }
+
+    #[test]
+    fn what_was_sent_is_lost_and_what_was_not_goes_on() {
+        let mut pair = Pair::new();
+        let sent = pair.asked(&["write"]);
+        pair.connect();
+        // The greeting comes through, and the request is on its way.
+        let caller = pair.caller.as_mut().unwrap();
+        let mut bytes = Vec::new();
+        caller.write(&mut bytes).unwrap();
+        let called = pair.called.as_mut().unwrap();
+        called.read(&mut &*bytes).unwrap();
+        let mut welcome = Vec::new();
+        called.write(&mut welcome).unwrap();
+        caller.read(&mut &*welcome).unwrap();
+        caller.write(&mut Vec::new()).unwrap();
+        let unsent = pair.asked(&["later"]);
+        pair.caller
+            .take()
+            .unwrap()
+            .end(&ErrorKind::ConnectionReset.into());
+        let told = sent.try_recv().unwrap();
+        assert!(
+            told.starts_with("write: lost: the process of server 2 is gone"),
+            "{told}"
+        );
+        assert!(unsent.try_recv().is_err());
+        pair.connect();
+        assert!(pair.move_all().iter().all(Result::is_ok));
+        assert_eq!(unsent.try_recv().unwrap(), "later: later");
+    }
+
+    #[test]
+    fn who_says_nothing_is_waited_for_for_two_seconds() {
+        let mut pair = Pair::new();
+        let _told = pair.asked(&["a"]);
+        pair.connect();
+        let sides = [pair.caller.take().unwrap(), pair.called.take().unwrap()];
+        pair.pass(1_999);
+        for side in &sides {
+            assert_eq!(side.wakes(), Some(moment(2_000)));
+            assert!(side.tick().is_ok());
+        }
+        pair.pass(1);
+        for side in sides {
+            let error = side.tick().unwrap_err();
+            assert_eq!(error.kind(), ErrorKind::TimedOut);
+            side.end(&error);
+        }
+    }
+
+    #[test]
+    fn who_takes_nothing_is_waited_for_for_two_seconds() {
+        let mut pair = Pair::new();
+        let _told = pair.asked(&["a"]);
+        pair.connect();
+        assert!(pair.move_all().iter().all(Result::is_ok));
+        let _told = pair.asked(&["more"]);
+        pair.pass(5_000);
+        let caller = pair.caller.as_mut().unwrap();
+        let stalled = caller.write(&mut pair.pipes[0]).unwrap_err();
+        assert_eq!(stalled.kind(), ErrorKind::WouldBlock);
+        // It took some of it, and the time begins anew.
+        assert_eq!(caller.wakes(), Some(moment(7_000)));
+        pair.time.store(6_999, Ordering::Relaxed);
+        assert!(caller.tick().is_ok());
+        assert!(caller.write(&mut pair.pipes[0]).is_err());
+        pair.time.store(7_000, Ordering::Relaxed);
+        assert_eq!(caller.tick().unwrap_err().kind(), ErrorKind::TimedOut);
+    }
+
+    #[test]
+    fn one_that_leaves_at_once_tells_what_becomes_of_all_that_it_was_asked() {
+        let pair = Pair::new();
+        let told = pair.asked(&["a"]);
+        let (command, ended) = TestCommand::new();
+        pair.first.ask_control(2, command);
+        pair.first.leave_at_once();
+        assert_eq!(told.try_recv().unwrap(), "a: Stopped");
+        let ended = ended.try_recv().unwrap();
+        assert_eq!(ended, "unreached: this process ends");
+        assert!(pair.first.dials().is_empty());
+    }
+}

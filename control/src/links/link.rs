@@ -395,10 +395,11 @@ impl<H: Host> NotSent<H> {
 #[cfg(test)]
 mod tests {
     use super::super::forwarded_batch::ForwardedBatch;
-    use super::super::trial::{links, moment, TestCloser, TestCommand, TestHost, TestReason};
-    use super::super::trial::{TestDestination, TestRequest};
-    use super::super::WireFault;
+    use super::super::trial::{links, links_of, moment, TestCloser, TestCommand, TestHost};
+    use super::super::trial::{TestDestination, TestReason, TestRequest};
+    use super::super::{ForwardedRequest, WireFault};
     use super::*;
+    use std::sync::atomic::Ordering;
     use std::sync::mpsc::Receiver;
 
     const WAIT: Duration = Duration::from_secs(1);
@@ -467,9 +468,7 @@ mod tests {
         forwarded(&link, requests);
         let (numbers, unknown) = sent(&link);
         assert_eq!((numbers, unknown.len()), (vec![1], 1));
-        unknown
-            .into_iter()
-            .for_each(|it| super::super::ForwardedRequest::refuse_unknown(it, 2));
+        unknown.into_iter().for_each(|it| it.refuse_unknown(2));
         assert_eq!(told.try_iter().collect::<Vec<_>>(), ["unknown: unknown 2"]);
         assert_eq!(link.state().bytes, 0);
     }
@@ -484,6 +483,25 @@ mod tests {
         assert_eq!(sent(&link).0, [2]);
         let state = link.state();
         assert_eq!((state.bytes, state.asked.len()), (0, 1));
+    }
+
+    #[test]
+    fn what_is_lost_goes_on_in_the_order_in_which_it_was_asked() {
+        let names = ["read", "again", "again", "read", "again", "read", "read"];
+        let (link, time) = (idle(), Arc::default());
+        let links = links_of(1, &time);
+        link.state().table = 1;
+        let (requests, told) = TestRequest::each(&names);
+        forwarded(&link, requests);
+        assert_eq!(sent(&link).0, [1, 2, 3, 4, 5, 6, 7]);
+        link.lose_all("it is gone", &links.inner);
+        assert!(told.try_recv().is_err());
+        time.store(30, Ordering::Relaxed);
+        // There is no host, so that each is refused as it goes on.
+        links.tick();
+        let told: Vec<_> = told.try_iter().collect();
+        let refused = names.map(|it| format!("{it}: unreached 2: this process ends"));
+        assert_eq!(told, refused);
     }
 
     /// A link to process 7 of the server, and what ends its connection.

@@ -3,7 +3,7 @@ use super::links_inner::LinksInner;
 use super::*;
 use durkenzo_driver::{Addresses, Came};
 use durkenzo_store::{Embedded, Revision};
-use std::sync::atomic::AtomicBool;
+use std::sync::atomic::{AtomicBool, AtomicU64};
 use std::sync::mpsc::{channel, Receiver, Sender};
 use std::sync::OnceLock;
 use std::time::Instant;
@@ -31,15 +31,15 @@ impl Closer for TestCloser {
     }
 }
 
-/// What the links of server 1 share, whose clock stands still and whose host isn't there yet.
-pub(super) fn links() -> Arc<LinksInner<TestHost>> {
+/// Links of this server's process, by a clock that tells so many milliseconds. Their host isn't there yet.
+pub(super) fn links_of(server: u16, milliseconds: &Arc<AtomicU64>) -> Links<TestHost> {
     let addresses = Addresses::default();
     let store = Arc::new(Embedded::in_memory());
     let length = Duration::from_secs(60);
-    let member = Member::join_without_thread(store, 1, addresses, length, || Duration::ZERO);
+    let member = Member::join_without_thread(store, server, addresses, length, || Duration::ZERO);
     let terms = Terms {
         identity: Identity {
-            server: 1,
+            server,
             settings: 1,
             process: 1,
             table: FIRST_TABLE,
@@ -47,9 +47,15 @@ pub(super) fn links() -> Arc<LinksInner<TestHost>> {
         secret: None,
         tls: None,
     };
-    let clock = Clock::new(|| moment(0));
+    let milliseconds = milliseconds.clone();
+    let clock = Clock::new(move || moment(milliseconds.load(Ordering::Relaxed)));
     let (member, wait) = (Arc::new(member.unwrap()), Duration::from_secs(1));
-    Links::without_threads(terms, member, wait, clock).inner
+    Links::without_threads(terms, member, wait, clock)
+}
+
+/// What the links of server 1 share, whose clock stands still and whose host isn't there yet.
+pub(super) fn links() -> Arc<LinksInner<TestHost>> {
+    links_of(1, &Arc::default()).inner
 }
 
 /// A host that answers nobody.

@@ -1,28 +1,19 @@
-//! How a link finds out that the other machine is gone without a word, as by a loss of power.
+use super::super::KEEP_ALIVE;
 use socket2::{SockRef, TcpKeepalive};
 use std::io;
 use std::net::TcpStream;
-use std::time::Duration;
 
-/// After how long without a byte the other machine is asked whether it is there, and how long until it is asked again.
-const IDLE: Duration = Duration::from_secs(5);
-const AGAIN: Duration = Duration::from_secs(2);
-/// How long the other machine may take to say that it has what was sent.
-const SILENT: Duration = Duration::from_secs(10);
-/// How often it is asked in vain.
-const ASKED: u32 = 3;
-
-/// Has the connection end seconds after the other machine has gone, whether something was sent to it or not. A machine
-/// that is there answers by itself, however long its process takes: so no slow shard ends a connection.
+/// Has the connection end seconds after the other machine has gone, whether something was sent to it or not.
 ///
 /// # Errors
 ///
 /// If the system refuses that.
 pub(super) fn keep_alive(socket: &TcpStream) -> io::Result<()> {
     let socket = SockRef::from(socket);
-    let kept = TcpKeepalive::new().with_time(IDLE);
-    socket.set_tcp_keepalive(&kept.with_interval(AGAIN).with_retries(ASKED))?;
-    socket.set_tcp_user_timeout(Some(SILENT))
+    let kept = TcpKeepalive::new().with_time(KEEP_ALIVE.idle);
+    let kept = kept.with_interval(KEEP_ALIVE.again);
+    socket.set_tcp_keepalive(&kept.with_retries(KEEP_ALIVE.asked))?;
+    socket.set_tcp_user_timeout(Some(KEEP_ALIVE.silent))
 }
 
 #[cfg(test)]
@@ -38,9 +29,9 @@ mod tests {
         keep_alive(&socket).unwrap();
         let socket = SockRef::from(&socket);
         assert!(socket.keepalive().unwrap());
-        assert_eq!(socket.keepalive_time().unwrap(), IDLE);
-        assert_eq!(socket.keepalive_interval().unwrap(), AGAIN);
-        assert_eq!(socket.keepalive_retries().unwrap(), ASKED);
-        assert_eq!(socket.tcp_user_timeout().unwrap(), Some(SILENT));
+        assert_eq!(socket.keepalive_time().unwrap(), KEEP_ALIVE.idle);
+        assert_eq!(socket.keepalive_interval().unwrap(), KEEP_ALIVE.again);
+        assert_eq!(socket.keepalive_retries().unwrap(), KEEP_ALIVE.asked);
+        assert_eq!(socket.tcp_user_timeout().unwrap(), Some(KEEP_ALIVE.silent));
     }
 }
