@@ -1,7 +1,8 @@
 //! Processes, clients and a store under schedules of chance, on one thread and by a clock that only the schedule moves.
 //! The processes are those that ship: the shards, the member and the control of `durkenzo_driver`, with the proved
-//! servers in them, and in some schedules the control of `durkenzo_control`, which operators ask. They crash and
-//! forget, learn late of records, lose their leases and go on. Transactions come late, twice or never, and nobody may
+//! servers in them, and in some schedules the control of `durkenzo_control`, which operators ask. In half of the
+//! schedules they talk by the links of `durkenzo_control` over a network of chance. They crash and forget, learn late of
+//! records, lose their leases and go on. Transactions come late, twice or never, and nobody may
 //! learn what became of them. What lies in the store and what clients were told is checked by a reading of its own. One
 //! seed is one run.
 #![forbid(unsafe_code)]
@@ -18,7 +19,9 @@ mod key;
 pub mod law;
 mod ledger;
 mod line;
+mod links;
 mod mail;
+mod network;
 mod operator;
 mod operator_command;
 mod operator_reply;

@@ -25,6 +25,9 @@ pub struct Tally {
     pub operated: u64,
     pub told: u64,
     pub done: u64,
+    /// Connections that were made between processes, and that broke.
+    pub reached: u64,
+    pub broken: u64,
     /// The time that passed, in milliseconds.
     pub passed_time: u64,
 }
@@ -52,6 +55,8 @@ impl Tally {
         self.operated += more.operated;
         self.told += more.told;
         self.done += more.done;
+        self.reached += more.reached;
+        self.broken += more.broken;
         self.passed_time += more.passed_time;
     }
 

@@ -1,5 +1,6 @@
 //! Three servers, one of which may run twice, clients and a store, and what happens to them by chance.
 mod controls;
+mod network;
 
 use crate::bug::Bug;
 use crate::chance::Chance;
@@ -9,7 +10,9 @@ use crate::control_shape::ControlShape;
 use crate::key::Written;
 use crate::law::{check, Broken};
 use crate::ledger::SharedLedger;
+use crate::links::{LinkShape, Parcels};
 use crate::mail::{broken, visiting, Mails, Message, Sender, StepAnswer};
+use crate::network::SimulatedNetwork;
 use crate::process::{Process, LEASE};
 use crate::simulated_store::{locked, SharedStore, SimulatedStore};
 use crate::tally::Tally;
@@ -34,12 +37,16 @@ const CLIENTS: u64 = 2;
 const EVENTS: u64 = 500;
 /// How many there are where processes have the control that ships.
 const CONTROLLED_EVENTS: u64 = 2_500;
+/// How many there are at least where processes have the links that ship.
+const LINKED_EVENTS: u64 = 1_500;
 /// How many batches a log has at most before a base stands for them.
 const MOST_BATCHES: u64 = 3;
 /// How long it takes at most until all is over once nothing fails: so many times so many milliseconds, in each of which
 /// as many of all things happen.
 const SETTLING: u64 = 60;
 const PERIOD: u64 = 50;
+/// So many times where processes have the links that ship: what a machine got that is gone is lost only then.
+const LINKED_SETTLING: u64 = 500;
 /// How long work waits for a shard that nobody executes.
 const WAIT: Duration = Duration::from_millis(300);
 
@@ -80,6 +87,14 @@ const CONTROLLED: [(Happening, u64); 8] = [
     (World::renew_stopped, 2),
 ];
 
+/// What happens beside that where processes have the links that ship.
+const LINKED: [(Happening, u64); 4] = [
+    (World::move_bytes, 60),
+    (World::reach, 8),
+    (World::tick_links, 8),
+    (World::harm_network, 2),
+];
+
 pub struct World {
     chance: Chance,
     /// What happens in this schedule, and how often.
@@ -92,6 +107,9 @@ pub struct World {
     time: Time,
     store: SharedStore,
     mails: Mails,
+    /// What is between processes that have the links that ship.
+    network: Option<SimulatedNetwork>,
+    parcels: Parcels,
     told: Claims,
     tuning: Tuning,
     processes: Vec<Option<Process>>,
@@ -137,7 +155,15 @@ impl World {
             true => (CONTROLLED_SHARDS, &CONTROLLED),
             false => (SHARDS, &COMMANDED),
         };
-        let happenings = drawn(&mut chance, more);
+        // The seeds of schedules without links are those of before there were any.
+        let mut of_links = Chance::new(!seed);
+        let is_linked = match bug {
+            Some(bug) => bug.is_of_links(),
+            None => of_links.is_true(1, 2),
+        };
+        let linked = if is_linked { &LINKED[..] } else { &[] };
+        let happenings = drawn(&mut chance, &[more, linked].concat());
+        let network = is_linked.then(|| SimulatedNetwork::new(of_links, time.clone(), bug));
         let control = is_controlled.then(|| ControlShape::new(&mut chance, shards, bug));
         let tuning = drawn_tuning(&mut chance);
         World {
@@ -150,6 +176,8 @@ impl World {
             time,
             store: Arc::new(Mutex::new(store)),
             mails: Mails::default(),
+            network,
+            parcels: Parcels::default(),
             told: Claims::default(),
             tuning,
             processes: (0..PROCESSES).map(|_| None).collect(),
@@ -168,6 +196,10 @@ impl World {
         let (is_controlled, events) = match self.control {
             Some(_) => (true, CONTROLLED_EVENTS),
             None => (false, EVENTS),
+        };
+        let events = match self.network {
+            Some(_) => events.max(LINKED_EVENTS),
+            None => events,
         };
         match is_controlled {
             true => self.begin_controls(),
@@ -199,7 +231,11 @@ impl World {
     /// Nothing fails any more, so within some time all that was asked is over: it is answered or refused.
     fn settle(&mut self) {
         self.store().is_calm = true;
-        for _ in 0..SETTLING {
+        let rounds = match self.network {
+            Some(_) => LINKED_SETTLING,
+            None => SETTLING,
+        };
+        for _ in 0..rounds {
             self.asked.retain(|it| it.2.strong_count() > 0);
             if self.asked.is_empty() {
                 return;
@@ -215,7 +251,10 @@ impl World {
 
     /// All that is on its way comes to its end, and each process does what is due.
     fn settle_once(&mut self) {
-        (0..PERIOD).for_each(|_| self.settle_message());
+        for _ in 0..5 {
+            (0..PERIOD / 5).for_each(|_| self.settle_message());
+            self.settle_network();
+        }
         for process in self.processes.iter_mut().flatten() {
             process.do_chores();
             process.member.keep_lease();
@@ -247,6 +286,7 @@ impl World {
     fn end(mut self) -> (Tally, Result<(), Broken>) {
         self.tally.passed_time = self.time.passed().as_millis() as u64;
         self.judge_operators();
+        self.judge_links();
         for place in 0..PROCESSES {
             self.crash_at(place);
         }
@@ -418,8 +458,9 @@ impl World {
             let others = self.chance.below(12);
             self.store().begin_processes(others);
         }
-        let surroundings = (&self.store, &self.mails, &self.time);
-        let (server, shards) = (server_of(place), self.shards);
+        let shape = self.link_shape(sender);
+        let surroundings = (&self.store, &self.mails, &self.time, shape.as_ref());
+        let (server, shards) = ((server_of(place), SERVERS), self.shards);
         let started = Process::start(surroundings, sender, server, shards, self.tuning);
         let mut process = started.expect("nobody has its name");
         if let Some(control) = &self.control {
@@ -427,6 +468,22 @@ impl World {
         }
         self.processes[place] = Some(process);
         self.store().is_calm = was_calm;
+    }
+
+    /// How the links of a process are, if it has those that ship.
+    fn link_shape(&mut self, sender: Sender) -> Option<LinkShape> {
+        let network = self.network.as_mut()?;
+        let is_older = self.chance.is_true(1, 6);
+        if is_older {
+            network.note_older(sender.life);
+        }
+        Some(LinkShape {
+            parcels: self.parcels.clone(),
+            ledger: self.ledger.clone(),
+            bug: self.bug,
+            wait: WAIT,
+            is_older,
+        })
     }
 
     /// A process stops and has forgotten everything. Its lease goes on until it ends by itself.
@@ -446,6 +503,11 @@ impl World {
         let mut ledger = self.ledger.lock().expect("no panic");
         ledger.ended.insert(process.sender.life);
         drop(ledger);
+        let life = process.sender.life;
+        self.network.iter_mut().for_each(|it| it.forget(life));
+        if let Some(links) = &process.links {
+            self.tally.forwarded += links.counts().came();
+        }
         self.tally.by_lease += process.durable.read_by_lease();
     }
 
@@ -552,6 +614,7 @@ impl World {
             decided: Vec::new(),
             since,
             is_wanted,
+            parcels: self.parcels.clone(),
         };
         let work = Box::new(work);
         WorkStep { begin, work }

@@ -66,7 +66,7 @@ impl World {
         };
         let life = process.sender.life;
         let reply_to = OperatorReply::of((&self.ledger, &self.store), words, life);
-        process.inbox.push_back(Asked {
+        process.ask(Asked {
             words: Words::of(words),
             reply_to: Box::new(reply_to),
         });
@@ -100,7 +100,7 @@ impl World {
             true => 20,
             false => self.chance.below(20),
         };
-        let mut targets = self.processes.iter_mut().flatten();
+        let mut targets = self.processes.iter().flatten();
         let target = targets.find(|it| Some(it.member.process()) == process);
         let Some(target) = target else {
             return command.give_back("PEERDOWN nothing has changed");
@@ -119,7 +119,7 @@ impl World {
         // One that is lost may have come there.
         if fate > 1 {
             let reply_to = Box::new(VisitorReply { mails, visits });
-            target.inbox.push_back(Asked { words, reply_to });
+            target.ask(Asked { words, reply_to });
         }
     }
 
@@ -180,11 +180,12 @@ impl World {
             return;
         };
         process.is_stopping.store(true, Ordering::Relaxed);
-        while !process.inbox.is_empty() {
+        while process.is_asked() {
             process.take_turn();
         }
         let campaigner = process.campaigner.take();
         campaigner.into_iter().for_each(|it| it.end());
+        self.leave_links(&process);
         process.member.leave();
         self.bury(process);
     }
@@ -281,6 +282,7 @@ impl World {
             self.deliver_command();
             self.answer_command();
         }
+        self.settle_network();
         self.settle_messages();
         while self.has_heard() {}
         for process in self.processes.iter_mut().flatten() {
@@ -316,9 +318,8 @@ impl World {
 
     /// Returns whether all that was asked and was under way is over, and all servers are up.
     fn is_over(&self) -> bool {
-        let idle = |it: &Process| {
-            it.inbox.is_empty() && it.campaigner.as_ref().is_none_or(|it| it.is_idle())
-        };
+        let idle =
+            |it: &Process| !it.is_asked() && it.campaigner.as_ref().is_none_or(|it| it.is_idle());
         let is_idle = self.processes.iter().flatten().all(idle);
         let are_up = (1..=SERVERS).all(|it| self.state_of(it) == UP);
         let is_told = self.ledger.lock().expect("no panic").open() == 0;
@@ -380,7 +381,7 @@ impl World {
         }
     }
 
-    fn find(&mut self, law: &'static str, by: String) {
+    pub(super) fn find(&mut self, law: &'static str, by: String) {
         self.fault.get_or_insert(Broken { law, by });
     }
 }
