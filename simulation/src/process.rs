@@ -6,6 +6,7 @@ use crate::simulated_host::SimulatedHost;
 use crate::simulated_peers::SimulatedPeers;
 use crate::simulated_store::SharedStore;
 use crate::time::Time;
+use crate::timeline::Column;
 use durkenzo_control::control::{Asked, Campaigner};
 use durkenzo_driver::{
     Addresses, Chores, Clock, Durable, DurableControl, HandOver, JoinFault, Member, Own, Tuning,
@@ -51,14 +52,14 @@ impl Process {
     ) -> Result<Process, JoinFault> {
         let (leases, own) = (time.clone(), time.clone());
         let member = Arc::new(Member::join_without_thread(
-            Arc::new(Line::of_member(shared)),
+            Arc::new(Line::of_member(shared, sender.place)),
             server,
             Addresses::default(),
             LEASE,
             move || leases.passed(),
         )?);
         let (durable, chores) = Durable::open_without_threads(
-            Arc::new(Line::of_shards(shared)),
+            Arc::new(Line::of_shards(shared, sender.place)),
             shards,
             tuning,
             Own {
@@ -82,6 +83,11 @@ impl Process {
             paused_until: Duration::ZERO,
             read: Vec::new(),
         })
+    }
+
+    /// Returns the column of timelines that is its own.
+    pub fn column(&self) -> Column {
+        Column::Process(self.sender.place)
     }
 
     /// Gives it the control that ships.
