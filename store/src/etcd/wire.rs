@@ -357,14 +357,15 @@ struct WatchCreate {
 }
 
 impl WatchRequest {
-    /// Of all keys that begin so, after this moment.
-    pub(super) fn after(prefix: &[u8], moment: Revision) -> WatchRequest {
+    /// Of all keys that begin so, from this moment on, of which all is known. At the revision of a compaction etcd keeps
+    /// no deletions, and says only to who asks for what was before it that something is gone.
+    pub(super) fn from(prefix: &[u8], moment: Revision) -> WatchRequest {
         let (key, range_end) = (prefix.to_vec(), end_of(prefix));
         WatchRequest {
             create_request: WatchCreate {
                 key,
                 range_end,
-                start_revision: moment.next().0,
+                start_revision: moment.0,
             },
         }
     }
