@@ -15,7 +15,7 @@ use std::net::TcpStream;
 use std::time::{Duration, Instant};
 
 /// How many operations are compared of each seed, if DURKENZO_ETCD_STEPS doesn't say.
-const STEPS: u64 = 1_200;
+const STEPS: u64 = 600;
 const SEEDS: [u64; 2] = [1, 2];
 /// How many keys and leases operations are about.
 const KEYS: u64 = 8;
@@ -50,6 +50,7 @@ fn pair(value: &Value) -> Pair {
         key: bytes(&value["key"]),
         value: bytes(&value["value"]),
         revision: Revision(number(&value["mod_revision"])),
+        created: Revision(number(&value["create_revision"])),
     }
 }
 
@@ -219,6 +220,7 @@ fn change(event: &Value) -> KeyChange {
         key: pair.key,
         value: (event["type"] != "DELETE").then_some(pair.value),
         revision: pair.revision,
+        created: pair.created,
     }
 }
 

@@ -11,6 +11,8 @@ const FIRST: u64 = 1;
 /// What a key has held since a revision: nothing, if that deleted it.
 struct KeyVersion {
     since: u64,
+    /// The revision that created the key; 0 if this one deleted it.
+    created: u64,
     value: Option<Vec<u8>>,
     lease: Option<LeaseId>,
 }
@@ -88,6 +90,7 @@ impl Keyspace {
             key: key.to_vec(),
             value: last.value.clone()?,
             revision: Revision(last.since),
+            created: Revision(last.created),
         })
     }
 
@@ -244,8 +247,14 @@ impl Keyspace {
         let since = self.revision + 1;
         let versions = self.held.entry(key.to_vec()).or_default();
         let before = versions.last().and_then(|it| it.lease);
+        let there = versions.last().filter(|it| it.value.is_some());
+        let created = match value {
+            Some(_) => there.map_or(since, |it| it.created),
+            None => Revision::NEVER.0,
+        };
         versions.push(KeyVersion {
             since,
+            created,
             value: value.cloned(),
             lease,
         });
@@ -259,6 +268,7 @@ impl Keyspace {
             key: key.to_vec(),
             value: value.cloned(),
             revision: Revision(since),
+            created: Revision(created),
         });
     }
 
