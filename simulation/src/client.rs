@@ -64,7 +64,7 @@ impl Work for Asking {
         let last = self.decided.pop();
         let said = self.said(last.as_deref(), outcome);
         let mut told = self.told.lock().expect("no schedule goes on after a panic");
-        let at = locked(&self.shared).revision;
+        let at = locked(&self.shared).revision();
         let numbered = match &self.begin {
             Begin::Numbered(it, _) => Some((it.client, it.number)),
             _ => None,

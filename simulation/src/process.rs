@@ -7,6 +7,7 @@ use crate::simulated_host::SimulatedHost;
 use crate::simulated_peers::SimulatedPeers;
 use crate::simulated_store::SharedStore;
 use crate::time::Time;
+use crate::timeline::Column;
 use durkenzo_control::control::{Asked, Campaigner};
 use durkenzo_control::links::Links;
 use durkenzo_driver::{
@@ -58,7 +59,7 @@ impl Process {
             addresses.servers = sender.place.to_string();
         }
         let member = Arc::new(Member::join_without_thread(
-            Arc::new(Line::of_member(shared)),
+            Arc::new(Line::of_member(shared, sender.place)),
             server,
             addresses,
             LEASE,
@@ -68,7 +69,7 @@ impl Process {
         let sends = links.as_ref().zip(shape);
         let elsewhere = sends.map(|(links, shape)| shape.hand_over(links, sender));
         let (durable, chores) = Durable::open_without_threads(
-            Arc::new(Line::of_shards(shared)),
+            Arc::new(Line::of_shards(shared, sender.place)),
             shards,
             tuning,
             Own {
@@ -97,6 +98,11 @@ impl Process {
             paused_until: Duration::ZERO,
             read: Vec::new(),
         })
+    }
+
+    /// Returns the column of timelines that is its own.
+    pub fn column(&self) -> Column {
+        Column::Process(self.sender.place)
     }
 
     /// Gives it the control that ships.

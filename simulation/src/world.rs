@@ -7,16 +7,20 @@ use crate::chance::Chance;
 use crate::client::{Asking, Claims, Client};
 use crate::command::{command, settings};
 use crate::control_shape::ControlShape;
+use crate::fault::Fault;
+use crate::faults::{counts_of, Faults};
 use crate::key::Written;
 use crate::law::{check, Broken};
 use crate::ledger::SharedLedger;
 use crate::links::{LinkShape, Parcels};
 use crate::mail::{broken, visiting, Mails, Message, Sender, StepAnswer};
 use crate::network::SimulatedNetwork;
+use crate::plan::{Plan, Ran};
 use crate::process::{Process, LEASE};
 use crate::simulated_store::{locked, SharedStore, SimulatedStore};
 use crate::tally::Tally;
 use crate::time::Time;
+use crate::timeline::{Column, Timeline};
 use durkenzo_driver::{
     Begin, ControlCommand, DurableControl, Key, MapRequest, NotDone, Range, Reads, Refused, Tuning,
     WorkStep,
@@ -54,7 +58,7 @@ const WAIT: Duration = Duration::from_millis(300);
 type Happening = fn(&mut World);
 
 /// What happens, and how often beside the others.
-const HAPPENINGS: [(Happening, u64); 15] = [
+const HAPPENINGS: [(Happening, u64); 16] = [
     (World::ask, 16),
     (World::fly, 30),
     (World::read, 14),
@@ -66,6 +70,7 @@ const HAPPENINGS: [(Happening, u64); 15] = [
     (World::keep_leases, 2),
     (World::tell_followed, 4),
     (World::lapse, 2),
+    (World::trouble_store, 4),
     (World::crash, 1),
     (World::start_one, 3),
     (World::give_up, 1),
@@ -89,10 +94,10 @@ const CONTROLLED: [(Happening, u64); 8] = [
 
 /// What happens beside that where processes have the links that ship.
 const LINKED: [(Happening, u64); 4] = [
-    (World::move_bytes, 60),
-    (World::reach, 8),
-    (World::tick_links, 8),
-    (World::harm_network, 2),
+    (World::move_bytes, 80),
+    (World::reach, 16),
+    (World::tick_links, 10),
+    (World::harm_network, 1),
 ];
 
 pub struct World {
@@ -105,6 +110,8 @@ pub struct World {
     ledger: SharedLedger,
     bug: Option<Bug>,
     time: Time,
+    faults: Faults,
+    timeline: Timeline,
     store: SharedStore,
     mails: Mails,
     /// What is between processes that have the links that ship.
@@ -127,14 +134,36 @@ pub struct World {
 
 /// Runs one schedule and checks it.
 pub fn run(seed: u64, bug: Option<Bug>) -> (Tally, Result<(), Broken>) {
-    let mut world = World::new(seed, bug);
+    let ran = run_by(&Plan::new(seed, bug));
+    (ran.tally, ran.verdict)
+}
+
+/// Runs one schedule by a plan, checks it, and tells what struck and happened.
+pub fn run_by(plan: &Plan) -> Ran {
+    let mut world = World::new(plan);
     world.pass();
-    world.end()
+    let (faults, timeline) = (world.faults.clone(), world.timeline.clone());
+    let (tally, verdict) = world.end();
+    Ran {
+        tally,
+        verdict,
+        struck: faults.struck(),
+        timeline: plan.is_shown.then(|| timeline.drawn(&names())),
+    }
+}
+
+/// The names of the processes by their places.
+fn names() -> Vec<String> {
+    let name = |place: usize| match place < usize::from(SERVERS) {
+        true => format!("server {}", server_of(place)),
+        false => format!("server {} again", server_of(place)),
+    };
+    (0..PROCESSES).map(name).collect()
 }
 
 /// Runs one schedule, and returns all that was made and told.
 pub fn transcript(seed: u64) -> String {
-    let mut world = World::new(seed, None);
+    let mut world = World::new(&Plan::new(seed, None));
     world.pass();
     let (store, ledger) = (locked(&world.store), world.ledger.lock().expect("no panic"));
     let told = world.told.lock().expect("no panic");
@@ -142,11 +171,16 @@ pub fn transcript(seed: u64) -> String {
 }
 
 impl World {
-    fn new(seed: u64, bug: Option<Bug>) -> World {
-        let mut chance = Chance::new(seed);
+    fn new(plan: &Plan) -> World {
+        let (mut chance, bug) = (Chance::new(plan.seed), plan.bug);
         let time = Time::new();
-        let of_store = Chance::new(chance.drawn());
-        let store = SimulatedStore::new(of_store, bug, time.clone());
+        let timeline = Timeline::new(time.clone(), plan.is_shown);
+        let faults = Faults::new(plan.seed, plan.kept.clone(), timeline.clone());
+        let (of_store, noted) = (
+            Chance::new(chance.drawn()),
+            (faults.clone(), timeline.clone()),
+        );
+        let store = SimulatedStore::new(of_store, bug, time.clone(), noted);
         let is_controlled = match bug {
             Some(bug) => bug.is_of_control(),
             None => chance.is_true(1, 4),
@@ -156,14 +190,15 @@ impl World {
             false => (SHARDS, &COMMANDED),
         };
         // The seeds of schedules without links are those of before there were any.
-        let mut of_links = Chance::new(!seed);
+        let mut of_links = Chance::new(!plan.seed);
         let is_linked = match bug {
             Some(bug) => bug.is_of_links(),
             None => of_links.is_true(1, 2),
         };
         let linked = if is_linked { &LINKED[..] } else { &[] };
         let happenings = drawn(&mut chance, &[more, linked].concat());
-        let network = is_linked.then(|| SimulatedNetwork::new(of_links, time.clone(), bug));
+        let noted = (faults.clone(), timeline.clone());
+        let network = is_linked.then(|| SimulatedNetwork::new(of_links, time.clone(), bug, noted));
         let control = is_controlled.then(|| ControlShape::new(&mut chance, shards, bug));
         let tuning = drawn_tuning(&mut chance);
         World {
@@ -174,6 +209,8 @@ impl World {
             ledger: SharedLedger::default(),
             bug,
             time,
+            faults,
+            timeline,
             store: Arc::new(Mutex::new(store)),
             mails: Mails::default(),
             network,
@@ -293,6 +330,7 @@ impl World {
         let mut told = std::mem::take(&mut *self.told.lock().expect("no panic"));
         let store = locked(&self.store);
         self.tally.lost = store.lost;
+        self.tally.faults = counts_of(&self.faults.struck());
         for (_, transaction) in &store.made {
             let written = Written::of(transaction);
             written.iter().for_each(|it| self.tally.note_made(it));
@@ -379,7 +417,7 @@ impl World {
 
     /// A process reads what it was to read. It may learn of that later.
     fn read(&mut self) {
-        let (first, is_late) = (self.chance.drawn(), self.chance.is_true(1, 4));
+        let (first, faults) = (self.chance.drawn(), self.faults.clone());
         let Some(process) = self.process() else {
             return;
         };
@@ -387,7 +425,7 @@ impl World {
         let Some(tell) = process.chores.read(first as usize % count) else {
             return;
         };
-        match is_late {
+        match faults.strikes(Fault::ReadLate, 1, 4, process.column()) {
             true => process.read.push(tell),
             false => tell(),
         }
@@ -404,6 +442,11 @@ impl World {
 
     fn lapse(&mut self) {
         self.store().lapse();
+    }
+
+    /// The store may come into trouble.
+    fn trouble_store(&mut self) {
+        self.store().come_into_trouble();
     }
 
     fn tick(&mut self) {
@@ -466,6 +509,8 @@ impl World {
         if let Some(control) = &self.control {
             process.have_control(&self.mails, control);
         }
+        let begins = || format!("begins as process {}", process.member.process());
+        self.timeline.note(process.column(), begins);
         self.processes[place] = Some(process);
         self.store().is_calm = was_calm;
     }
@@ -488,9 +533,18 @@ impl World {
 
     /// A process stops and has forgotten everything. Its lease goes on until it ends by itself.
     fn crash(&mut self) {
-        if let Some(at) = self.place() {
+        if let Some(at) = self
+            .place()
+            .filter(|it| self.strikes(Fault::Crash, 1, 1, *it))
+        {
             self.crash_at(at);
         }
+    }
+
+    /// Whether this fault strikes the process at this place.
+    fn strikes(&self, fault: Fault, times: u64, of: u64, place: usize) -> bool {
+        self.faults
+            .strikes(fault, times, of, Column::Process(place))
     }
 
     fn crash_at(&mut self, place: usize) {
@@ -598,7 +652,7 @@ impl World {
         self.asked.push(asked);
         self.texts += 1;
         let since = match self.tuning.reads {
-            Reads::Exact => self.store().revision,
+            Reads::Exact => self.store().revision(),
             Reads::Lease => {
                 let since = self.time.passed().saturating_sub(LEASE);
                 self.store().revision_at(since)
@@ -693,13 +747,15 @@ impl World {
             .filter(|it| runs(it) && *it != sender.place && self.processes[*it].is_some())
             .collect();
         let at = self.chance.below(runs.len().max(1) as u64) as usize;
+        let is_lost = self.strikes(Fault::StepsLost, 1, 20, sender.place);
+        let is_back = self.chance.is_true(1, 20);
         let target = runs.get(at).and_then(|it| self.processes[*it].as_ref());
-        match (self.chance.below(20), target) {
-            (0, _) if self.is_there(sender) => {
+        match target.filter(|_| !is_back) {
+            _ if is_lost && self.is_there(sender) => {
                 let steps = message.steps.into_iter();
                 steps.for_each(|it| it.work.end(Err(broken())));
             }
-            (2.., Some(target)) => {
+            Some(target) => {
                 self.tally.forwarded += 1;
                 let elsewhere = message.elsewhere.clone();
                 let (came, since) = (elsewhere.came, elsewhere.since);
@@ -743,7 +799,9 @@ impl World {
             return;
         };
         match outcome {
-            _ if self.chance.is_true(1, 20) => step.work.end(Err(broken())),
+            _ if self.strikes(Fault::StepsLost, 1, 20, sender.place) => {
+                step.work.end(Err(broken()));
+            }
             Err(NotDone::Moved(revision)) => {
                 process
                     .durable

@@ -7,9 +7,12 @@ mod wire;
 
 use crate::bug::Bug;
 use crate::chance::Chance;
+use crate::fault::Fault;
+use crate::faults::Faults;
 use crate::links::LinkedHost;
 use crate::mail::Sender;
 use crate::time::Time;
+use crate::timeline::{Column, Timeline};
 use closer::SimulatedCloser;
 use durkenzo_control::links::{Connection, Dial, Links};
 use std::collections::{BTreeMap, BTreeSet};
@@ -22,6 +25,8 @@ use wire::{Wire, WireStream, CALLED, CALLER};
 const DIALLING: Duration = Duration::from_secs(2);
 /// For how long two processes can't reach each other, and a direction carries nothing, at most.
 const HARM: u64 = 3_000;
+/// How many places there are.
+const PLACES: u64 = 4;
 
 /// One side of a connection: whose it is, and what ends it.
 struct Side {
@@ -49,6 +54,8 @@ pub struct SimulatedNetwork {
     chance: Chance,
     time: Time,
     bug: Option<Bug>,
+    faults: Faults,
+    timeline: Timeline,
     connected: Vec<Connected>,
     dialling: Vec<Dialling>,
     /// Until when one place doesn't reach another one.
@@ -62,11 +69,18 @@ pub struct SimulatedNetwork {
 
 impl SimulatedNetwork {
     /// Returns a network without connections.
-    pub fn new(chance: Chance, time: Time, bug: Option<Bug>) -> SimulatedNetwork {
+    pub fn new(
+        chance: Chance,
+        time: Time,
+        bug: Option<Bug>,
+        (faults, timeline): (Faults, Timeline),
+    ) -> SimulatedNetwork {
         SimulatedNetwork {
             chance,
             time,
             bug,
+            faults,
+            timeline,
             connected: Vec::new(),
             dialling: Vec::new(),
             blocked: BTreeMap::new(),
@@ -99,11 +113,12 @@ impl SimulatedNetwork {
             let Dialling { from, dial, until } = dialling;
             let to = dial.address().ok().and_then(|it| it.parse().ok());
             let (now, place) = (self.time.passed(), to.unwrap_or(usize::MAX));
-            let is_blocked = self.blocked.get(&(from.place, place)) > Some(&now);
+            let is_blocked = !is_calm && self.blocked.get(&(from.place, place)) > Some(&now);
             let found = there.iter().find(|it| it.0.place == place);
-            let fails = !is_calm && self.chance.is_true(1, 12);
+            let column = Column::Process(from.place);
+            let fails = !is_calm && self.faults.strikes(Fault::DialFails, 1, 12, column);
             match found {
-                Some((to, links)) if !fails && !(is_blocked && !is_calm) => {
+                Some((to, links)) if !fails && !is_blocked => {
                     self.connect(from, dial, *to, links);
                 }
                 _ if fails || until <= now => dial.failed(&ErrorKind::ConnectionRefused.into()),
@@ -134,6 +149,8 @@ impl SimulatedNetwork {
             })
         };
         self.made += 1;
+        let reaches = || format!("reaches {}", to.place + 1);
+        self.timeline.note(Column::Process(from.place), reaches);
         self.connected.push(Connected {
             wire: Wire::new(&mut self.chance, are_older),
             sides: [side(from, caller, first), side(to, called, second)],
@@ -225,8 +242,9 @@ impl SimulatedNetwork {
         for Connected { wire, sides } in &mut self.connected {
             for side in [CALLER, CALLED] {
                 let is_own = |it: &mut Side| it.sender.life == life;
-                if sides[side].take_if(is_own).is_some() {
-                    match self.chance.is_true(1, 3) {
+                if let Some(gone) = sides[side].take_if(is_own) {
+                    let column = Column::Process(gone.sender.place);
+                    match self.faults.strikes(Fault::MachineGone, 1, 3, column) {
                         true => wire.go_dark(side, now),
                         false => wire.end(side, self.chance.is_true(1, 3)),
                     }
@@ -244,24 +262,51 @@ impl SimulatedNetwork {
     /// Something fails: a direction carries nothing for a while or for good, a connection breaks, or one process
     /// doesn't reach another one.
     pub fn harm(&mut self) {
-        let (now, for_long) = (self.time.passed(), self.chance.below(HARM));
-        let until = now + Duration::from_millis(for_long);
         let at = self.chance.below(self.connected.len().max(1) as u64) as usize;
-        let (kind, side) = (self.chance.below(8), self.chance.below(2) as usize);
-        match (kind, self.connected.get_mut(at)) {
-            (0 | 1, _) => {
-                let [from, to] = [(); 2].map(|()| self.chance.below(4) as usize);
-                self.blocked.insert((from, to), until);
+        let connected = self.connected.get(at);
+        let sides = connected.map(|it| it.sides.iter().flatten());
+        let place = sides.and_then(|mut it| it.next()).map(|it| it.sender.place);
+        match (self.chance.below(8), place) {
+            (0 | 1, _) => self.block(),
+            (2..=5, Some(place)) => self.cut(at, place),
+            (_, Some(place)) => {
+                let column = Column::Process(place);
+                if self.faults.strikes(Fault::ConnectionBreaks, 1, 1, column) {
+                    let sides = self.connected[at].sides.iter().flatten();
+                    sides.for_each(|it| it.closer.close());
+                }
             }
-            (2, Some(it)) => it.wire.cut(side, now, None),
-            (3, Some(it)) => {
-                it.wire.cut(CALLER, now, None);
-                it.wire.cut(CALLED, now, None);
-            }
-            (4 | 5, Some(it)) => it.wire.cut(side, now, Some(until)),
-            (_, Some(it)) => it.sides.iter().flatten().for_each(|it| it.closer.close()),
             (_, None) => {}
         }
+    }
+
+    /// One process doesn't reach another one.
+    fn block(&mut self) {
+        let [from, to] = [(); 2].map(|()| self.chance.below(PLACES) as usize);
+        let column = Column::Process(from);
+        if let Some(mut chance) = self.faults.strike(Fault::PlaceBlocked, 1, 1, column) {
+            let for_long = Duration::from_millis(chance.below(HARM));
+            let until = self.time.passed() + for_long;
+            self.blocked.insert((from, to), until);
+        }
+    }
+
+    /// One direction of a connection of that place carries nothing, or both do.
+    fn cut(&mut self, at: usize, place: usize) {
+        let column = Column::Process(place);
+        let struck = self.faults.strike(Fault::ConnectionCut, 1, 1, column);
+        let Some(mut chance) = struck else {
+            return;
+        };
+        let (now, wire) = (self.time.passed(), &mut self.connected[at].wire);
+        let for_long = Duration::from_millis(chance.below(HARM));
+        let until = chance.is_true(1, 2).then_some(now + for_long);
+        let cut: &[usize] = match chance.below(4) {
+            0 => &[CALLER, CALLED],
+            1 | 2 => &[CALLER],
+            _ => &[CALLED],
+        };
+        cut.iter().for_each(|side| wire.cut(*side, now, until));
     }
 }
 

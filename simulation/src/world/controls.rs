@@ -1,12 +1,14 @@
 //! The controls that ship, in schedules whose processes have them: operators ask them, and all is well in the end.
 use super::{server_of, World, PROCESSES, SERVERS};
 use crate::command_mail::{CommandAnswer, CommandMessage, VisitorReply};
+use crate::fault::Fault;
 use crate::key::DecodedKey;
 use crate::law::Broken;
 use crate::operator;
 use crate::operator_reply::OperatorReply;
 use crate::process::{Process, LEASE};
 use crate::reading::{self, DecodedRecord};
+use crate::timeline::Column;
 use durkenzo_control::control::{Asked, Words};
 use std::sync::atomic::Ordering;
 use std::time::Duration;
@@ -96,9 +98,10 @@ impl World {
             return;
         }
         let is_calm = self.store().is_calm;
-        let fate = match is_calm {
-            true => 20,
-            false => self.chance.below(20),
+        let is_lost = !is_calm && self.strikes(Fault::CommandLost, 3, 20, sender.place);
+        let fate = match is_lost {
+            true => self.chance.below(3),
+            false => 20,
         };
         let mut targets = self.processes.iter().flatten();
         let target = targets.find(|it| Some(it.member.process()) == process);
@@ -139,7 +142,8 @@ impl World {
             command,
             became,
         } = answer;
-        let is_lost = !self.store().is_calm && self.chance.is_true(1, 20);
+        let is_calm = self.store().is_calm;
+        let is_lost = !is_calm && self.strikes(Fault::CommandLost, 1, 20, sender.place);
         match (self.is_there(sender), is_lost) {
             (false, _) => {}
             (true, true) => command.lose(),
@@ -155,16 +159,25 @@ impl World {
 
     /// A process is paused: it does nothing for a while, and then goes on.
     pub(super) fn pause(&mut self) {
-        let time = Duration::from_millis(self.chance.below(PAUSE));
-        let until = self.time.passed() + time;
-        if let Some(process) = self.process() {
-            process.paused_until = until;
-        }
+        let Some(place) = self.place() else {
+            return;
+        };
+        let struck = self
+            .faults
+            .strike(Fault::Pause, 1, 1, Column::Process(place));
+        let (Some(mut chance), Some(process)) = (struck, self.processes[place].as_mut()) else {
+            return;
+        };
+        let time = Duration::from_millis(chance.below(PAUSE));
+        process.paused_until = self.time.passed() + time;
     }
 
     /// A process is to stop, or ends its stop.
     pub(super) fn stop(&mut self) {
-        let Some(place) = self.place() else {
+        let Some(place) = self
+            .place()
+            .filter(|it| self.strikes(Fault::Stop, 1, 1, *it))
+        else {
             return;
         };
         let process = self.processes[place].as_mut();
@@ -353,14 +366,14 @@ impl World {
 
     fn state_of(&self, server: u16) -> u64 {
         let (store, key) = (self.store(), format!("state/{server:05}"));
-        let pair = store.pair_at(key.as_bytes(), store.revision);
+        let pair = store.pair_at(key.as_bytes(), store.revision());
         pair.and_then(|it| reading::state(&it.value))
             .map_or(UP, |it| it.0)
     }
 
     fn record_of(&self, shard: u16) -> DecodedRecord {
         let (store, key) = (self.store(), format!("record/{shard:05}"));
-        let pair = store.pair_at(key.as_bytes(), store.revision);
+        let pair = store.pair_at(key.as_bytes(), store.revision());
         let record = pair.and_then(|it| DecodedRecord::of(&it.value));
         record.unwrap_or_default()
     }
