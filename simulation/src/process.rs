@@ -4,7 +4,7 @@ use crate::line::Line;
 use crate::mail::{Mails, Message, Sender};
 use crate::simulated_host::SimulatedHost;
 use crate::simulated_peers::SimulatedPeers;
-use crate::simulated_store::SharedStore;
+use crate::simulated_store::{locked, SharedStore};
 use crate::time::Time;
 use crate::timeline::Column;
 use durkenzo_control::control::{Asked, Campaigner};
@@ -39,6 +39,8 @@ pub struct Process {
     pub paused_until: Duration,
     /// What was read, and isn't told yet.
     pub read: Vec<Box<dyn FnOnce() + Send>>,
+    /// How many watches it has.
+    pub watches: usize,
 }
 
 impl Process {
@@ -51,6 +53,7 @@ impl Process {
         tuning: Tuning,
     ) -> Result<Process, JoinFault> {
         let (leases, own) = (time.clone(), time.clone());
+        let watches = locked(shared).watches();
         let member = Arc::new(Member::join_without_thread(
             Arc::new(Line::of_member(shared, sender.place)),
             server,
@@ -82,6 +85,7 @@ impl Process {
             is_stopping: Arc::default(),
             paused_until: Duration::ZERO,
             read: Vec::new(),
+            watches: locked(shared).watches() - watches,
         })
     }
 

@@ -1,5 +1,6 @@
 //! Three servers, one of which may run twice, clients and a store, and what happens to them by chance.
 mod controls;
+mod rest;
 
 use crate::bug::Bug;
 use crate::chance::Chance;
@@ -238,7 +239,7 @@ impl World {
         for _ in 0..SETTLING {
             self.asked.retain(|it| it.2.strong_count() > 0);
             if self.asked.is_empty() {
-                return;
+                return self.rest();
             }
             self.time.pass(PERIOD);
             self.settle_once();
