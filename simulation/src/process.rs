@@ -5,7 +5,7 @@ use crate::links::{Inbox, LinkShape, LinkedHost};
 use crate::mail::{Mails, Message, Sender};
 use crate::simulated_host::SimulatedHost;
 use crate::simulated_peers::SimulatedPeers;
-use crate::simulated_store::SharedStore;
+use crate::simulated_store::{locked, SharedStore};
 use crate::time::Time;
 use crate::timeline::Column;
 use durkenzo_control::control::{Asked, Campaigner};
@@ -42,6 +42,8 @@ pub struct Process {
     pub paused_until: Duration,
     /// What was read, and isn't told yet.
     pub read: Vec<Box<dyn FnOnce() + Send>>,
+    /// How many watches it has.
+    pub watches: usize,
 }
 
 impl Process {
@@ -54,6 +56,7 @@ impl Process {
         tuning: Tuning,
     ) -> Result<Process, JoinFault> {
         let (leases, own) = (time.clone(), time.clone());
+        let watches = locked(shared).watches();
         let mut addresses = Addresses::default();
         if shape.is_some() {
             addresses.servers = sender.place.to_string();
@@ -97,6 +100,7 @@ impl Process {
             is_stopping: Arc::default(),
             paused_until: Duration::ZERO,
             read: Vec::new(),
+            watches: locked(shared).watches() - watches,
         })
     }
 

@@ -111,6 +111,16 @@ impl SimulatedStore {
         self.keyspace.keys_from(b"")
     }
 
+    /// Returns how many leases there are.
+    pub fn leases(&self) -> usize {
+        self.keyspace.leases()
+    }
+
+    /// Returns how many watches there are.
+    pub fn watches(&self) -> usize {
+        self.watches.len()
+    }
+
     /// Reads these keys as they are now.
     pub fn reading<'a>(&self, keys: impl Iterator<Item = &'a [u8]>) -> Reading {
         let revision = self.revision();

@@ -97,6 +97,11 @@ impl Watches {
         let followed = self.followed.values_mut();
         followed.for_each(|it| it.note(revision, changes));
     }
+
+    /// Returns how many there are.
+    pub fn len(&self) -> usize {
+        self.followed.len()
+    }
 }
 
 impl SimulatedStore {

@@ -1,6 +1,7 @@
 //! Three servers, one of which may run twice, clients and a store, and what happens to them by chance.
 mod controls;
 mod network;
+mod rest;
 
 use crate::bug::Bug;
 use crate::chance::Chance;
@@ -275,7 +276,7 @@ impl World {
         for _ in 0..rounds {
             self.asked.retain(|it| it.2.strong_count() > 0);
             if self.asked.is_empty() {
-                return;
+                return self.rest();
             }
             self.time.pass(PERIOD);
             self.settle_once();

@@ -379,6 +379,11 @@ impl Keyspace {
     pub fn keys_of(&self, lease: LeaseId) -> Option<&BTreeSet<Vec<u8>>> {
         self.leases.get(&lease).map(|it| &it.keys)
     }
+
+    /// Returns how many leases there are.
+    pub fn leases(&self) -> usize {
+        self.leases.len()
+    }
 }
 
 /// Whether no key is written twice: put twice, or put and deleted.

@@ -259,6 +259,12 @@ impl SimulatedNetwork {
         self.connected.retain(is_there);
     }
 
+    /// Returns how many connections are there of which one side is gone, or that are to be made.
+    pub fn half_connected(&self) -> usize {
+        let is_half = |it: &&Connected| it.sides.iter().any(Option::is_none);
+        self.dialling.len() + self.connected.iter().filter(is_half).count()
+    }
+
     /// Something fails: a direction carries nothing for a while or for good, a connection breaks, or one process
     /// doesn't reach another one.
     pub fn harm(&mut self) {

@@ -233,8 +233,9 @@ impl World {
         if !self.passes_until(WELL, missing, is_well) {
             return self.find("shards get owners that run", self.shown());
         }
-        if !self.passes_until(OVER, 0, World::is_over) {
-            self.find("all that is under way comes to its end", self.shown());
+        match self.passes_until(OVER, 0, World::is_over) {
+            true => self.rest(),
+            false => self.find("all that is under way comes to its end", self.shown()),
         }
     }
 
