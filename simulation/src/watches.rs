@@ -71,7 +71,7 @@ impl Followed {
                 all.extend(changes);
             }
         }
-        (!all.is_empty()).then(|| Seen::Changes(Revision(self.moment), all))
+        (!all.is_empty()).then_some(Seen::Changes(Revision(self.moment), all))
     }
 }
 

@@ -106,7 +106,7 @@ fn of_transaction(outcome: Outcome) -> Result<(), String> {
 
 fn of_range(revision: Revision, pairs: Vec<Pair>) -> Result<(), String> {
     // From there on it would be watched.
-    WatchRequest::after(b"record/", revision);
+    WatchRequest::from(b"record/", revision);
     let again: RangeResult = read(&range(revision, &pairs))?;
     let found: Vec<Pair> = again.pairs.into_iter().map(Pair::from).collect();
     holds(found == pairs, || format!("{pairs:?} are {found:?}"))
