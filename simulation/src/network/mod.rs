@@ -99,11 +99,11 @@ impl SimulatedNetwork {
             let Dialling { from, dial, until } = dialling;
             let to = dial.address().ok().and_then(|it| it.parse().ok());
             let (now, place) = (self.time.passed(), to.unwrap_or(usize::MAX));
-            let is_blocked = self.blocked.get(&(from.place, place)) > Some(&now);
+            let is_blocked = !is_calm && self.blocked.get(&(from.place, place)) > Some(&now);
             let found = there.iter().find(|it| it.0.place == place);
             let fails = !is_calm && self.chance.is_true(1, 12);
             match found {
-                Some((to, links)) if !fails && !(is_blocked && !is_calm) => {
+                Some((to, links)) if !fails && !is_blocked => {
                     self.connect(from, dial, *to, links);
                 }
                 _ if fails || until <= now => dial.failed(&ErrorKind::ConnectionRefused.into()),
