@@ -89,10 +89,10 @@ const CONTROLLED: [(Happening, u64); 8] = [
 
 /// What happens beside that where processes have the links that ship.
 const LINKED: [(Happening, u64); 4] = [
-    (World::move_bytes, 60),
-    (World::reach, 8),
-    (World::tick_links, 8),
-    (World::harm_network, 2),
+    (World::move_bytes, 80),
+    (World::reach, 16),
+    (World::tick_links, 10),
+    (World::harm_network, 1),
 ];
 
 pub struct World {

@@ -7,7 +7,7 @@ use durkenzo_control::links::Links;
 use std::time::Duration;
 
 /// How often bytes move at once, at most.
-const MOVES: u64 = 24;
+const MOVES: u64 = 64;
 
 impl World {
     /// Bytes go on between processes.
