@@ -195,21 +195,9 @@ impl GreetingInput {
 
 #[cfg(test)]
 mod tests {
+    use super::super::trial::terms;
     use super::*;
     use std::io::ErrorKind;
-
-    fn terms(secret: &str) -> Terms {
-        Terms {
-            identity: Identity {
-                server: 2,
-                settings: 1,
-                process: 9,
-                table: 1,
-            },
-            secret: Secret::of(secret.as_bytes()),
-            tls: None,
-        }
-    }
 
     /// Who is heard in these bytes, by a process with this secret that has a place or none.
     fn heard(known: &str, bytes: &[u8], place: Option<()>) -> Heard<()> {

@@ -31,22 +31,28 @@ impl Closer for TestCloser {
     }
 }
 
+/// The terms of server 2, with this secret.
+pub(super) fn terms(secret: &str) -> Terms {
+    Terms {
+        identity: Identity {
+            server: 2,
+            settings: 1,
+            process: 9,
+            table: FIRST_TABLE,
+        },
+        secret: Secret::of(secret.as_bytes()),
+        tls: None,
+    }
+}
+
 /// Links of this server's process, by a clock that tells so many milliseconds. Their host isn't there yet.
 pub(super) fn links_of(server: u16, milliseconds: &Arc<AtomicU64>) -> Links<TestHost> {
     let addresses = Addresses::default();
     let store = Arc::new(Embedded::in_memory());
     let length = Duration::from_secs(60);
     let member = Member::join_without_thread(store, server, addresses, length, || Duration::ZERO);
-    let terms = Terms {
-        identity: Identity {
-            server,
-            settings: 1,
-            process: 1,
-            table: FIRST_TABLE,
-        },
-        secret: None,
-        tls: None,
-    };
+    let mut terms = terms("");
+    terms.identity.server = server;
     let milliseconds = milliseconds.clone();
     let clock = Clock::new(move || moment(milliseconds.load(Ordering::Relaxed)));
     let (member, wait) = (Arc::new(member.unwrap()), Duration::from_secs(1));

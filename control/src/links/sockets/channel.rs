@@ -142,24 +142,10 @@ impl Channel {
 
 #[cfg(test)]
 mod tests {
-    use super::super::super::Secret;
+    use super::super::super::trial::terms;
     use super::*;
     use std::net::TcpListener;
     use std::thread;
-
-    /// The terms of server 2, with this secret.
-    fn terms(secret: &str) -> Terms {
-        Terms {
-            identity: Identity {
-                server: 2,
-                settings: 1,
-                process: 9,
-                table: 1,
-            },
-            secret: Secret::of(secret.as_bytes()),
-            tls: None,
-        }
-    }
 
     /// A connection: whoever connected, and how it is met.
     fn met(terms: &Terms) -> (TcpStream, Channel) {
