@@ -190,16 +190,11 @@ impl World {
             true => (CONTROLLED_SHARDS, &CONTROLLED),
             false => (SHARDS, &COMMANDED),
         };
-        // The seeds of schedules without links are those of before there were any.
-        let mut of_links = Chance::new(!plan.seed);
-        let is_linked = match bug {
-            Some(bug) => bug.is_of_links(),
-            None => of_links.is_true(1, 2),
-        };
-        let linked = if is_linked { &LINKED[..] } else { &[] };
+        let of_links = chance_of_links(plan.seed, bug);
+        let linked = of_links.as_ref().map_or(&[][..], |_| &LINKED);
         let happenings = drawn(&mut chance, &[more, linked].concat());
         let noted = (faults.clone(), timeline.clone());
-        let network = is_linked.then(|| SimulatedNetwork::new(of_links, time.clone(), bug, noted));
+        let network = of_links.map(|it| SimulatedNetwork::new(it, time.clone(), bug, noted));
         let control = is_controlled.then(|| ControlShape::new(&mut chance, shards, bug));
         let tuning = drawn_tuning(&mut chance);
         World {
@@ -817,6 +812,17 @@ impl World {
         let at = self.chance.below(mail.answers.len().max(1) as u64) as usize;
         (at < mail.answers.len()).then(|| mail.answers.swap_remove(at))
     }
+}
+
+/// Returns the chance of what is between processes, if these have the links that ship: as the seeds of the other
+/// schedules are those of before there were any, it is one of its own.
+fn chance_of_links(seed: u64, bug: Option<Bug>) -> Option<Chance> {
+    let mut chance = Chance::new(!seed);
+    let is_linked = match bug {
+        Some(bug) => bug.is_of_links(),
+        None => chance.is_true(1, 2),
+    };
+    is_linked.then_some(chance)
 }
 
 /// How the shards of this schedule are.
