@@ -5,8 +5,9 @@
 //! processes mean ([`links::Host`]).
 #![forbid(unsafe_code)]
 #![warn(missing_docs)]
-// A control is told the time, so that it can be simulated: clippy.toml names what it doesn't call.
+// Controls and links are told the time, so that they can be simulated: clippy.toml names what they don't call.
 #[deny(clippy::disallowed_methods)]
 pub mod control;
+#[deny(clippy::disallowed_methods)]
 pub mod links;
 pub mod tls;

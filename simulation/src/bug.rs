@@ -50,19 +50,37 @@ pub enum Bug {
     NoReturn,
     /// A control with something under way waits until somebody asks: its wait is taken for one without an end.
     EndlessWait,
+    /// An answer that a connection lost is taken for that of a request on the next one: it is told so.
+    StaleAnswer,
+    /// What may have been made is asked again without a number, after its answer was lost: the link is told that this
+    /// changes nothing.
+    SentAgain,
+    /// What another process gives back is dropped: the host is told of nothing.
+    DroppedReturn,
+    /// A link takes a frame of which a part was sent for unsent: it is told so.
+    TornFrame,
+    /// A link never finds out that the other machine is gone: its system doesn't ask.
+    NoKeepAlive,
 }
 
 impl Bug {
     /// Returns whether it is one of the control that ships.
     pub fn is_of_control(self) -> bool {
-        BUGS[FIRST_OF_CONTROL..].contains(&self)
+        BUGS[FIRST_OF_CONTROL..FIRST_OF_LINKS].contains(&self) || self == Bug::NoKeepAlive
+    }
+
+    /// Returns whether it is one of the links that ship.
+    pub fn is_of_links(self) -> bool {
+        BUGS[FIRST_OF_LINKS..].contains(&self)
     }
 }
 
 /// The first of those of the control that ships.
 const FIRST_OF_CONTROL: usize = 18;
+/// The first of those of the links that ship.
+const FIRST_OF_LINKS: usize = 24;
 
-pub const BUGS: [Bug; 24] = [
+pub const BUGS: [Bug; 29] = [
     Bug::NoRecordCompare,
     Bug::NoHeadCompare,
     Bug::NoLeaderCompare,
@@ -87,4 +105,9 @@ pub const BUGS: [Bug; 24] = [
     Bug::KeptIntent,
     Bug::NoReturn,
     Bug::EndlessWait,
+    Bug::StaleAnswer,
+    Bug::SentAgain,
+    Bug::DroppedReturn,
+    Bug::TornFrame,
+    Bug::NoKeepAlive,
 ];

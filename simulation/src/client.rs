@@ -1,5 +1,6 @@
 //! What clients ask of shards, and what they are told.
 use crate::claim::{Claim, Listed, MapQuery, Said};
+use crate::links::{Parcel, Parcels, SpelledStep};
 use crate::reading::Replied;
 use crate::simulated_store::{locked, SharedStore};
 use durkenzo_driver::{
@@ -25,23 +26,14 @@ pub struct Asking {
     /// The revision from which on what it reads may be.
     pub since: u64,
     pub is_wanted: Arc<AtomicBool>,
+    pub parcels: Parcels,
 }
 
 impl Work for Asking {
     fn decide(&mut self, held: Vec<MapReply>) -> Vec<MapRequest> {
-        self.held = held;
-        let Begin::Change(keys) = &self.begin else {
-            return Vec::new();
-        };
-        let holds_nothing = self.held.iter().all(|it| *it == MapReply::Nothing);
         let time = self.decided.len() as u32;
-        let text = [self.text.to_be_bytes(), time.to_be_bytes()].concat();
-        let requests = match keys.first() {
-            // It writes nothing, by what it read.
-            Some(_) if holds_nothing && self.text % 2 == 0 => Vec::new(),
-            Some(key) => vec![MapRequest::Put(key.clone(), text)],
-            None => Vec::new(),
-        };
+        let requests = decided(&self.begin, self.text, time, &held);
+        self.held = held;
         self.decided.push(requests.clone());
         requests
     }
@@ -51,16 +43,28 @@ impl Work for Asking {
     }
 
     fn spell(&self) -> Vec<u8> {
-        Vec::new()
+        self.parcels.spelled(Parcel::Step(SpelledStep {
+            begin: self.begin.clone(),
+            text: self.text,
+            decided: self.decided.len() as u32,
+        }))
     }
 
-    fn answered(self: Box<Self>, _answer: &[u8]) {}
+    fn answered(mut self: Box<Self>, answer: &[u8]) {
+        let Some(Parcel::Answer(answer)) = self.parcels.of(answer) else {
+            let why = "an answer can't be read".to_owned();
+            return self.end(Err(NotDone::Damaged(why)));
+        };
+        self.held = answer.held;
+        self.decided.extend(answer.decided);
+        self.end(Ok(answer.replies));
+    }
 
     fn end(mut self: Box<Self>, outcome: WorkOutcome) {
         let last = self.decided.pop();
         let said = self.said(last.as_deref(), outcome);
         let mut told = self.told.lock().expect("no schedule goes on after a panic");
-        let at = locked(&self.shared).revision;
+        let at = locked(&self.shared).revision();
         let numbered = match &self.begin {
             Begin::Numbered(it, _) => Some((it.client, it.number)),
             _ => None,
@@ -124,6 +128,22 @@ impl Asking {
             listed,
             since: self.since,
         }
+    }
+}
+
+/// Returns what work that begins so decides to write, by what its keys hold. It has decided so often before, and this
+/// number makes its texts its own.
+pub fn decided(begin: &Begin, number: u32, time: u32, held: &[MapReply]) -> Vec<MapRequest> {
+    let Begin::Change(keys) = begin else {
+        return Vec::new();
+    };
+    let holds_nothing = held.iter().all(|it| *it == MapReply::Nothing);
+    let text = [number.to_be_bytes(), time.to_be_bytes()].concat();
+    match keys.first() {
+        // It writes nothing, by what it read.
+        Some(_) if holds_nothing && number % 2 == 0 => Vec::new(),
+        Some(key) => vec![MapRequest::Put(key.clone(), text)],
+        None => Vec::new(),
     }
 }
 

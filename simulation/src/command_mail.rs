@@ -2,6 +2,7 @@
 use crate::mail::{Mails, Sender};
 use crate::operator_reply::text;
 use durkenzo_control::control::{Again, Asked, ControlAnswer, Refusal, ReplyTo};
+use durkenzo_control::links::ForwardedCommand;
 use std::fmt;
 
 /// A command that went to the control of another process.
@@ -36,6 +37,29 @@ impl PassedCommand {
             CommandBecame::GivenBack => self.give_back(&Refusal::no_leader().to_string()),
             CommandBecame::Lost => self.lose(),
         }
+    }
+}
+
+impl ForwardedCommand for PassedCommand {
+    fn bytes(&self) -> Vec<u8> {
+        let words: Vec<&[u8]> = self.asked.words.iter().map(|it| &**it).collect();
+        words.join(&b' ')
+    }
+
+    fn answer(self, answer: &[u8]) {
+        self.asked.reply_to.pass_on(answer.to_vec());
+    }
+
+    fn refuse(self) {
+        self.give_back(&Refusal::no_leader().to_string());
+    }
+
+    fn refuse_unreached(self, _why: &str) {
+        self.give_back("PEERDOWN nothing has changed");
+    }
+
+    fn lose(self, _why: &str) {
+        PassedCommand::lose(self);
     }
 }
 

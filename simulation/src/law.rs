@@ -94,8 +94,8 @@ struct WorldModel {
     leader: u64,
     /// How far the restarts of servers have come, by their numbers.
     states: HashMap<u64, u64>,
-    /// The servers whose keys are there.
-    there: HashSet<u64>,
+    /// The servers whose keys are there, and since which revisions without a break.
+    there: HashMap<u64, u64>,
     /// Up to which revisions servers say that they have read, whose keys are there.
     followed: HashMap<u16, u64>,
     shards: HashMap<u16, ShardModel>,
@@ -129,7 +129,7 @@ impl WorldModel {
                 DecodedKey::Process | DecodedKey::Commands | DecodedKey::Lowest(_) => {}
                 DecodedKey::Drain(_) | DecodedKey::Home(_) => {}
                 DecodedKey::Leader => self.leader = found(reading::process(bytes), txn)?,
-                DecodedKey::Server(server) => self.follow(server, bytes),
+                DecodedKey::Server(server) => self.follow(server, bytes, revision),
                 DecodedKey::State(server) => self.restart(u64::from(server), bytes, txn)?,
                 DecodedKey::Record(shard) => self.change(shard, bytes, revision, txn)?,
                 DecodedKey::Head(shard) if batches > 0 => self.head(shard, bytes, txn)?,
@@ -147,8 +147,8 @@ impl WorldModel {
     }
 
     /// Notes up to which revision a server has read. One that has read nothing goes by nothing.
-    fn follow(&mut self, server: u16, bytes: &[u8]) {
-        self.there.insert(u64::from(server));
+    fn follow(&mut self, server: u16, bytes: &[u8], revision: u64) {
+        self.there.entry(u64::from(server)).or_insert(revision);
         match reading::followed(bytes) {
             None | Some(0) => self.followed.remove(&server),
             Some(followed) => self.followed.insert(server, followed),
@@ -168,6 +168,16 @@ impl WorldModel {
             );
         }
         Ok(())
+    }
+
+    /// Whether a server that is there since before this revision hasn't read up to it. Of one that came later, as its
+    /// lease had ended, whoever leads may not know.
+    fn has_left_behind(&self, stood: u64) -> bool {
+        let mut followed = self.followed.iter();
+        followed.any(|(server, &it)| {
+            let since = self.there.get(&u64::from(*server));
+            it < stood && since.is_some_and(|&since| since < stood)
+        })
     }
 
     fn is_leaving(&self, server: u64) -> bool {
@@ -198,9 +208,9 @@ impl WorldModel {
                 format!("{record:?} to {next:?}"),
             );
         }
-        if record.phase == 4 && self.followed.values().any(|&it| it < stood) {
+        if record.phase == 4 && self.has_left_behind(stood) {
             return broken(
-                "a shard is dropped once all have read that it is taken",
+                "a shard is dropped once all who were there have read that it is taken",
                 format!("{:?}, {record:?} at {stood}", self.followed),
             );
         }
@@ -213,7 +223,7 @@ impl WorldModel {
     fn restart(&mut self, server: u64, bytes: &[u8], txn: &Written) -> Result<(), Broken> {
         let (state, process) = found(reading::state(bytes), txn)?;
         self.command(process, txn)?;
-        if state == FAILED && self.there.contains(&server) {
+        if state == FAILED && self.there.contains_key(&server) {
             return broken(
                 "a server is failed while its key isn't there",
                 format!("{server} by {txn:?}"),

@@ -13,6 +13,8 @@ pub struct Ledger {
     pub ended: BTreeSet<u64>,
     /// A command whose process goes on, and that it forgot.
     pub forgotten: Option<String>,
+    /// A step whose process goes on, and that its link dropped.
+    pub dropped: Option<String>,
 }
 
 impl Ledger {

@@ -1,6 +1,9 @@
 use crate::bug::Bug;
+use crate::fault::Fault;
 use crate::flight::Flight;
 use crate::simulated_store::{locked, SharedStore, SimulatedStore};
+use crate::timeline::Column;
+use crate::told;
 use durkenzo_store::Outcome;
 use durkenzo_store::{
     CompactError, Done, LeaseError, LeaseId, ReadError, Reading, Store, Transaction, Watch,
@@ -16,24 +19,28 @@ const ROOM: u64 = 1 << 30;
 /// what others have sent is made before that. What is sent by [`Store::submit`] is made when the schedule says so.
 pub struct Line {
     shared: SharedStore,
+    /// The number of its way to members.
+    route: usize,
     /// Whether transactions are answered at once, as of a sender that waits for each.
     is_waiting: bool,
 }
 
 impl Line {
-    /// Returns the way of a process's shards.
-    pub fn of_shards(shared: &SharedStore) -> Line {
-        Line {
-            shared: shared.clone(),
-            is_waiting: false,
-        }
+    /// Returns the way of a process's shards, by its place.
+    pub fn of_shards(shared: &SharedStore, place: usize) -> Line {
+        Line::new(shared, place, false)
     }
 
     /// Returns the way of a process's member, which waits for each of its transactions.
-    pub fn of_member(shared: &SharedStore) -> Line {
+    pub fn of_member(shared: &SharedStore, place: usize) -> Line {
+        Line::new(shared, place, true)
+    }
+
+    fn new(shared: &SharedStore, place: usize, is_waiting: bool) -> Line {
         Line {
             shared: shared.clone(),
-            is_waiting: true,
+            route: locked(shared).new_route(Column::Process(place)),
+            is_waiting,
         }
     }
 
@@ -45,7 +52,9 @@ impl Line {
     fn reached(&self) -> Result<MutexGuard<'_, SimulatedStore>, ReadError> {
         let mut store = self.store();
         store.let_others_write();
-        match store.fails(60) {
+        let column = store.column_of(self.route);
+        let is_lost = store.fails(Fault::ReadLost, 60, column);
+        match is_lost || !store.answers(self.route) {
             true => Err(ReadError::Unavailable("by chance".to_owned())),
             false => Ok(store),
         }
@@ -53,7 +62,9 @@ impl Line {
 
     fn leases(&self) -> Result<MutexGuard<'_, SimulatedStore>, LeaseError> {
         let mut store = self.store();
-        match store.fails(20) {
+        let column = store.column_of(self.route);
+        let is_lost = store.fails(Fault::LeaseCallLost, 20, column);
+        match is_lost || !store.answers(self.route) {
             true => Err(LeaseError::Unavailable("by chance".to_owned())),
             false => Ok(store),
         }
@@ -66,9 +77,13 @@ impl Store for Line {
             return done(self.make(transaction));
         }
         let mut store = self.store();
-        let transaction = store.spoilt(transaction);
+        let transaction = store.spoilt(transaction, self.route);
+        let column = store.column_of(self.route);
+        let sends = || format!("sends {}", told::summary(&transaction));
+        store.timeline.note(column, sends);
         store.flights.push(Flight {
             transaction,
+            route: self.route,
             done: Some(done),
             became: None,
         });
@@ -76,11 +91,18 @@ impl Store for Line {
 
     fn make(&self, transaction: Transaction) -> Result<Outcome, WriteError> {
         let mut store = self.store();
-        let transaction = store.spoilt(transaction);
-        match store.refused(&transaction) {
+        let transaction = store.spoilt(transaction, self.route);
+        let column = store.column_of(self.route);
+        let calls = || format!("calls {}", told::summary(&transaction));
+        store.timeline.note(column, calls);
+        let became = match store.refused(&transaction) {
             Some(error) => Err(error),
-            None => store.called(transaction),
-        }
+            None => store.called(transaction, self.route),
+        };
+        store
+            .timeline
+            .note(column, || format!("is told {}", told::became(&became)));
+        became
     }
 
     fn read(&self, keys: &[&[u8]]) -> Result<Reading, ReadError> {
@@ -95,7 +117,7 @@ impl Store for Line {
         reading.pairs.extend(store.gone(prefix));
         reading.pairs.sort_by(|one, other| one.key.cmp(&other.key));
         if store.bug == Some(Bug::EarlyDrop) && prefix == b"server/" {
-            let read = store.revision.to_be_bytes();
+            let read = store.revision().to_be_bytes();
             let told = reading
                 .pairs
                 .iter_mut()
@@ -111,13 +133,14 @@ impl Store for Line {
     }
 
     fn watch(&self, prefix: &[u8], watcher: Watcher) -> Result<Watch, ReadError> {
-        let number = self.store().watch(prefix, watcher);
+        let number = self.store().watch(prefix, watcher, self.route);
         let shared = self.shared.clone();
         Ok(Watch::ended_by(move || locked(&shared).unwatch(number)))
     }
 
     fn grant(&self, length: Duration) -> Result<LeaseId, LeaseError> {
-        Ok(self.leases()?.grant(length))
+        let granted = self.leases()?.grant(length);
+        granted.ok_or_else(|| LeaseError::Unavailable("no room".to_owned()))
     }
 
     fn keep(&self, lease: LeaseId) -> Result<(), LeaseError> {
@@ -132,7 +155,8 @@ impl Store for Line {
 
     fn left(&self) -> Option<u64> {
         let mut store = self.store();
-        let is_scarce = store.fails(10);
+        let column = store.column_of(self.route);
+        let is_scarce = store.fails(Fault::RoomScarce, 10, column);
         Some(if is_scarce { 0 } else { ROOM })
     }
 

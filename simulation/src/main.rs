@@ -1,20 +1,35 @@
-//! Runs schedules, and says what was broken, with the seed that shows it again.
+//! Runs schedules, and says what was broken: by which seed and faults, the fewest that break it, with a timeline.
 //!
-//!     simulation [--schedules N] [--seed S] [--bug NAME] [--seconds T]
+//!     simulation [--schedules N] [--seed S] [--bug NAME] [--seconds T] [--processor-seconds T]
+//!     simulation --show S [--bug NAME] [--keep FAULTS]
 //!     simulation --transcript S
+//!
+//! FAULTS are numbered ones with commas between, as `crash 1, pause 2`; all strike if none are named.
 use rustix::time::{clock_gettime, ClockId};
 use simulation::bug::{Bug, BUGS};
+use simulation::fault::{Fault, NumberedFault};
+use simulation::faults::Kept;
+use simulation::plan::Plan;
+use simulation::shrink::shrunk;
 use simulation::tally::Tally;
-use simulation::world::{run, transcript};
+use simulation::world::{run, run_by, transcript};
 use std::process::ExitCode;
 use std::time::{Duration, Instant};
+
+const USAGE: &str = "usage: simulation [--schedules N] [--seed S] [--seconds T] [--processor-seconds T] [--bug NAME]
+       simulation --show S [--bug NAME] [--keep FAULTS]
+       simulation --transcript S";
 
 struct Options {
     schedules: u64,
     seed: u64,
     seconds: u64,
+    processor_seconds: u64,
     bug: Option<Bug>,
-    /// The seed of the schedule of which all is shown.
+    kept: Kept,
+    /// The seed of the schedule whose timeline is shown.
+    show: Option<u64>,
+    /// The seed of the schedule of which all is shown that was made and told.
     transcript: Option<u64>,
 }
 
@@ -23,7 +38,10 @@ fn wanted() -> Option<Options> {
         schedules: 10_000,
         seed: 1,
         seconds: u64::MAX,
+        processor_seconds: u64::MAX,
         bug: None,
+        kept: Kept::All,
+        show: None,
         transcript: None,
     };
     let mut words = std::env::args().skip(1);
@@ -33,7 +51,12 @@ fn wanted() -> Option<Options> {
             "--schedules" => wanted.schedules = value.parse().ok()?,
             "--seed" => wanted.seed = value.parse().ok()?,
             "--seconds" => wanted.seconds = value.parse().ok()?,
+            "--processor-seconds" => wanted.processor_seconds = value.parse().ok()?,
             "--bug" => wanted.bug = Some(*BUGS.iter().find(|it| format!("{it:?}") == value)?),
+            "--keep" => {
+                wanted.kept = Kept::Only(value.split(',').map(numbered).collect::<Option<_>>()?)
+            }
+            "--show" => wanted.show = Some(value.parse().ok()?),
             "--transcript" => wanted.transcript = Some(value.parse().ok()?),
             _ => return None,
         }
@@ -41,37 +64,97 @@ fn wanted() -> Option<Options> {
     Some(wanted)
 }
 
+/// The fault that is told so.
+fn numbered(text: &str) -> Option<NumberedFault> {
+    let (name, number) = text.trim().rsplit_once(' ')?;
+    let fault = Fault::ALL.into_iter().find(|it| it.name() == name)?;
+    Some(NumberedFault {
+        fault,
+        number: number.parse().ok()?,
+    })
+}
+
+/// The time for which a processor has run this.
+fn processor_time() -> Duration {
+    let spent = clock_gettime(ClockId::ProcessCPUTime);
+    Duration::new(spent.tv_sec.unsigned_abs(), spent.tv_nsec as u32)
+}
+
 fn main() -> ExitCode {
     let Some(wanted) = wanted() else {
-        eprintln!("usage: simulation [--schedules N] [--seed S] [--seconds T] [--bug NAME]; bugs: {BUGS:?}");
+        eprintln!("{USAGE}\nbugs: {BUGS:?}");
         return ExitCode::from(2);
     };
     if let Some(seed) = wanted.transcript {
         println!("{}", transcript(seed));
         return ExitCode::SUCCESS;
     }
+    match wanted.show {
+        Some(seed) => {
+            let plan = Plan {
+                kept: wanted.kept,
+                ..Plan::new(seed, wanted.bug)
+            };
+            show(&plan)
+        }
+        None => search(&wanted),
+    }
+}
+
+/// Runs schedules until one breaks a law, or time is over.
+fn search(wanted: &Options) -> ExitCode {
     let (begun, mut all, mut count) = (Instant::now(), Tally::default(), 0);
     let limit = Duration::from_secs(wanted.seconds.min(1 << 40));
-    while count < wanted.schedules && begun.elapsed() < limit {
+    let of_processor = Duration::from_secs(wanted.processor_seconds.min(1 << 40));
+    while count < wanted.schedules && begun.elapsed() < limit && processor_time() < of_processor {
         let seed = wanted.seed.wrapping_add(count);
         let (tally, verdict) = run(seed, wanted.bug);
         count += 1;
         all.add(&tally);
         if let Err(broken) = verdict {
-            println!(
-                "broken by seed {seed}, schedule {count}: {}: {}",
-                broken.law, broken.by
-            );
-            return ExitCode::FAILURE;
+            println!("broken by seed {seed}, schedule {count}: {}", broken.law);
+            let plan = Plan::new(seed, wanted.bug);
+            let faults = shrunk(&plan).unwrap_or_default();
+            return show(&Plan {
+                kept: Kept::Only(faults.into_iter().collect()),
+                ..plan
+            });
         }
     }
-    println!("{count} schedules kept the law: {all:?}");
-    let spent = clock_gettime(ClockId::ProcessCPUTime);
-    let spent = spent.tv_sec as f64 + spent.tv_nsec as f64 / 1e9;
-    let passed = all.passed_time as f64 / 1e3;
+    println!(
+        "{count} schedules from seed {} kept the law: {all}",
+        wanted.seed
+    );
+    let (passed, spent) = (all.passed_time as f64 / 1e3, processor_time().as_secs_f64());
     println!(
         "{passed:.0} s passed in {spent:.1} s of a processor: {:.0} s each",
         passed / spent
     );
     ExitCode::SUCCESS
+}
+
+/// Runs one schedule, and shows its timeline, the faults that struck, and the law that it broke.
+fn show(plan: &Plan) -> ExitCode {
+    let ran = run_by(&Plan {
+        is_shown: true,
+        ..plan.clone()
+    });
+    print!("{}", ran.timeline.unwrap_or_default());
+    let struck: Vec<String> = ran.struck.iter().map(NumberedFault::to_string).collect();
+    println!(
+        "seed {}, {} faults: {}",
+        plan.seed,
+        struck.len(),
+        struck.join(", ")
+    );
+    match ran.verdict {
+        Ok(()) => {
+            println!("all laws are kept");
+            ExitCode::SUCCESS
+        }
+        Err(broken) => {
+            println!("broken: {}\n{}", broken.law, broken.by);
+            ExitCode::FAILURE
+        }
+    }
 }

@@ -23,7 +23,7 @@ impl OperatorReply {
         life: u64,
     ) -> OperatorReply {
         let is_awaited = Arc::new(AtomicBool::new(true));
-        let since = locked(store).revision;
+        let since = locked(store).revision();
         let mut held = ledger.lock().expect("no schedule goes on after a panic");
         held.commands.push(OperatorCommand {
             words: words.to_vec(),
@@ -42,7 +42,7 @@ impl OperatorReply {
     }
 
     fn note(&mut self, told: String) {
-        let at = locked(&self.store).revision;
+        let at = locked(&self.store).revision();
         let mut ledger = self
             .ledger
             .lock()

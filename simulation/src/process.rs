@@ -1,16 +1,18 @@
 use crate::bug::Bug;
 use crate::control_shape::ControlShape;
 use crate::line::Line;
+use crate::links::{Inbox, LinkShape, LinkedHost};
 use crate::mail::{Mails, Message, Sender};
 use crate::simulated_host::SimulatedHost;
 use crate::simulated_peers::SimulatedPeers;
-use crate::simulated_store::SharedStore;
+use crate::simulated_store::{locked, SharedStore};
 use crate::time::Time;
+use crate::timeline::Column;
 use durkenzo_control::control::{Asked, Campaigner};
+use durkenzo_control::links::Links;
 use durkenzo_driver::{
     Addresses, Chores, Clock, Durable, DurableControl, HandOver, JoinFault, Member, Own, Tuning,
 };
-use std::collections::VecDeque;
 use std::sync::atomic::AtomicBool;
 use std::sync::Arc;
 use std::time::Duration;
@@ -27,7 +29,9 @@ pub struct Process {
     pub control: Option<DurableControl>,
     /// The control that ships, in schedules that have it, and what it is asked.
     pub campaigner: Option<Campaigner>,
-    pub inbox: VecDeque<Asked>,
+    pub inbox: Inbox,
+    /// The links that ship, in schedules that have them.
+    pub links: Option<Links<LinkedHost>>,
     /// When its control has its next turn, if nobody asks sooner.
     due: Duration,
     time: Time,
@@ -38,50 +42,71 @@ pub struct Process {
     pub paused_until: Duration,
     /// What was read, and isn't told yet.
     pub read: Vec<Box<dyn FnOnce() + Send>>,
+    /// How many watches it has.
+    pub watches: usize,
 }
 
 impl Process {
-    /// Starts a process with this server of so many shards.
+    /// Starts a process with this server, one of so many, of so many shards.
     pub fn start(
-        (shared, mails, time): (&SharedStore, &Mails, &Time),
+        (shared, mails, time, shape): (&SharedStore, &Mails, &Time, Option<&LinkShape>),
         sender: Sender,
-        server: u16,
+        (server, servers): (u16, u16),
         shards: u16,
         tuning: Tuning,
     ) -> Result<Process, JoinFault> {
         let (leases, own) = (time.clone(), time.clone());
+        let watches = locked(shared).watches();
+        let mut addresses = Addresses::default();
+        if shape.is_some() {
+            addresses.servers = sender.place.to_string();
+        }
         let member = Arc::new(Member::join_without_thread(
-            Arc::new(Line::of_member(shared)),
+            Arc::new(Line::of_member(shared, sender.place)),
             server,
-            Addresses::default(),
+            addresses,
             LEASE,
             move || leases.passed(),
         )?);
+        let links = shape.map(|it| it.links(&member, time));
+        let sends = links.as_ref().zip(shape);
+        let elsewhere = sends.map(|(links, shape)| shape.hand_over(links, sender));
         let (durable, chores) = Durable::open_without_threads(
-            Arc::new(Line::of_shards(shared)),
+            Arc::new(Line::of_shards(shared, sender.place)),
             shards,
             tuning,
             Own {
                 member: member.clone(),
-                elsewhere: posts(mails.clone(), sender),
+                elsewhere: elsewhere.unwrap_or_else(|| posts(mails.clone(), sender)),
             },
             Clock::new(move || own.now()),
         )?;
+        let (durable, inbox) = (Arc::new(durable), Inbox::default());
+        if let Some((links, shape)) = links.as_ref().zip(shape) {
+            shape.begin(links, servers, &durable, &inbox);
+        }
         Ok(Process {
             sender,
             member,
-            durable: Arc::new(durable),
+            durable,
             chores,
             control: None,
             campaigner: None,
-            inbox: VecDeque::new(),
+            inbox,
+            links,
             due: Duration::ZERO,
             time: time.clone(),
             bug: None,
             is_stopping: Arc::default(),
             paused_until: Duration::ZERO,
             read: Vec::new(),
+            watches: locked(shared).watches() - watches,
         })
+    }
+
+    /// Returns the column of timelines that is its own.
+    pub fn column(&self) -> Column {
+        Column::Process(self.sender.place)
     }
 
     /// Gives it the control that ships.
@@ -93,6 +118,7 @@ impl Process {
         let peers = SimulatedPeers {
             member: self.member.clone(),
             mails: mails.clone(),
+            links: self.links.clone(),
             sender: self.sender,
             bug: shape.bug,
         };
@@ -105,7 +131,8 @@ impl Process {
     /// Its control takes what it was asked first, and does what is due.
     pub fn take_turn(&mut self) {
         if let Some(campaigner) = &mut self.campaigner {
-            campaigner.turn(self.inbox.pop_front());
+            let asked = self.inbox.lock().expect("no panic").pop_front();
+            campaigner.turn(asked);
             let wait = match self.bug {
                 Some(Bug::EndlessWait) if !campaigner.is_idle() => Duration::MAX,
                 _ => campaigner.wait(),
@@ -116,9 +143,19 @@ impl Process {
 
     /// Its control has its turn if somebody asks or it is time for one, as on a thread of its own.
     pub fn take_turn_if_due(&mut self) {
-        if !self.inbox.is_empty() || self.due <= self.time.passed() {
+        if self.is_asked() || self.due <= self.time.passed() {
             self.take_turn();
         }
+    }
+
+    /// Returns whether its control is asked for something that it hasn't taken.
+    pub fn is_asked(&self) -> bool {
+        !self.inbox.lock().expect("no panic").is_empty()
+    }
+
+    /// Gives this to its control.
+    pub fn ask(&self, asked: Asked) {
+        self.inbox.lock().expect("no panic").push_back(asked);
     }
 
     /// Does what its threads would do.

@@ -1,10 +1,12 @@
 use crate::bug::Bug;
 use crate::command_mail::{CommandMessage, PassedCommand};
+use crate::links::LinkedHost;
 use crate::mail::{Mails, Sender};
 use crate::operator_reply::text;
 use durkenzo_control::control::{
     Again, Asked, ControlAnswer, OtherControls, Refusal, ReplyTo, Words,
 };
+use durkenzo_control::links::Links;
 use durkenzo_driver::Member;
 use std::fmt;
 use std::sync::Arc;
@@ -13,12 +15,17 @@ use std::sync::Arc;
 pub struct SimulatedPeers {
     pub member: Arc<Member>,
     pub mails: Mails,
+    /// The links that ship, in schedules that have them.
+    pub links: Option<Links<LinkedHost>>,
     pub sender: Sender,
     pub bug: Option<Bug>,
 }
 
 impl SimulatedPeers {
     fn send(&self, server: u16, command: PassedCommand) {
+        if let Some(links) = &self.links {
+            return links.ask_control(server, command);
+        }
         let mut mail = self
             .mails
             .lock()

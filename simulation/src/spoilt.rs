@@ -1,6 +1,6 @@
 //! What planted bugs make of a process's transactions and readings: as they would be if the driver had the bug.
 use crate::bug::Bug;
-use crate::flight::{Became, Flight};
+use crate::flight::Became;
 use crate::key::DecodedKey;
 use crate::reading;
 use crate::simulated_store::SimulatedStore;
@@ -27,7 +27,7 @@ fn uncompared(mut transaction: Transaction, prefix: &[u8]) -> Transaction {
 
 impl SimulatedStore {
     /// Returns what is sent in place of this transaction.
-    pub fn spoilt(&mut self, transaction: Transaction) -> Transaction {
+    pub fn spoilt(&mut self, transaction: Transaction, route: usize) -> Transaction {
         let Some(bug) = self.bug else {
             return transaction;
         };
@@ -38,7 +38,7 @@ impl SimulatedStore {
             Bug::NoCommandsCompare => uncompared(transaction, b"commands"),
             Bug::NoServerCompare if is_command(&transaction) => uncompared(transaction, b"server/"),
             Bug::EarlyDeletion => {
-                self.delete_early(&transaction);
+                self.delete_early(&transaction, route);
                 transaction
             }
             Bug::ShortBase => short(transaction),
@@ -48,18 +48,15 @@ impl SimulatedStore {
     }
 
     /// Deletes the batches that this part of a base is to stand for.
-    fn delete_early(&mut self, part: &Transaction) {
+    fn delete_early(&mut self, part: &Transaction, route: usize) {
         let Some(DecodedKey::Part(shard, number, _)) =
             part.puts.first().and_then(|it| DecodedKey::of(&it.key))
         else {
             return;
         };
         let batches = (1..=number).map(|it| format!("batch/{shard:05}/{it:020}").into_bytes());
-        self.flights.push(Flight {
-            transaction: batches.fold(Transaction::new(), Transaction::delete),
-            done: None,
-            became: None,
-        });
+        let deleted = batches.fold(Transaction::new(), Transaction::delete);
+        self.send_for_nobody(deleted, route);
     }
 
     /// Returns why a control is told that its transaction isn't made, if it is told so.
@@ -95,12 +92,12 @@ impl SimulatedStore {
             _ => false,
         };
         let writes = u64::from(transaction.writes());
-        is_told.then_some(Ok(Outcome::Made(Revision(self.revision + writes))))
+        is_told.then_some(Ok(Outcome::Made(Revision(self.revision() + writes))))
     }
 
     /// Returns what is told in place of what became of a transaction.
     pub fn told(&self, transaction: &Transaction, became: Became) -> Became {
-        let made = Ok(Outcome::Made(Revision(self.revision + 1)));
+        let made = Ok(Outcome::Made(Revision(self.revision() + 1)));
         match (self.bug, &became) {
             _ if !is_of_server(transaction) => became,
             (Some(Bug::UnknownAsLost), Err(WriteError::Unknown(why))) => {
@@ -133,7 +130,7 @@ impl SimulatedStore {
                 }
             }
             Some(Bug::TornRecords) if keys.contains(&&b"commands"[..]) => {
-                let moment = self.revision.saturating_sub(self.chance.below(6));
+                let moment = self.revision().saturating_sub(self.chance.below(6));
                 let is_commands = |it: &&&[u8]| **it == b"commands";
                 let others = keys.iter().filter(|it| !is_commands(it));
                 let others = others.filter_map(|it| self.pair_at(it, moment));

@@ -1,5 +1,8 @@
 use crate::claim::{Claim, Said};
+use crate::fault::Fault;
+use crate::faults::FaultCounts;
 use crate::key::{DecodedKey, Written};
+use std::fmt;
 
 /// How often what happened, so that runs in which nothing does are seen.
 #[derive(Clone, Copy, Default, Debug, PartialEq, Eq)]
@@ -25,8 +28,13 @@ pub struct Tally {
     pub operated: u64,
     pub told: u64,
     pub done: u64,
+    /// Connections that were made between processes, and that broke.
+    pub reached: u64,
+    pub broken: u64,
     /// The time that passed, in milliseconds.
     pub passed_time: u64,
+    /// How many faults of each kind struck.
+    pub faults: FaultCounts,
 }
 
 impl Tally {
@@ -52,7 +60,11 @@ impl Tally {
         self.operated += more.operated;
         self.told += more.told;
         self.done += more.done;
+        self.reached += more.reached;
+        self.broken += more.broken;
         self.passed_time += more.passed_time;
+        let faults = self.faults.iter_mut().zip(more.faults);
+        faults.for_each(|(all, more)| *all += more);
     }
 
     /// Counts what a transaction wrote.
@@ -79,5 +91,41 @@ impl Tally {
             Said::NotMade { .. } | Said::Damaged(_) => &mut self.refused,
             Said::Unknown { .. } => &mut self.unknown,
         } += 1;
+    }
+}
+
+/// All counts that aren't 0, those of faults by their names.
+impl fmt::Display for Tally {
+    fn fmt(&self, f: &mut fmt::Formatter<'_>) -> fmt::Result {
+        let counts = [
+            ("events", self.events),
+            ("made", self.made),
+            ("lost", self.lost),
+            ("replied", self.replied),
+            ("read", self.read),
+            ("passed", self.passed),
+            ("refused", self.refused),
+            ("unknown", self.unknown),
+            ("forwarded", self.forwarded),
+            ("starts", self.starts),
+            ("renewed", self.renewed),
+            ("elections", self.elections),
+            ("changes", self.changes),
+            ("bases", self.bases),
+            ("deleted", self.deleted),
+            ("by lease", self.by_lease),
+            ("turns", self.turns),
+            ("operated", self.operated),
+            ("told", self.told),
+            ("done", self.done),
+            ("reached", self.reached),
+            ("broken", self.broken),
+        ];
+        let faults = Fault::ALL
+            .iter()
+            .map(|it| (it.name(), self.faults[*it as usize]));
+        let counts = counts.into_iter().chain(faults).filter(|it| it.1 > 0);
+        let counts: Vec<String> = counts.map(|it| format!("{} {}", it.1, it.0)).collect();
+        f.write_str(&counts.join(", "))
     }
 }

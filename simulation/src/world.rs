@@ -1,19 +1,27 @@
 //! Three servers, one of which may run twice, clients and a store, and what happens to them by chance.
 mod controls;
+mod network;
+mod rest;
 
 use crate::bug::Bug;
 use crate::chance::Chance;
 use crate::client::{Asking, Claims, Client};
 use crate::command::{command, settings};
 use crate::control_shape::ControlShape;
+use crate::fault::Fault;
+use crate::faults::{counts_of, Faults};
 use crate::key::Written;
 use crate::law::{check, Broken};
 use crate::ledger::SharedLedger;
+use crate::links::{LinkShape, Parcels};
 use crate::mail::{broken, visiting, Mails, Message, Sender, StepAnswer};
+use crate::network::SimulatedNetwork;
+use crate::plan::{Plan, Ran};
 use crate::process::{Process, LEASE};
 use crate::simulated_store::{locked, SharedStore, SimulatedStore};
 use crate::tally::Tally;
 use crate::time::Time;
+use crate::timeline::{Column, Timeline};
 use durkenzo_driver::{
     Begin, ControlCommand, DurableControl, Key, MapRequest, NotDone, Range, Reads, Refused, Tuning,
     WorkStep,
@@ -34,12 +42,16 @@ const CLIENTS: u64 = 2;
 const EVENTS: u64 = 500;
 /// How many there are where processes have the control that ships.
 const CONTROLLED_EVENTS: u64 = 2_500;
+/// How many there are at least where processes have the links that ship.
+const LINKED_EVENTS: u64 = 1_500;
 /// How many batches a log has at most before a base stands for them.
 const MOST_BATCHES: u64 = 3;
 /// How long it takes at most until all is over once nothing fails: so many times so many milliseconds, in each of which
 /// as many of all things happen.
 const SETTLING: u64 = 60;
 const PERIOD: u64 = 50;
+/// So many times where processes have the links that ship: what a machine got that is gone is lost only then.
+const LINKED_SETTLING: u64 = 500;
 /// How long work waits for a shard that nobody executes.
 const WAIT: Duration = Duration::from_millis(300);
 
@@ -47,7 +59,7 @@ const WAIT: Duration = Duration::from_millis(300);
 type Happening = fn(&mut World);
 
 /// What happens, and how often beside the others.
-const HAPPENINGS: [(Happening, u64); 15] = [
+const HAPPENINGS: [(Happening, u64); 16] = [
     (World::ask, 16),
     (World::fly, 30),
     (World::read, 14),
@@ -59,6 +71,7 @@ const HAPPENINGS: [(Happening, u64); 15] = [
     (World::keep_leases, 2),
     (World::tell_followed, 4),
     (World::lapse, 2),
+    (World::trouble_store, 4),
     (World::crash, 1),
     (World::start_one, 3),
     (World::give_up, 1),
@@ -80,6 +93,14 @@ const CONTROLLED: [(Happening, u64); 8] = [
     (World::renew_stopped, 2),
 ];
 
+/// What happens beside that where processes have the links that ship.
+const LINKED: [(Happening, u64); 4] = [
+    (World::move_bytes, 80),
+    (World::reach, 16),
+    (World::tick_links, 10),
+    (World::harm_network, 1),
+];
+
 pub struct World {
     chance: Chance,
     /// What happens in this schedule, and how often.
@@ -90,8 +111,13 @@ pub struct World {
     ledger: SharedLedger,
     bug: Option<Bug>,
     time: Time,
+    faults: Faults,
+    timeline: Timeline,
     store: SharedStore,
     mails: Mails,
+    /// What is between processes that have the links that ship.
+    network: Option<SimulatedNetwork>,
+    parcels: Parcels,
     told: Claims,
     tuning: Tuning,
     processes: Vec<Option<Process>>,
@@ -109,14 +135,36 @@ pub struct World {
 
 /// Runs one schedule and checks it.
 pub fn run(seed: u64, bug: Option<Bug>) -> (Tally, Result<(), Broken>) {
-    let mut world = World::new(seed, bug);
+    let ran = run_by(&Plan::new(seed, bug));
+    (ran.tally, ran.verdict)
+}
+
+/// Runs one schedule by a plan, checks it, and tells what struck and happened.
+pub fn run_by(plan: &Plan) -> Ran {
+    let mut world = World::new(plan);
     world.pass();
-    world.end()
+    let (faults, timeline) = (world.faults.clone(), world.timeline.clone());
+    let (tally, verdict) = world.end();
+    Ran {
+        tally,
+        verdict,
+        struck: faults.struck(),
+        timeline: plan.is_shown.then(|| timeline.drawn(&names())),
+    }
+}
+
+/// The names of the processes by their places.
+fn names() -> Vec<String> {
+    let name = |place: usize| match place < usize::from(SERVERS) {
+        true => format!("server {}", server_of(place)),
+        false => format!("server {} again", server_of(place)),
+    };
+    (0..PROCESSES).map(name).collect()
 }
 
 /// Runs one schedule, and returns all that was made and told.
 pub fn transcript(seed: u64) -> String {
-    let mut world = World::new(seed, None);
+    let mut world = World::new(&Plan::new(seed, None));
     world.pass();
     let (store, ledger) = (locked(&world.store), world.ledger.lock().expect("no panic"));
     let told = world.told.lock().expect("no panic");
@@ -124,11 +172,16 @@ pub fn transcript(seed: u64) -> String {
 }
 
 impl World {
-    fn new(seed: u64, bug: Option<Bug>) -> World {
-        let mut chance = Chance::new(seed);
+    fn new(plan: &Plan) -> World {
+        let (mut chance, bug) = (Chance::new(plan.seed), plan.bug);
         let time = Time::new();
-        let of_store = Chance::new(chance.drawn());
-        let store = SimulatedStore::new(of_store, bug, time.clone());
+        let timeline = Timeline::new(time.clone(), plan.is_shown);
+        let faults = Faults::new(plan.seed, plan.kept.clone(), timeline.clone());
+        let (of_store, noted) = (
+            Chance::new(chance.drawn()),
+            (faults.clone(), timeline.clone()),
+        );
+        let store = SimulatedStore::new(of_store, bug, time.clone(), noted);
         let is_controlled = match bug {
             Some(bug) => bug.is_of_control(),
             None => chance.is_true(1, 4),
@@ -137,7 +190,11 @@ impl World {
             true => (CONTROLLED_SHARDS, &CONTROLLED),
             false => (SHARDS, &COMMANDED),
         };
-        let happenings = drawn(&mut chance, more);
+        let of_links = chance_of_links(plan.seed, bug);
+        let linked = of_links.as_ref().map_or(&[][..], |_| &LINKED);
+        let happenings = drawn(&mut chance, &[more, linked].concat());
+        let noted = (faults.clone(), timeline.clone());
+        let network = of_links.map(|it| SimulatedNetwork::new(it, time.clone(), bug, noted));
         let control = is_controlled.then(|| ControlShape::new(&mut chance, shards, bug));
         let tuning = drawn_tuning(&mut chance);
         World {
@@ -148,8 +205,12 @@ impl World {
             ledger: SharedLedger::default(),
             bug,
             time,
+            faults,
+            timeline,
             store: Arc::new(Mutex::new(store)),
             mails: Mails::default(),
+            network,
+            parcels: Parcels::default(),
             told: Claims::default(),
             tuning,
             processes: (0..PROCESSES).map(|_| None).collect(),
@@ -168,6 +229,10 @@ impl World {
         let (is_controlled, events) = match self.control {
             Some(_) => (true, CONTROLLED_EVENTS),
             None => (false, EVENTS),
+        };
+        let events = match self.network {
+            Some(_) => events.max(LINKED_EVENTS),
+            None => events,
         };
         match is_controlled {
             true => self.begin_controls(),
@@ -199,10 +264,14 @@ impl World {
     /// Nothing fails any more, so within some time all that was asked is over: it is answered or refused.
     fn settle(&mut self) {
         self.store().is_calm = true;
-        for _ in 0..SETTLING {
+        let rounds = match self.network {
+            Some(_) => LINKED_SETTLING,
+            None => SETTLING,
+        };
+        for _ in 0..rounds {
             self.asked.retain(|it| it.2.strong_count() > 0);
             if self.asked.is_empty() {
-                return;
+                return self.rest();
             }
             self.time.pass(PERIOD);
             self.settle_once();
@@ -215,7 +284,10 @@ impl World {
 
     /// All that is on its way comes to its end, and each process does what is due.
     fn settle_once(&mut self) {
-        (0..PERIOD).for_each(|_| self.settle_message());
+        for _ in 0..5 {
+            (0..PERIOD / 5).for_each(|_| self.settle_message());
+            self.settle_network();
+        }
         for process in self.processes.iter_mut().flatten() {
             process.do_chores();
             process.member.keep_lease();
@@ -247,12 +319,14 @@ impl World {
     fn end(mut self) -> (Tally, Result<(), Broken>) {
         self.tally.passed_time = self.time.passed().as_millis() as u64;
         self.judge_operators();
+        self.judge_links();
         for place in 0..PROCESSES {
             self.crash_at(place);
         }
         let mut told = std::mem::take(&mut *self.told.lock().expect("no panic"));
         let store = locked(&self.store);
         self.tally.lost = store.lost;
+        self.tally.faults = counts_of(&self.faults.struck());
         for (_, transaction) in &store.made {
             let written = Written::of(transaction);
             written.iter().for_each(|it| self.tally.note_made(it));
@@ -339,7 +413,7 @@ impl World {
 
     /// A process reads what it was to read. It may learn of that later.
     fn read(&mut self) {
-        let (first, is_late) = (self.chance.drawn(), self.chance.is_true(1, 4));
+        let (first, faults) = (self.chance.drawn(), self.faults.clone());
         let Some(process) = self.process() else {
             return;
         };
@@ -347,7 +421,7 @@ impl World {
         let Some(tell) = process.chores.read(first as usize % count) else {
             return;
         };
-        match is_late {
+        match faults.strikes(Fault::ReadLate, 1, 4, process.column()) {
             true => process.read.push(tell),
             false => tell(),
         }
@@ -364,6 +438,11 @@ impl World {
 
     fn lapse(&mut self) {
         self.store().lapse();
+    }
+
+    /// The store may come into trouble.
+    fn trouble_store(&mut self) {
+        self.store().come_into_trouble();
     }
 
     fn tick(&mut self) {
@@ -418,22 +497,50 @@ impl World {
             let others = self.chance.below(12);
             self.store().begin_processes(others);
         }
-        let surroundings = (&self.store, &self.mails, &self.time);
-        let (server, shards) = (server_of(place), self.shards);
+        let shape = self.link_shape(sender);
+        let surroundings = (&self.store, &self.mails, &self.time, shape.as_ref());
+        let (server, shards) = ((server_of(place), SERVERS), self.shards);
         let started = Process::start(surroundings, sender, server, shards, self.tuning);
         let mut process = started.expect("nobody has its name");
         if let Some(control) = &self.control {
             process.have_control(&self.mails, control);
         }
+        let begins = || format!("begins as process {}", process.member.process());
+        self.timeline.note(process.column(), begins);
         self.processes[place] = Some(process);
         self.store().is_calm = was_calm;
     }
 
+    /// How the links of a process are, if it has those that ship.
+    fn link_shape(&mut self, sender: Sender) -> Option<LinkShape> {
+        let network = self.network.as_mut()?;
+        let is_older = self.chance.is_true(1, 6);
+        if is_older {
+            network.note_older(sender.life);
+        }
+        Some(LinkShape {
+            parcels: self.parcels.clone(),
+            ledger: self.ledger.clone(),
+            bug: self.bug,
+            wait: WAIT,
+            is_older,
+        })
+    }
+
     /// A process stops and has forgotten everything. Its lease goes on until it ends by itself.
     fn crash(&mut self) {
-        if let Some(at) = self.place() {
+        if let Some(at) = self
+            .place()
+            .filter(|it| self.strikes(Fault::Crash, 1, 1, *it))
+        {
             self.crash_at(at);
         }
+    }
+
+    /// Whether this fault strikes the process at this place.
+    fn strikes(&self, fault: Fault, times: u64, of: u64, place: usize) -> bool {
+        self.faults
+            .strikes(fault, times, of, Column::Process(place))
     }
 
     fn crash_at(&mut self, place: usize) {
@@ -446,6 +553,11 @@ impl World {
         let mut ledger = self.ledger.lock().expect("no panic");
         ledger.ended.insert(process.sender.life);
         drop(ledger);
+        let life = process.sender.life;
+        self.network.iter_mut().for_each(|it| it.forget(life));
+        if let Some(links) = &process.links {
+            self.tally.forwarded += links.counts().came();
+        }
         self.tally.by_lease += process.durable.read_by_lease();
     }
 
@@ -536,7 +648,7 @@ impl World {
         self.asked.push(asked);
         self.texts += 1;
         let since = match self.tuning.reads {
-            Reads::Exact => self.store().revision,
+            Reads::Exact => self.store().revision(),
             Reads::Lease => {
                 let since = self.time.passed().saturating_sub(LEASE);
                 self.store().revision_at(since)
@@ -552,6 +664,7 @@ impl World {
             decided: Vec::new(),
             since,
             is_wanted,
+            parcels: self.parcels.clone(),
         };
         let work = Box::new(work);
         WorkStep { begin, work }
@@ -630,13 +743,15 @@ impl World {
             .filter(|it| runs(it) && *it != sender.place && self.processes[*it].is_some())
             .collect();
         let at = self.chance.below(runs.len().max(1) as u64) as usize;
+        let is_lost = self.strikes(Fault::StepsLost, 1, 20, sender.place);
+        let is_back = self.chance.is_true(1, 20);
         let target = runs.get(at).and_then(|it| self.processes[*it].as_ref());
-        match (self.chance.below(20), target) {
-            (0, _) if self.is_there(sender) => {
+        match target.filter(|_| !is_back) {
+            _ if is_lost && self.is_there(sender) => {
                 let steps = message.steps.into_iter();
                 steps.for_each(|it| it.work.end(Err(broken())));
             }
-            (2.., Some(target)) => {
+            Some(target) => {
                 self.tally.forwarded += 1;
                 let elsewhere = message.elsewhere.clone();
                 let (came, since) = (elsewhere.came, elsewhere.since);
@@ -680,7 +795,9 @@ impl World {
             return;
         };
         match outcome {
-            _ if self.chance.is_true(1, 20) => step.work.end(Err(broken())),
+            _ if self.strikes(Fault::StepsLost, 1, 20, sender.place) => {
+                step.work.end(Err(broken()));
+            }
             Err(NotDone::Moved(revision)) => {
                 process
                     .durable
@@ -695,6 +812,17 @@ impl World {
         let at = self.chance.below(mail.answers.len().max(1) as u64) as usize;
         (at < mail.answers.len()).then(|| mail.answers.swap_remove(at))
     }
+}
+
+/// Returns the chance of what is between processes, if these have the links that ship: as the seeds of the other
+/// schedules are those of before there were any, it is one of its own.
+fn chance_of_links(seed: u64, bug: Option<Bug>) -> Option<Chance> {
+    let mut chance = Chance::new(!seed);
+    let is_linked = match bug {
+        Some(bug) => bug.is_of_links(),
+        None => chance.is_true(1, 2),
+    };
+    is_linked.then_some(chance)
 }
 
 /// How the shards of this schedule are.

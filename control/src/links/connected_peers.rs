@@ -1,7 +1,6 @@
-use super::closer::Closer;
 use super::links_inner::locked;
 use super::outbox::Outbox;
-use super::Identity;
+use super::{Closer, Identity};
 use durkenzo_driver::Members;
 use std::sync::{Arc, Mutex, Weak};
 use std::time::{Duration, Instant};
@@ -16,7 +15,7 @@ pub(super) struct ConnectedPeers(Mutex<Vec<ConnectedPeer>>);
 
 struct ConnectedPeer {
     identity: Identity,
-    closer: Weak<Closer>,
+    closer: Weak<dyn Closer>,
     outbox: Weak<Outbox>,
     /// Since when it isn't there, if it isn't.
     gone: Option<Instant>,
@@ -47,7 +46,7 @@ impl ConnectedPeer {
 impl ConnectedPeers {
     /// Notes one more, and forgets those that ended. As a process has one connection to another one at a time, those
     /// that its server had before have ended for it, and end here.
-    pub(super) fn note(&self, identity: Identity, closer: &Arc<Closer>, outbox: &Arc<Outbox>) {
+    pub(super) fn note(&self, identity: Identity, closer: &Arc<dyn Closer>, outbox: &Arc<Outbox>) {
         let mut peers = locked(&self.0);
         peers.retain(|it| it.closer.strong_count() > 0);
         let of_server = peers.iter().map(|it| (it, it.identity));
@@ -86,25 +85,20 @@ impl ConnectedPeers {
 
 #[cfg(test)]
 mod tests {
-    use super::super::trial;
+    use super::super::trial::{moment, TestCloser};
     use super::*;
     use durkenzo_driver::{Addresses, Live};
     use durkenzo_store::Revision;
-    use std::net::{TcpListener, TcpStream};
 
-    /// A process' connection: its own side, and what is held of the other one.
+    /// A process' connection, as far as it is held here.
     struct Connection {
-        own: TcpStream,
-        _closer: Arc<Closer>,
+        closer: Arc<TestCloser>,
         outbox: Arc<Outbox>,
     }
 
     impl Connection {
         fn of(peers: &ConnectedPeers, server: u16, process: u64) -> Connection {
-            let listener = TcpListener::bind("127.0.0.1:0").unwrap();
-            let own = TcpStream::connect(listener.local_addr().unwrap()).unwrap();
-            let closer = Arc::new(Closer::of(&listener.accept().unwrap().0).unwrap());
-            let outbox = Arc::default();
+            let (closer, outbox) = (Arc::new(TestCloser::default()), Arc::default());
             let settings = 0;
             let identity = Identity {
                 server,
@@ -112,20 +106,17 @@ mod tests {
                 process,
                 table: 1,
             };
-            peers.note(identity, &closer, &outbox);
-            Connection {
-                own,
-                _closer: closer,
-                outbox,
-            }
+            let held: Arc<dyn Closer> = closer.clone();
+            peers.note(identity, &held, &outbox);
+            Connection { closer, outbox }
         }
 
         fn is_ended(&self) -> bool {
-            trial::is_ended(&self.own)
+            self.closer.is_ended()
         }
 
         fn goes_on(&self) -> bool {
-            trial::goes_on(&self.own)
+            !self.is_ended()
         }
     }
 
@@ -161,7 +152,7 @@ mod tests {
         let connections =
             [(1, 5), (2, 6), (3, 7), (4, 8)].map(|it| Connection::of(&peers, it.0, it.1));
         assert!(connections[3].outbox.begin(1));
-        let now = Instant::now();
+        let now = moment(0);
         // The third is another process, and what is seen of the second lags behind.
         let seen = members([(2, 4), (3, 9)]);
         peers.tick(now, &seen);

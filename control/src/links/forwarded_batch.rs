@@ -94,10 +94,10 @@ impl<H: Host> ForwardedBatch<H> {
         self.left > 0
     }
 
-    /// Writes its frame with this number, and gives up the requests' bytes: it is written once.
-    pub(super) fn write(&mut self, number: u64, out: &mut Vec<u8>) {
+    /// Writes its frame with this number at this moment, and gives up the requests' bytes: it is written once.
+    pub(super) fn write(&mut self, number: u64, now: Instant, out: &mut Vec<u8>) {
         let messages = std::mem::take(&mut self.messages);
-        let waited = self.destination.since().elapsed().as_millis();
+        let waited = now.saturating_duration_since(self.since()).as_millis();
         let batch = RequestBatch {
             shard: self.destination.shard(),
             server: self.destination.server(),
@@ -114,8 +114,8 @@ impl<H: Host> ForwardedBatch<H> {
     }
 
     /// Whether these have waited for so long.
-    pub(super) fn has_waited(&self, wait: Duration) -> bool {
-        self.since() + wait <= Instant::now()
+    pub(super) fn has_waited(&self, wait: Duration, now: Instant) -> bool {
+        self.since() + wait <= now
     }
 
     /// Takes the outcome of the request at this place. A second outcome of a request, or one of none, changes nothing.
@@ -173,7 +173,7 @@ impl<H: Host> ForwardedBatch<H> {
 
 #[cfg(test)]
 mod tests {
-    use super::super::trial::{TestHost, TestReason, TestRequest};
+    use super::super::trial::{moment, TestDestination, TestHost, TestReason, TestRequest};
     use super::*;
     use std::sync::mpsc::Receiver;
 
@@ -182,7 +182,7 @@ mod tests {
     /// A request that may be done twice and one that may not, and where the ends of both are told.
     fn forwarded() -> (Batch, Receiver<String>) {
         let (requests, told) = TestRequest::each(&["read", "write", "change", "again"]);
-        (Batch::new(TestHost::destination(), requests), told)
+        (Batch::new(TestDestination(moment(0)), requests), told)
     }
 
     fn names(returned: Option<ReturnedRequests<TestHost>>) -> Vec<&'static str> {
@@ -192,7 +192,7 @@ mod tests {
 
     fn written(batch: &mut Batch) -> Vec<u8> {
         let mut bytes = Vec::new();
-        batch.write(1, &mut bytes);
+        batch.write(1, moment(0), &mut bytes);
         bytes
     }
 
@@ -243,7 +243,8 @@ mod tests {
     #[test]
     fn what_was_not_sent_is_refused_with_the_reason() {
         let (batch, told) = forwarded();
-        assert!(batch.has_waited(Duration::ZERO) && !batch.has_waited(Duration::from_secs(60)));
+        let second = Duration::from_secs(1);
+        assert!(!batch.has_waited(second, moment(999)) && batch.has_waited(second, moment(1_000)));
         batch.returned().unwrap().refuse(2, "nobody listens");
         let told: Vec<_> = told.try_iter().collect();
         assert!(
@@ -258,7 +259,7 @@ mod tests {
             let (mut requests, told) = TestRequest::each(&["a", "b", "c", "d"]);
             requests[1].table = 2;
             requests[2].table = 3;
-            (Batch::new(TestHost::destination(), requests), told)
+            (Batch::new(TestDestination(moment(0)), requests), told)
         };
         let (mut batch, _told) = asked();
         assert!(batch.take_unknown(3).is_empty());
@@ -278,7 +279,7 @@ mod tests {
     fn a_request_of_a_client_that_has_left_is_not_sent() {
         let (mut requests, told) = TestRequest::each(&["a", "b", "c"]);
         requests[1].is_awaited = false;
-        let mut batch = Batch::new(TestHost::destination(), requests);
+        let mut batch = Batch::new(TestDestination(moment(0)), requests);
         assert!(batch.keep_awaited());
         assert_eq!(requests_of(&written(&mut batch)), [b"a", b"c"]);
         batch.take_outcome(1, RequestOutcome::Answer(b"+OK"));
@@ -288,7 +289,7 @@ mod tests {
         assert_eq!(told.try_iter().collect::<Vec<_>>(), ["c: +OK", "a: +OK"]);
         let (mut requests, _told) = TestRequest::each(&["a"]);
         requests[0].is_awaited = false;
-        let mut batch = Batch::new(TestHost::destination(), requests);
+        let mut batch = Batch::new(TestDestination(moment(0)), requests);
         assert!(!batch.keep_awaited());
     }
 }

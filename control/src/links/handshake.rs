@@ -1,40 +1,62 @@
-//! How two processes make themselves known to each other.
-use super::channel::Channel;
+//! How two processes make themselves known to each other, as bytes that come and go.
 use super::greeting::VERSION;
 use super::{Greeting, Identity, Secret, Terms, WireFault};
-use std::io::{self, ErrorKind, Read, Write};
+use std::io;
 
-/// How much of a greeting is read at once.
-const ROOM: usize = 512;
 /// No greeting is longer.
 const MOST: usize = 8 << 10;
 
-/// Greets the process that was reached, which is to run this server, in this version; returns who it is. One that
-/// speaks an older version refuses, by [`WireFault::Older`].
-pub(super) fn greet(
-    channel: &mut Channel,
-    terms: &Terms,
+/// The side of a handshake that connects: it greets, and learns who answers.
+pub(super) struct Greeter {
+    /// Who this process is.
+    own: Identity,
+    /// The server that the other process is to run.
     server: u16,
     version: u8,
-) -> io::Result<Identity> {
-    let secret = terms.secret.as_ref().map_or(&[][..], Secret::reveal);
-    let hello = Greeting::Hello(terms.identity, server, secret.to_vec());
-    say(channel, &hello, version)?;
-    let identity = match hear(channel)? {
-        (Greeting::Welcome(identity), _) => identity,
-        (Greeting::Refusal(_), spoken) if spoken < version => {
-            return Err(io::Error::other(WireFault::Older(spoken)))
+    input: GreetingInput,
+}
+
+impl Greeter {
+    /// Greets the process that was reached, which is to run this server, in this version. Returns the greeter and the
+    /// bytes to send.
+    pub(super) fn new(terms: &Terms, server: u16, version: u8) -> (Greeter, Vec<u8>) {
+        let secret = terms.secret.as_ref().map_or(&[][..], Secret::reveal);
+        let hello = Greeting::Hello(terms.identity, server, secret.to_vec());
+        let greeter = Greeter {
+            own: terms.identity,
+            server,
+            version,
+            input: GreetingInput::default(),
+        };
+        (greeter, written(&hello, version))
+    }
+
+    /// Takes bytes that came. Returns who answers, once that is known.
+    ///
+    /// # Errors
+    ///
+    /// If the process isn't who it is to be, or refuses. One that speaks an older version refuses by
+    /// [`WireFault::Older`].
+    pub(super) fn receive(&mut self, bytes: &[u8]) -> io::Result<Option<Identity>> {
+        let Some((greeting, spoken)) = self.input.receive(bytes)? else {
+            return Ok(None);
+        };
+        let identity = match greeting {
+            Greeting::Welcome(identity) => identity,
+            Greeting::Refusal(_) if spoken < self.version => {
+                return Err(io::Error::other(WireFault::Older(spoken)))
+            }
+            Greeting::Refusal(why) => return Err(io::Error::other(why)),
+            Greeting::Hello(..) => return Err(io::Error::other("it doesn't answer a greeting")),
+        };
+        match told_apart(self.own, identity).or_else(|| not_wanted(identity, self.server)) {
+            None => Ok(Some(identity)),
+            Some(why) => Err(io::Error::other(why)),
         }
-        (Greeting::Refusal(why), _) => return Err(io::Error::other(why)),
-        (Greeting::Hello(..), _) => return Err(io::Error::other("it doesn't answer a greeting")),
-    };
-    match told_apart(terms.identity, identity).or_else(|| not_wanted(identity, server)) {
-        None => Ok(identity),
-        Some(why) => Err(io::Error::other(why)),
     }
 }
 
-/// The version that who was greeted speaks, where it is an older one.
+/// Returns the version that the greeted process speaks, if that is an older one.
 pub(super) fn older(error: &io::Error) -> Option<u8> {
     match error.get_ref()?.downcast_ref() {
         Some(WireFault::Older(version)) => Some(*version),
@@ -42,25 +64,72 @@ pub(super) fn older(error: &io::Error) -> Option<u8> {
     }
 }
 
-/// Welcomes the process that connected, if there is a slot for it, or says why not; returns who it is, and that.
-pub(super) fn welcome<T>(
-    channel: &mut Channel,
-    terms: &Terms,
-    slot: impl FnOnce() -> Option<T>,
-) -> io::Result<(Identity, T)> {
-    // Whoever calls is answered in the version that it speaks.
-    let mut version = VERSION;
-    let found = heard(channel, terms, &mut version).and_then(|it| {
-        let slot = slot().ok_or_else(|| RejectedPeer::why("it has no place for one more"))?;
-        Ok((it, slot))
-    });
-    match found {
-        Ok(found) => say(channel, &Greeting::Welcome(terms.identity), version).map(|()| found),
-        Err(RejectedPeer { why, error }) => {
-            if let Some(why) = why {
-                say(channel, &Greeting::Refusal(why), version)?;
+/// The side of a handshake that is connected to: it hears who connects, and welcomes or refuses it.
+#[derive(Default)]
+pub(super) struct Welcomer(GreetingInput);
+
+/// Who was heard.
+pub(super) enum Heard<T> {
+    /// Nobody so far: more bytes have to come.
+    Nobody,
+    /// A process that may stay, its place, and the bytes that welcome it.
+    Welcome(Identity, T, Vec<u8>),
+    /// Somebody who may not: what is sent, if anything is, and why the connection ends.
+    Rejected(Option<Vec<u8>>, io::Error),
+}
+
+impl Welcomer {
+    /// Takes bytes that came. Whoever has greeted is welcomed if there is a place, and otherwise told why not.
+    pub(super) fn receive<T>(
+        &mut self,
+        bytes: &[u8],
+        terms: &Terms,
+        place: impl FnOnce() -> Option<T>,
+    ) -> Heard<T> {
+        // Whoever calls is answered in the version that it speaks.
+        let mut version = VERSION;
+        let found = self.heard(bytes, terms, &mut version).and_then(|it| {
+            let Some(identity) = it else {
+                return Ok(None);
+            };
+            let place = place().ok_or_else(|| RejectedPeer::why("it has no place for one more"))?;
+            Ok(Some((identity, place)))
+        });
+        match found {
+            Ok(None) => Heard::Nobody,
+            Ok(Some((identity, place))) => {
+                let welcome = written(&Greeting::Welcome(terms.identity), version);
+                Heard::Welcome(identity, place, welcome)
             }
-            Err(error)
+            Err(RejectedPeer { why, error }) => {
+                let refusal = why.map(|it| written(&Greeting::Refusal(it), version));
+                Heard::Rejected(refusal, error)
+            }
+        }
+    }
+
+    /// Returns who has greeted, if it may be welcomed. Notes which version it speaks.
+    fn heard(
+        &mut self,
+        bytes: &[u8],
+        terms: &Terms,
+        version: &mut u8,
+    ) -> Result<Option<Identity>, RejectedPeer> {
+        let Some((greeting, spoken)) = self.0.receive(bytes)? else {
+            return Ok(None);
+        };
+        *version = spoken;
+        let Greeting::Hello(identity, wanted, secret) = greeting else {
+            return Err(io::Error::other("it doesn't greet").into());
+        };
+        let known = terms.secret.as_ref();
+        if !known.map_or(secret.is_empty(), |it| it.is(&secret)) {
+            return Err(RejectedPeer::why("its secret is another one"));
+        }
+        let own = terms.identity;
+        match told_apart(own, identity).or_else(|| not_wanted(own, wanted)) {
+            None => Ok(Some(identity)),
+            Some(why) => Err(RejectedPeer::why(why)),
         }
     }
 }
@@ -92,21 +161,6 @@ impl From<io::Error> for RejectedPeer {
     }
 }
 
-/// Hears of the process that connected who it is, where it may be welcomed, and which version it speaks.
-fn heard(channel: &mut Channel, terms: &Terms, version: &mut u8) -> Result<Identity, RejectedPeer> {
-    let (greeting, spoken) = hear(channel)?;
-    *version = spoken;
-    let Greeting::Hello(identity, wanted, secret) = greeting else {
-        return Err(io::Error::other("it doesn't greet").into());
-    };
-    let known = terms.secret.as_ref();
-    if !known.map_or(secret.is_empty(), |it| it.is(&secret)) {
-        return Err(RejectedPeer::why("its secret is another one"));
-    }
-    let why = told_apart(terms.identity, identity).or_else(|| not_wanted(terms.identity, wanted));
-    why.map_or(Ok(identity), |it| Err(RejectedPeer::why(it)))
-}
-
 fn told_apart(own: Identity, other: Identity) -> Option<String> {
     (own.settings != other.settings).then(|| "its settings are other ones".to_owned())
 }
@@ -116,166 +170,119 @@ fn not_wanted(found: Identity, wanted: u16) -> Option<String> {
     (server != wanted).then(|| format!("it is server {server}, not {wanted}"))
 }
 
-fn say(channel: &mut Channel, greeting: &Greeting, version: u8) -> io::Result<()> {
+fn written(greeting: &Greeting, version: u8) -> Vec<u8> {
     let mut bytes = Vec::new();
     greeting.write(version, &mut bytes);
-    channel.writer.write_all(&bytes)?;
-    channel.writer.flush()
+    bytes
 }
 
-/// Reads a greeting, which is there in time, and in which version it is: nothing follows it before it is answered.
-fn hear(channel: &mut Channel) -> io::Result<(Greeting, u8)> {
-    let (mut input, mut room) = (Vec::new(), [0; ROOM]);
-    while input.len() < MOST {
-        channel.hurry()?;
-        let count = match channel.reader.read(&mut room) {
-            // The process was stopped, and goes on.
-            Err(error) if error.kind() == ErrorKind::Interrupted => continue,
-            found => found?,
-        };
-        if count == 0 {
-            return Err(ErrorKind::UnexpectedEof.into());
-        }
-        input.extend_from_slice(&room[..count]);
-        match Greeting::read(&input).map_err(io::Error::other)? {
-            Some((greeting, version, end)) if end == input.len() => return Ok((greeting, version)),
-            Some(_) => return Err(io::Error::other("something follows its greeting")),
-            None => {}
+/// The bytes of a greeting that came so far. Nothing follows a greeting before it is answered.
+#[derive(Default)]
+struct GreetingInput(Vec<u8>);
+
+impl GreetingInput {
+    /// Takes bytes that came. Returns the greeting and its version, once it is whole.
+    fn receive(&mut self, bytes: &[u8]) -> io::Result<Option<(Greeting, u8)>> {
+        self.0.extend_from_slice(bytes);
+        match Greeting::read(&self.0).map_err(io::Error::other)? {
+            Some((greeting, version, end)) if end == self.0.len() => Ok(Some((greeting, version))),
+            Some(_) => Err(io::Error::other("something follows its greeting")),
+            None if self.0.len() >= MOST => Err(io::Error::other("its greeting is too long")),
+            None => Ok(None),
         }
     }
-    Err(io::Error::other("its greeting is too long"))
 }
 
 #[cfg(test)]
 mod tests {
-    use super::super::channel::accept;
+    use super::super::trial::terms;
     use super::*;
-    use std::net::{TcpListener, TcpStream};
-    use std::thread;
-    use std::time::{Duration, Instant};
+    use std::io::ErrorKind;
 
-    fn terms(secret: &str) -> Terms {
-        Terms {
-            identity: Identity {
-                server: 2,
-                settings: 1,
-                process: 9,
-                table: 1,
-            },
-            secret: Secret::of(secret.as_bytes()),
-            tls: None,
+    /// Who is heard in these bytes, by a process with this secret that has a place or none.
+    fn heard(known: &str, bytes: &[u8], place: Option<()>) -> Heard<()> {
+        Welcomer::default().receive(bytes, &terms(known), || place)
+    }
+
+    /// What is sent to whoever is rejected, and why.
+    fn rejected(heard: Heard<()>) -> (Option<Vec<u8>>, String) {
+        match heard {
+            Heard::Rejected(told, error) => (told, error.to_string()),
+            Heard::Nobody | Heard::Welcome(..) => panic!("it isn't rejected"),
         }
     }
 
-    /// A connection: whoever connected, and how it is met.
-    fn met(terms: &Terms) -> (TcpStream, Channel) {
-        let listener = TcpListener::bind("127.0.0.1:0").unwrap();
-        let client = TcpStream::connect(listener.local_addr().unwrap()).unwrap();
-        (client, accept(terms, listener.accept().unwrap().0).unwrap())
-    }
-
-    /// What the process that accepts and the one that connects come to, with these secrets, where there is a place or
-    /// none.
-    fn greeted(
-        known: &str,
-        shown: &str,
-        place: Option<()>,
-    ) -> (io::Result<Identity>, io::Result<Identity>) {
-        let (client, mut accepted) = met(&terms(known));
-        let shown = terms(shown);
-        let greeting = thread::spawn(move || {
-            let mut connected = accept(&shown, client).unwrap();
-            greet(&mut connected, &shown, 2, VERSION)
-        });
-        let welcomed = welcome(&mut accepted, &terms(known), || place);
-        drop(accepted);
-        (welcomed.map(|it| it.0), greeting.join().unwrap())
+    #[test]
+    fn both_sides_learn_who_the_other_one_is() {
+        let (mut greeter, hello) = Greeter::new(&terms("a"), 2, VERSION);
+        let mut welcomer = Welcomer::default();
+        let (last, begin) = hello.split_last().unwrap();
+        for byte in begin {
+            let heard = welcomer.receive(&[*byte], &terms("a"), || Some(()));
+            assert!(matches!(heard, Heard::Nobody));
+        }
+        let heard = welcomer.receive(&[*last], &terms("a"), || Some(()));
+        let Heard::Welcome(identity, (), welcome) = heard else {
+            panic!("it isn't welcomed");
+        };
+        assert_eq!(identity, terms("a").identity);
+        let (last, begin) = welcome.split_last().unwrap();
+        assert_eq!(greeter.receive(begin).unwrap(), None);
+        let known = greeter.receive(&[*last]).unwrap();
+        assert_eq!(known, Some(terms("a").identity));
     }
 
     #[test]
-    fn both_sides_learn_who_the_other_one_is_or_why_not() {
-        let (accepted, connected) = greeted("a", "a", Some(()));
-        assert_eq!(accepted.unwrap(), terms("a").identity);
-        assert_eq!(connected.unwrap(), terms("a").identity);
-        for (shown, place, why) in [
-            ("b", Some(()), "its secret is another one"),
-            ("a", None, "it has no place for one more"),
+    fn both_sides_learn_why_not() {
+        for (shown, server, place, why) in [
+            ("b", 2, Some(()), "its secret is another one"),
+            ("a", 3, Some(()), "it is server 2, not 3"),
+            ("a", 2, None, "it has no place for one more"),
         ] {
-            let (accepted, connected) = greeted("a", shown, place);
-            assert_eq!(accepted.unwrap_err().to_string(), why);
-            assert_eq!(connected.unwrap_err().to_string(), why);
+            let (mut greeter, hello) = Greeter::new(&terms(shown), server, VERSION);
+            let (told, known) = rejected(heard("a", &hello, place));
+            assert_eq!(known, why);
+            let refused = greeter.receive(&told.unwrap()).unwrap_err();
+            assert_eq!(refused.to_string(), why);
         }
     }
 
     #[test]
     fn one_of_another_version_is_told_so_and_others_nothing() {
-        let told = |greeting: &[u8]| {
-            let (mut client, mut accepted) = met(&terms("a"));
-            client.write_all(greeting).unwrap();
-            assert!(welcome(&mut accepted, &terms("a"), || Some(())).is_err());
-            drop(accepted);
-            let mut told = Vec::new();
-            client.read_to_end(&mut told).unwrap();
-            told
-        };
-        let (refusal, version, _) = Greeting::read(&told(b"SMP\0\x63")).unwrap().unwrap();
+        let (told, _) = rejected(heard("a", b"SMP\0\x63", Some(())));
+        let (refusal, version, _) = Greeting::read(&told.unwrap()).unwrap().unwrap();
         let why = "it speaks version 99, not 2".to_owned();
         assert_eq!(version, VERSION);
         assert_eq!(refusal, Greeting::Refusal(why));
-        assert!(told(b"PING\r\n").is_empty());
+        assert!(rejected(heard("a", b"PING\r\n", Some(()))).0.is_none());
+    }
+
+    #[test]
+    fn nothing_follows_a_greeting_before_it_is_answered() {
+        let mut hello = Greeter::new(&terms("a"), 2, VERSION).1;
+        hello.push(0);
+        let (told, why) = rejected(heard("a", &hello, Some(())));
+        assert_eq!((told, &*why), (None, "something follows its greeting"));
     }
 
     #[test]
     fn one_of_the_first_version_is_answered_in_that() {
-        let (mut client, mut accepted) = met(&terms("a"));
-        let mut hello = Vec::new();
-        Greeting::Hello(terms("a").identity, 2, b"a".to_vec()).write(1, &mut hello);
-        client.write_all(&hello).unwrap();
-        let (identity, ()) = welcome(&mut accepted, &terms("a"), || Some(())).unwrap();
+        let hello = Greeter::new(&terms("a"), 2, 1).1;
+        let Heard::Welcome(identity, (), told) = heard("a", &hello, Some(())) else {
+            panic!("it isn't welcomed");
+        };
         assert_eq!(identity, terms("a").identity);
-        drop(accepted);
-        let mut told = Vec::new();
-        client.read_to_end(&mut told).unwrap();
         let (greeting, version, _) = Greeting::read(&told).unwrap().unwrap();
-        assert_eq!(
-            (greeting, version),
-            (Greeting::Welcome(terms("a").identity), 1)
-        );
+        let welcome = Greeting::Welcome(terms("a").identity);
+        assert_eq!((greeting, version), (welcome, 1));
     }
 
     #[test]
-    fn one_that_speaks_an_older_version_alone_is_known_by_its_refusal() {
-        let (mut client, connected) = met(&terms("a"));
-        let greeting = thread::spawn(move || {
-            let mut connected = connected;
-            greet(&mut connected, &terms("a"), 2, VERSION)
-        });
-        let mut refusal = Vec::new();
-        Greeting::Refusal("it speaks version 2, not 1".to_owned()).write(1, &mut refusal);
-        client.write_all(&refusal).unwrap();
-        let refused = greeting.join().unwrap().unwrap_err();
+    fn one_that_speaks_an_older_version_only_is_known_by_its_refusal() {
+        let (mut greeter, _) = Greeter::new(&terms("a"), 2, VERSION);
+        let refusal = Greeting::Refusal("it speaks version 2, not 1".to_owned());
+        let refused = greeter.receive(&written(&refusal, 1)).unwrap_err();
         assert_eq!(older(&refused), Some(1));
         assert_eq!(older(&ErrorKind::TimedOut.into()), None);
-    }
-
-    #[test]
-    fn who_greets_byte_by_byte_has_no_more_time() {
-        let (mut client, mut accepted) = met(&terms("a"));
-        let began = Instant::now();
-        accepted.deadline = began + Duration::from_millis(300);
-        let slow = thread::spawn(move || {
-            // It greets for minutes, and fails once the other side has gone.
-            let mut bytes = b"SMP\0\x01\0\0\x04\0".iter().chain(&[0; 1_024]);
-            while bytes
-                .next()
-                .is_some_and(|it| client.write_all(&[*it]).is_ok())
-            {
-                thread::sleep(Duration::from_millis(100));
-            }
-        });
-        assert!(welcome(&mut accepted, &terms("a"), || Some(())).is_err());
-        assert!(began.elapsed() < Duration::from_secs(20));
-        drop(accepted);
-        slow.join().unwrap();
     }
 }

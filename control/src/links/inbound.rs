@@ -1,128 +1,143 @@
-//! How a process that connected is answered.
-use super::channel::{accept, Channel};
-use super::closer::Closer;
+//! The side of a connection that answers: what it takes, and what it sends.
 use super::connection_slot::ConnectionSlot;
 use super::frame::Frame;
-use super::handshake::welcome;
 use super::links_inner::LinksInner;
 use super::outbox::Outbox;
-use super::pending_handshakes::PendingHandshake;
 use super::read_buffer::ReadBuffer;
-use super::{Host, Identity, PeerSession, Reason, ReceivedRequests, ReplySender, RequestBatch};
-use super::{WireFault, MAX_REQUESTS};
+use super::write_buffer::WriteBuffer;
+use super::{Closer, Host, Identity, PeerSession, Reason, ReceivedRequests, ReplySender};
+use super::{RequestBatch, WireFault, MAX_REQUESTS};
 use std::io::{self, Read, Write};
-use std::net::TcpStream;
 use std::sync::atomic::Ordering;
 use std::sync::Arc;
-use std::thread;
 use std::time::{Duration, Instant};
 
-/// The connection of a process that connected to this one.
-pub(super) struct Inbound<H: Host> {
+/// Takes what a process that connected asks for.
+pub(super) struct InboundReader<H: Host> {
     inner: Arc<LinksInner<H>>,
     session: H::Session,
     outbox: Arc<Outbox>,
-    /// Who the process is.
-    peer: Identity,
+    buffer: ReadBuffer,
+    _slot: ConnectionSlot<H>,
 }
 
-impl<H: Host> Inbound<H> {
-    /// Welcomes the process that connected, and answers it until its connection ends.
-    pub(super) fn run(
+/// What a reader came to.
+#[derive(Clone, Copy, Debug, PartialEq, Eq)]
+pub(super) enum InboundState {
+    /// It reads on.
+    Reads,
+    /// It reads on once something was answered.
+    HeldUp,
+    /// It has read all, or nobody is there to be answered.
+    Over,
+}
+
+impl<H: Host> InboundReader<H> {
+    /// Answers the process that connected and was welcomed, in this slot, whose connection this ends. Returns what
+    /// reads its requests, and what sends it the answers.
+    ///
+    /// # Errors
+    ///
+    /// If the host can't answer it, or isn't there yet.
+    pub(super) fn new(
         inner: Arc<LinksInner<H>>,
-        stream: TcpStream,
-        handshake: PendingHandshake,
-    ) -> io::Result<()> {
-        let mut channel = accept(&inner.terms, stream)?;
-        let slot = || ConnectionSlot::take(&inner);
-        let (peer, _slot) = welcome(&mut channel, &inner.terms, slot)?;
-        drop(handshake);
-        channel.closer.set_patience(None)?;
+        peer: Identity,
+        slot: ConnectionSlot<H>,
+        closer: &Arc<dyn Closer>,
+    ) -> io::Result<(InboundReader<H>, InboundWriter)> {
         let Some(host) = inner.host() else {
-            return Ok(());
+            return Err(io::Error::other("nobody is answered yet"));
         };
-        let inbound = Inbound {
-            session: host.session(peer)?,
-            outbox: Arc::new(Outbox::default()),
+        let (session, outbox) = (host.session(peer)?, Arc::new(Outbox::default()));
+        inner.peers.note(peer, closer, &outbox);
+        let reader = InboundReader {
+            session,
+            outbox: outbox.clone(),
             inner,
-            peer,
+            buffer: ReadBuffer::default(),
+            _slot: slot,
         };
-        inbound.answer(channel)
+        Ok((reader, InboundWriter::new(outbox)))
     }
 
-    fn answer(mut self, channel: Channel) -> io::Result<()> {
-        let Channel {
-            mut reader,
-            mut writer,
-            closer,
-            ..
-        } = channel;
-        let closer = Arc::new(closer);
-        self.inner.peers.note(self.peer, &closer, &self.outbox);
-        let (outbox, ending) = (self.outbox.clone(), closer.clone());
-        let name = format!("answers-{}", self.peer.server);
-        let writing = thread::Builder::new().name(name);
-        let writing = writing.spawn(move || write_all(&outbox, &mut *writer, &ending))?;
-        let ended = self.read_all(&mut *reader);
-        closer.end();
-        self.outbox.end();
-        // A thread that panicked has said so.
-        let _ = writing.join();
-        ended
+    /// Returns what it is answered.
+    pub(super) fn outbox(&self) -> &Arc<Outbox> {
+        &self.outbox
     }
 
-    /// Reads frames until the connection ends, or one is wrong.
-    fn read_all(&mut self, reader: &mut dyn Read) -> io::Result<()> {
-        let mut buffer = ReadBuffer::default();
-        while buffer.fill(reader)? {
-            if !self.take_frames(&mut buffer).map_err(io::Error::other)? {
-                break;
-            }
+    /// Reads once, unless it is held up, and takes the requests that came.
+    ///
+    /// # Errors
+    ///
+    /// If a frame is wrong, and the reader's errors.
+    pub(super) fn read(&mut self, reader: &mut dyn Read) -> io::Result<InboundState> {
+        match self.take_frames().map_err(io::Error::other)? {
+            InboundState::Reads => {}
+            other => return Ok(other),
         }
-        Ok(())
+        match self.buffer.fill(reader)? {
+            true => self.take_frames().map_err(io::Error::other),
+            false => Ok(InboundState::Over),
+        }
     }
 
-    /// Takes the whole frames that came. Returns whether there is still somebody to answer.
-    fn take_frames(&mut self, buffer: &mut ReadBuffer) -> Result<bool, WireFault> {
-        while let Some((number, frame)) = buffer.take::<H::Reason>()? {
+    /// Takes the whole frames that came, as far as there is room.
+    fn take_frames(&mut self) -> Result<InboundState, WireFault> {
+        loop {
+            if self.outbox.is_held_up() {
+                return Ok(InboundState::HeldUp);
+            }
+            let Some((number, frame)) = self.buffer.take::<H::Reason>()? else {
+                return Ok(InboundState::Reads);
+            };
+            let asking = Asking {
+                inner: &self.inner,
+                outbox: &self.outbox,
+                number,
+            };
             let is_there = match frame {
-                Frame::Requests(batch) => self.execute(number, batch),
-                Frame::Command(bytes) => self.ask_control(number, bytes)?,
+                Frame::Requests(batch) => asking.execute(&mut self.session, batch),
+                Frame::Command(bytes) => asking.ask_control(&mut self.session, bytes)?,
                 // It answers where it is to ask.
                 Frame::Outcome(..) => return Err(WireFault::Kind(2)),
             };
             if !is_there {
-                return Ok(false);
+                return Ok(InboundState::Over);
             }
         }
-        Ok(true)
     }
+}
 
+/// What the frame with this number asks for.
+struct Asking<'a, H: Host> {
+    inner: &'a LinksInner<H>,
+    outbox: &'a Arc<Outbox>,
+    number: u64,
+}
+
+impl<H: Host> Asking<'_, H> {
     /// Has the host execute requests. Returns whether there is still somebody to answer.
-    fn execute(&mut self, number: u64, batch: RequestBatch<'_>) -> bool {
-        let count = batch.requests.len();
+    fn execute(&self, session: &mut H::Session, batch: RequestBatch<'_>) -> bool {
+        let (count, inner) = (batch.requests.len(), self.inner);
         let is_there = self.outbox.begin(count);
-        self.inner
-            .counts
-            .came
-            .fetch_add(count as u64, Ordering::Relaxed);
+        inner.counts.came.fetch_add(count as u64, Ordering::Relaxed);
         let RequestBatch { shard, came, .. } = batch;
         // A frame has at most 1,024 requests.
-        let senders = (0..MAX_REQUESTS as u16).map(|it| self.sender(number, it));
+        let senders = (0..MAX_REQUESTS as u16).map(|it| self.sender(it));
         let requests: Vec<_> = batch.requests.into_iter().zip(senders).collect();
-        let reason = match self.inner.is_stopping() {
+        let reason = match inner.is_stopping() {
             true => Some(H::Reason::stopped()),
-            false => (batch.server != self.inner.terms.identity.server)
+            false => (batch.server != inner.terms.identity.server)
                 .then(|| H::Reason::moved(came.revision)),
         };
         match reason {
             Some(reason) => requests
                 .into_iter()
                 .for_each(|it| it.1.refuse(reason.clone())),
-            None => self.session.execute(ReceivedRequests {
+            None => session.execute(ReceivedRequests {
                 shard,
                 came,
-                since: since(batch.waited),
+                since: since(batch.waited, inner.now()),
                 requests,
             }),
         }
@@ -130,73 +145,60 @@ impl<H: Host> Inbound<H> {
     }
 
     /// Has the host's control carry out a command. Returns whether there is still somebody to answer.
-    fn ask_control(&mut self, number: u64, command: &[u8]) -> Result<bool, WireFault> {
+    fn ask_control(&self, session: &mut H::Session, command: &[u8]) -> Result<bool, WireFault> {
         let is_there = self.outbox.begin(1);
-        let reply = self.sender(number, 0);
-        self.session.ask_control(command, reply)?;
+        session.ask_control(command, self.sender(0))?;
         Ok(is_there)
     }
 
-    fn sender(&self, number: u64, place: u16) -> ReplySender<H::Reason> {
-        ReplySender::new(self.outbox.clone(), number, place)
+    fn sender(&self, place: u16) -> ReplySender<H::Reason> {
+        ReplySender::new(self.outbox.clone(), self.number, place)
     }
 }
 
-/// The moment so many milliseconds ago. A machine that has just begun has no moment so long ago.
-fn since(waited: u32) -> Instant {
-    let now = Instant::now();
+/// The moment so many milliseconds before this one. A machine that has just begun has no moment so long ago.
+fn since(waited: u32, now: Instant) -> Instant {
     let waited = Duration::from_millis(waited.into());
     now.checked_sub(waited).unwrap_or(now)
 }
 
-/// Writes the answers, until nobody is there any more.
-fn write_all(outbox: &Outbox, writer: &mut dyn Write, closer: &Closer) {
-    while let Some(bytes) = outbox.take() {
-        let written = writer.write_all(&bytes).and_then(|()| writer.flush());
-        if written.is_err() {
-            break;
-        }
-    }
-    closer.end();
-    // The reader may wait for room, which nobody makes any more.
-    outbox.end();
+/// Sends a process that connected the answers.
+pub(super) struct InboundWriter {
+    outbox: Arc<Outbox>,
+    buffer: WriteBuffer,
 }
 
-#[cfg(test)]
-mod tests {
-    use super::super::outbox::MOST_REQUESTS;
-    use super::super::trial::{TestReason, PATIENCE};
-    use super::*;
-    use std::io::ErrorKind;
-    use std::net::TcpListener;
-    use std::sync::mpsc::channel;
-
-    /// A writer that takes nothing.
-    struct Broken;
-
-    impl Write for Broken {
-        fn write(&mut self, _: &[u8]) -> io::Result<usize> {
-            Err(ErrorKind::BrokenPipe.into())
-        }
-
-        fn flush(&mut self) -> io::Result<()> {
-            Ok(())
-        }
+impl InboundWriter {
+    /// Returns the writer of these answers.
+    pub(super) fn new(outbox: Arc<Outbox>) -> InboundWriter {
+        let buffer = WriteBuffer::default();
+        InboundWriter { outbox, buffer }
     }
 
-    #[test]
-    fn who_waits_for_room_ends_if_nothing_is_taken() {
-        let listener = TcpListener::bind("127.0.0.1:0").unwrap();
-        let stream = TcpStream::connect(listener.local_addr().unwrap()).unwrap();
-        let (outbox, closer) = (Arc::new(Outbox::default()), Closer::of(&stream).unwrap());
-        assert!(outbox.begin(MOST_REQUESTS + 2));
-        let ((tell, told), waiting) = (channel(), outbox.clone());
-        thread::spawn(move || tell.send(waiting.begin(1)));
-        let reply = ReplySender::<TestReason>::new(outbox.clone(), 1, 0);
-        assert!(reply.is_awaited());
-        reply.clone().answer(b"+OK\r\n");
-        write_all(&outbox, &mut Broken, &closer);
-        assert_eq!(told.recv_timeout(PATIENCE), Ok(false));
-        assert!(!outbox.is_answering() && !reply.is_awaited());
+    /// Returns the answers.
+    pub(super) fn outbox(&self) -> &Arc<Outbox> {
+        &self.outbox
+    }
+
+    /// Whether something is to be sent.
+    pub(super) fn has_more(&self) -> bool {
+        !self.buffer.is_written() || self.outbox.has_answers()
+    }
+
+    /// Sends what there is to send.
+    ///
+    /// # Errors
+    ///
+    /// The writer's, by which it took nothing more. After `WouldBlock` the rest may be sent later.
+    pub(super) fn write(&mut self, writer: &mut dyn Write) -> io::Result<()> {
+        loop {
+            if self.buffer.is_written() {
+                self.buffer = WriteBuffer::of(self.outbox.take());
+                if self.buffer.is_written() {
+                    return Ok(());
+                }
+            }
+            self.buffer.send(writer)?;
+        }
     }
 }

@@ -1,17 +1,14 @@
-use super::channel::{connect, Channel};
-use super::closer::Closer;
 use super::frame::Frame;
 use super::greeting::VERSION;
-use super::handshake::{greet, older};
+use super::handshake::older;
 use super::links_inner::LinksInner;
 use super::outbound_message::OutboundMessage;
 use super::read_buffer::ReadBuffer;
 use super::write_buffer::WriteBuffer;
-use super::{ForwardedRequest, Host, Identity};
-use std::collections::{HashMap, VecDeque};
-use std::io::{self, ErrorKind, Read, Write};
+use super::{Closer, Host, Identity};
+use std::collections::{BTreeMap, VecDeque};
+use std::io;
 use std::sync::{Arc, Condvar, Mutex, MutexGuard, PoisonError};
-use std::thread::{self, JoinHandle};
 use std::time::{Duration, Instant};
 
 /// How much may wait to be sent to a process, and how much it may be asked at once.
@@ -23,30 +20,39 @@ const LAST: Duration = Duration::from_millis(500);
 const FIRST_PAUSE: Duration = Duration::from_millis(20);
 const LAST_PAUSE: Duration = Duration::from_millis(500);
 
-/// The connection to the process of one server, made where it is needed, and again after it broke, or another process
-/// has the server.
+/// The link to the process of one server: what that is asked, and the connection by which it is. The connection is made
+/// where it is needed, and again after it broke, or another process has the server.
+///
+/// A link waits for nothing. Whoever has its bytes sent is woken when there is something to do.
 pub(super) struct Link<H: Host> {
-    server: u16,
+    pub(super) server: u16,
     state: Mutex<LinkState<H>>,
-    woken: Condvar,
+    /// There is something to do.
+    pub(super) woken: Condvar,
 }
 
-struct LinkState<H: Host> {
+pub(super) struct LinkState<H: Host> {
     /// What isn't sent.
     queue: VecDeque<Queued<H>>,
     bytes: usize,
-    /// What was sent, or is being sent, and has no outcome.
-    asked: HashMap<u64, OutboundMessage<H>>,
+    /// What was sent, or is being sent, and has no outcome, in the order of its numbers.
+    asked: BTreeMap<u64, OutboundMessage<H>>,
     last: u64,
     /// What ends the connection, where there is one, and the number of the process to which it is.
-    closer: Option<Arc<Closer>>,
+    closer: Option<Arc<dyn Closer>>,
     process: u64,
     /// The version of that process' table of commands.
     table: u16,
     /// Why the server wasn't reached when that was tried last, if it wasn't.
     unreached: Option<String>,
+    /// Until when it isn't tried again, how long that is after the next try in vain, and in which version it is tried.
+    paused_until: Option<Instant>,
+    pause: Duration,
+    version: u8,
     /// Since when the server isn't there, if it isn't.
     gone: Option<Instant>,
+    /// Whether a connection is there, or is being made.
+    is_begun: bool,
     is_broken: bool,
     is_over: bool,
 }
@@ -58,18 +64,33 @@ struct Queued<H: Host> {
     outgoing: OutboundMessage<H>,
 }
 
+/// What a link needs next.
+#[derive(Clone, Copy, Debug, PartialEq, Eq)]
+pub(super) enum LinkNeed {
+    /// A connection to its server's process.
+    Connection,
+    /// Nothing before this moment, or before it is asked something.
+    Nothing(Option<Instant>),
+    /// Nothing any more.
+    End,
+}
+
 impl<H: Host> Default for LinkState<H> {
     fn default() -> LinkState<H> {
         LinkState {
             queue: VecDeque::new(),
             bytes: 0,
-            asked: HashMap::new(),
+            asked: BTreeMap::new(),
             last: 0,
             closer: None,
             process: 0,
             table: 0,
             unreached: None,
+            paused_until: None,
+            pause: FIRST_PAUSE,
+            version: VERSION,
             gone: None,
+            is_begun: false,
             is_broken: false,
             is_over: false,
         }
@@ -77,6 +98,27 @@ impl<H: Host> Default for LinkState<H> {
 }
 
 impl<H: Host> LinkState<H> {
+    /// Returns what the link needs.
+    pub(super) fn need(&self, now: Instant) -> LinkNeed {
+        let paused_until = self.paused_until.filter(|it| *it > now);
+        match (self.is_over, paused_until) {
+            (true, _) => LinkNeed::End,
+            _ if self.queue.is_empty() || self.is_begun => LinkNeed::Nothing(None),
+            (false, None) => LinkNeed::Connection,
+            (false, until) => LinkNeed::Nothing(until),
+        }
+    }
+
+    /// Whether the connection has nothing to send, and goes on.
+    pub(super) fn is_idle(&self) -> bool {
+        self.queue.is_empty() && self.goes_on()
+    }
+
+    /// Whether the connection goes on.
+    pub(super) fn goes_on(&self) -> bool {
+        !self.is_over && !self.is_broken
+    }
+
     /// Ends the connection at once where a later process has the server, and after a while where none has it.
     fn follow(&mut self, now: Instant, process: Option<u64>) {
         let gone = *self.gone.get_or_insert(now);
@@ -121,18 +163,8 @@ pub(super) struct GivenUp<H: Host> {
 }
 
 impl<H: Host> Link<H> {
-    /// Begins the link to this server. It owns a thread until it is stopped.
-    pub(super) fn begin(server: u16, inner: Arc<LinksInner<H>>) -> io::Result<Arc<Link<H>>> {
-        let link = Arc::new(Link::new(server));
-        let running = link.clone();
-        let name = format!("to-{server}");
-        thread::Builder::new()
-            .name(name)
-            .spawn(move || running.run(&inner))?;
-        Ok(link)
-    }
-
-    fn new(server: u16) -> Link<H> {
+    /// Returns the link to this server.
+    pub(super) fn new(server: u16) -> Link<H> {
         Link {
             server,
             state: Mutex::default(),
@@ -140,7 +172,12 @@ impl<H: Host> Link<H> {
         }
     }
 
-    /// Whether it is there, or is being made.
+    /// Whether something waits to be sent.
+    pub(super) fn has_more(&self) -> bool {
+        !self.state().queue.is_empty()
+    }
+
+    /// Whether its process is reached.
     pub(super) fn is_connected(&self) -> bool {
         self.state().closer.is_some()
     }
@@ -198,7 +235,7 @@ impl<H: Host> Link<H> {
     }
 
     /// Ends the connection: what was sent isn't told.
-    fn cut(&self) {
+    pub(super) fn cut(&self) {
         self.state().closer.iter().for_each(|it| it.end());
     }
 
@@ -211,125 +248,55 @@ impl<H: Host> Link<H> {
         self.woken.notify_all();
     }
 
-    fn state(&self) -> MutexGuard<'_, LinkState<H>> {
+    pub(super) fn state(&self) -> MutexGuard<'_, LinkState<H>> {
         self.state.lock().unwrap_or_else(PoisonError::into_inner)
     }
 
-    /// Reaches the process whenever it is asked something, and sends it that.
-    fn run(self: Arc<Link<H>>, inner: &Arc<LinksInner<H>>) {
-        let mut pause = FIRST_PAUSE;
-        while self.wait_for_work() {
-            let begun = self.reach(inner);
-            let begun = begun.and_then(|it| self.begin_to_serve(it, inner));
-            let why = match begun {
-                Ok((writer, reading)) => {
-                    pause = FIRST_PAUSE;
-                    self.serve(writer, reading, inner);
-                    continue;
-                }
-                Err(error) => error.to_string(),
-            };
-            tracing::debug!(server = self.server, why, "a process isn't reached");
-            self.state().unreached = Some(why.clone());
-            self.give_back_all(&why, inner);
-            thread::sleep(pause);
-            pause = (2 * pause).min(LAST_PAUSE);
-        }
-        self.give_back_all("this process ends", inner);
-    }
-
-    /// Whether there is something to send, once there is, and not where it is over.
-    fn wait_for_work(&self) -> bool {
-        let state = self.state();
-        let idle = |it: &mut LinkState<H>| it.queue.is_empty() && !it.is_over;
-        let state = self.woken.wait_while(state, idle);
-        !state.unwrap_or_else(PoisonError::into_inner).is_over
-    }
-
-    /// Reaches the process, and says which one it is.
-    fn reach(&self, inner: &LinksInner<H>) -> io::Result<(Channel, Identity)> {
-        let address = inner.address_of(self.server);
-        let address = address.ok_or_else(|| io::Error::other("it isn't there"))?;
-        let greeted = |version| {
-            let mut channel = connect(&inner.terms, &address)?;
-            let identity = greet(&mut channel, &inner.terms, self.server, version)?;
-            Ok((channel, identity))
-        };
-        let (channel, identity) = greeted(VERSION).or_else(|error| match older(&error) {
-            Some(version) => greeted(version),
-            None => Err(error),
-        })?;
-        channel.closer.set_patience(None)?;
-        let (server, process, table) = (self.server, identity.process, identity.table);
-        tracing::info!(server, process, table, address, "reached a process");
-        Ok((channel, identity))
-    }
-
-    /// Has the answers of the process read, without which it is asked nothing. Returns what asks it, and who reads.
-    fn begin_to_serve(
-        self: &Arc<Link<H>>,
-        (channel, identity): (Channel, Identity),
-        inner: &Arc<LinksInner<H>>,
-    ) -> io::Result<(Writer, JoinHandle<()>)> {
-        let Channel {
-            reader,
-            writer,
-            closer,
-            ..
-        } = channel;
+    /// Begins to make a connection. Returns the version in which the process is greeted.
+    pub(super) fn begin(&self) -> u8 {
         let mut state = self.state();
-        state.closer = Some(Arc::new(closer));
+        state.is_begun = true;
+        state.version
+    }
+
+    /// Notes that the process is reached, and which one it is, by a connection that this ends.
+    pub(super) fn note_reached(&self, identity: Identity, closer: Arc<dyn Closer>) {
+        let mut state = self.state();
+        state.closer = Some(closer);
         state.process = identity.process;
         state.table = identity.table;
         state.unreached = None;
         state.is_broken = false;
+        state.pause = FIRST_PAUSE;
+        state.version = VERSION;
+    }
+
+    /// Notes that no connection came to be, and why. One that speaks an older version is greeted in that at once. Else
+    /// what waits is given back, and the process isn't tried again for a while.
+    pub(super) fn note_unreached(&self, error: &io::Error, inner: &LinksInner<H>) {
+        let (mut state, now) = (self.state(), inner.now());
+        state.is_begun = false;
+        state.closer = None;
+        if let Some(version) = older(error).filter(|it| *it < state.version) {
+            state.version = version;
+            return;
+        }
+        let why = error.to_string();
+        tracing::debug!(server = self.server, why, "a process isn't reached");
+        state.version = VERSION;
+        state.unreached = Some(why.clone());
+        state.paused_until = Some(now + state.pause);
+        state.pause = (2 * state.pause).min(LAST_PAUSE);
         drop(state);
-        let reading = self.begin_to_read(reader, inner.clone());
-        if reading.is_err() {
-            self.state().closer = None;
-        }
-        reading.map(|it| (writer, it))
+        self.give_back_all(&why, inner);
     }
 
-    /// Sends what there is to send while the connection lasts.
-    fn serve(&self, mut writer: Writer, reading: JoinHandle<()>, inner: &Arc<LinksInner<H>>) {
-        while let Some((buffer, unknown)) = self.next_frames() {
-            let unknown = unknown.into_iter();
-            unknown.for_each(|it| it.refuse_unknown(self.server));
-            if let Err((left, error)) = buffer.send(&mut *writer) {
-                self.give_back(&left, &error.to_string(), inner);
-                break;
-            }
+    /// Adds the frames to be sent next. Returns the requests that aren't sent, because the process doesn't know them.
+    pub(super) fn take_frames(&self, now: Instant, buffer: &mut WriteBuffer) -> Vec<H::Request> {
+        let (mut state, mut unknown) = (self.state(), Vec::new());
+        if !state.goes_on() {
+            return unknown;
         }
-        self.cut();
-        // A thread that panicked has said so.
-        let _ = reading.join();
-    }
-
-    fn begin_to_read(
-        self: &Arc<Link<H>>,
-        mut reader: Box<dyn Read + Send>,
-        inner: Arc<LinksInner<H>>,
-    ) -> io::Result<JoinHandle<()>> {
-        let link = self.clone();
-        let name = format!("of-{}", self.server);
-        thread::Builder::new().name(name).spawn(move || {
-            let error = link.read_all(&mut *reader, &inner);
-            link.lose_all(&error.to_string(), &inner);
-        })
-    }
-
-    /// Takes the frames to be sent next, once there are some, and the requests that aren't sent, because the process
-    /// doesn't know them. Returns `None` if the connection broke.
-    fn next_frames(&self) -> Option<(WriteBuffer, Vec<H::Request>)> {
-        let state = self.state();
-        let idle = |it: &mut LinkState<H>| it.queue.is_empty() && !it.is_over && !it.is_broken;
-        let state = self.woken.wait_while(state, idle);
-        let mut state = state.unwrap_or_else(PoisonError::into_inner);
-        if state.is_over || state.is_broken {
-            return None;
-        }
-        let (mut buffer, mut unknown) = (WriteBuffer::default(), Vec::new());
         while let Some(queued) = state.queue.pop_front() {
             let (number, mut outgoing) = (queued.number, queued.outgoing);
             state.bytes -= queued.size;
@@ -338,33 +305,25 @@ impl<H: Host> Link<H> {
             if !outgoing.keep_awaited() {
                 continue;
             }
-            buffer.add(number, |it| outgoing.write(number, it));
+            buffer.add(number, |it| outgoing.write(number, now, it));
             state.asked.insert(number, outgoing);
             if buffer.is_full() {
                 break;
             }
         }
-        Some((buffer, unknown))
-    }
-
-    /// Reads outcomes until the connection ends; returns why it did.
-    fn read_all(&self, reader: &mut dyn Read, inner: &Arc<LinksInner<H>>) -> io::Error {
-        let mut buffer = ReadBuffer::default();
-        loop {
-            match buffer.fill(reader) {
-                Ok(true) => {}
-                Ok(false) => return ErrorKind::UnexpectedEof.into(),
-                Err(error) => return error,
-            }
-            if let Err(error) = self.take_frames(&mut buffer, inner) {
-                tracing::warn!(server = self.server, %error, "a process answers wrongly");
-                return error;
-            }
-        }
+        unknown
     }
 
     /// Takes the whole frames that came.
-    fn take_frames(&self, buffer: &mut ReadBuffer, inner: &Arc<LinksInner<H>>) -> io::Result<()> {
+    ///
+    /// # Errors
+    ///
+    /// If one isn't an outcome. The connection ends then.
+    pub(super) fn take_outcomes(
+        &self,
+        buffer: &mut ReadBuffer,
+        inner: &LinksInner<H>,
+    ) -> io::Result<()> {
         while let Some((number, frame)) = buffer.take().map_err(io::Error::other)? {
             let Frame::Outcome(place, outcome) = frame else {
                 return Err(io::Error::other("it asks where it is to answer"));
@@ -381,8 +340,8 @@ impl<H: Host> Link<H> {
         Ok(())
     }
 
-    /// Nothing of what was sent will be told.
-    fn lose_all(&self, why: &str, inner: &Arc<LinksInner<H>>) {
+    /// The connection broke: nothing of what was sent will be told.
+    pub(super) fn lose_all(&self, why: &str, inner: &LinksInner<H>) {
         let mut state = self.state();
         state.is_broken = true;
         state.closer = None;
@@ -395,8 +354,13 @@ impl<H: Host> Link<H> {
         }
     }
 
+    /// The connection is over, and another one may be made.
+    pub(super) fn end_connection(&self) {
+        self.state().is_begun = false;
+    }
+
     /// What has these numbers wasn't sent.
-    fn give_back(&self, numbers: &[u64], why: &str, inner: &Arc<LinksInner<H>>) {
+    pub(super) fn give_back(&self, numbers: &[u64], why: &str, inner: &LinksInner<H>) {
         let mut state = self.state();
         let unsent = numbers.iter().filter_map(|it| state.asked.remove(it));
         let unsent: Vec<_> = unsent.collect();
@@ -406,7 +370,7 @@ impl<H: Host> Link<H> {
     }
 
     /// Nothing that waits was sent.
-    fn give_back_all(&self, why: &str, inner: &Arc<LinksInner<H>>) {
+    pub(super) fn give_back_all(&self, why: &str, inner: &LinksInner<H>) {
         let mut state = self.state();
         state.bytes = 0;
         let queue = std::mem::take(&mut state.queue);
@@ -415,9 +379,6 @@ impl<H: Host> Link<H> {
         batches.for_each(|it| inner.go_on(it, Some(why)));
     }
 }
-
-/// What asks a process.
-type Writer = Box<dyn Write + Send>;
 
 /// What isn't sent, and why.
 pub(super) struct NotSent<H: Host> {
@@ -434,9 +395,11 @@ impl<H: Host> NotSent<H> {
 #[cfg(test)]
 mod tests {
     use super::super::forwarded_batch::ForwardedBatch;
-    use super::super::trial::{goes_on, is_ended, TestCommand, TestHost, TestReason, TestRequest};
+    use super::super::trial::{links, links_of, moment, TestCloser, TestCommand, TestHost};
+    use super::super::trial::{TestDestination, TestReason, TestRequest};
+    use super::super::{ForwardedRequest, WireFault};
     use super::*;
-    use std::net::{TcpListener, TcpStream};
+    use std::sync::atomic::Ordering;
     use std::sync::mpsc::Receiver;
 
     const WAIT: Duration = Duration::from_secs(1);
@@ -449,13 +412,24 @@ mod tests {
     /// Has the link send a command. Returns where its end is told.
     fn asked(link: &Link<TestHost>) -> Receiver<String> {
         let (command, told) = TestCommand::new();
-        assert!(link.ask(OutboundMessage::command(command)).is_ok());
+        let command = OutboundMessage::command(command, moment(0));
+        assert!(link.ask(command).is_ok());
         told
     }
 
-    /// The numbers of the frames that are sent next.
+    /// Has the link send requests, each in a frame of its own.
+    fn forwarded(link: &Link<TestHost>, requests: Vec<TestRequest>) {
+        for request in requests {
+            let batch = ForwardedBatch::new(TestDestination(moment(0)), vec![request]);
+            let requests = OutboundMessage::requests(batch, WAIT, moment(0));
+            assert!(link.ask(requests).is_ok());
+        }
+    }
+
+    /// The numbers of the frames that are sent next, and the requests that aren't sent.
     fn sent(link: &Link<TestHost>) -> (Vec<u64>, Vec<TestRequest>) {
-        let (buffer, unknown) = link.next_frames().unwrap();
+        let mut buffer = WriteBuffer::default();
+        let unknown = link.take_frames(moment(0), &mut buffer);
         let (mut bytes, mut numbers, mut at) = (Vec::new(), Vec::new(), 0);
         buffer.send(&mut bytes).unwrap();
         while let Some((number, _, end)) = Frame::<TestReason>::read(&bytes[at..]).unwrap() {
@@ -469,24 +443,19 @@ mod tests {
     #[test]
     fn what_waits_too_long_to_be_sent_is_given_up_as_unsent() {
         let link = idle();
-        let (first, _sent) = (asked(&link), asked(&link));
-        let now = Instant::now();
-        assert!(link.tick(now, Some(1)).unsent.is_empty());
+        let _sent = asked(&link);
+        assert_eq!(sent(&link).0, [1]);
+        let waits = asked(&link);
+        assert!(link.tick(moment(0), Some(1)).unsent.is_empty());
         link.state().unreached = Some("its secret is another one".to_owned());
-        // The second is sent.
-        let mut state = link.state();
-        let sent = state.queue.pop_back().unwrap();
-        state.bytes -= sent.size;
-        state.asked.insert(sent.number, sent.outgoing);
-        drop(state);
-        let given_up = link.tick(now + WAIT, Some(1));
+        let given_up = link.tick(moment(1_000), Some(1));
         assert_eq!((given_up.unsent.len(), given_up.unanswered.len()), (1, 0));
         let state = link.state();
         assert_eq!((state.bytes, state.asked.len()), (0, 1));
         drop(state);
         let unsent = given_up.unsent.into_iter();
         unsent.for_each(|it| drop(it.unsent(&given_up.why)));
-        let told = first.try_recv().unwrap();
+        let told = waits.try_recv().unwrap();
         assert_eq!(told, "unreached: its secret is another one");
     }
 
@@ -496,10 +465,7 @@ mod tests {
         link.state().table = 1;
         let (mut requests, told) = TestRequest::each(&["known", "unknown"]);
         requests[1].table = 2;
-        for request in requests {
-            let batch = ForwardedBatch::new(TestHost::destination(), vec![request]);
-            assert!(link.ask(OutboundMessage::requests(batch, WAIT)).is_ok());
-        }
+        forwarded(&link, requests);
         let (numbers, unknown) = sent(&link);
         assert_eq!((numbers, unknown.len()), (vec![1], 1));
         unknown.into_iter().for_each(|it| it.refuse_unknown(2));
@@ -513,50 +479,100 @@ mod tests {
         link.state().table = 1;
         let (mut requests, _told) = TestRequest::each(&["left", "waits"]);
         requests[0].is_awaited = false;
-        for request in requests {
-            let batch = ForwardedBatch::new(TestHost::destination(), vec![request]);
-            assert!(link.ask(OutboundMessage::requests(batch, WAIT)).is_ok());
-        }
+        forwarded(&link, requests);
         assert_eq!(sent(&link).0, [2]);
         let state = link.state();
         assert_eq!((state.bytes, state.asked.len()), (0, 1));
     }
 
-    /// A link to process 7 of the server, and the other side of its connection.
-    fn connected() -> (Link<TestHost>, TcpStream) {
-        let listener = TcpListener::bind("127.0.0.1:0").unwrap();
-        let own = TcpStream::connect(listener.local_addr().unwrap()).unwrap();
-        let other = listener.accept().unwrap().0;
-        let link = idle();
+    #[test]
+    fn what_is_lost_goes_on_in_the_order_in_which_it_was_asked() {
+        let names = ["read", "again", "again", "read", "again", "read", "read"];
+        let (link, time) = (idle(), Arc::default());
+        let links = links_of(1, &time);
+        link.state().table = 1;
+        let (requests, told) = TestRequest::each(&names);
+        forwarded(&link, requests);
+        assert_eq!(sent(&link).0, [1, 2, 3, 4, 5, 6, 7]);
+        link.lose_all("it is gone", &links.inner);
+        assert!(told.try_recv().is_err());
+        time.store(30, Ordering::Relaxed);
+        // There is no host, so that each is refused as it goes on.
+        links.tick();
+        let told: Vec<_> = told.try_iter().collect();
+        let refused = names.map(|it| format!("{it}: unreached 2: this process ends"));
+        assert_eq!(told, refused);
+    }
+
+    /// A link to process 7 of the server, and what ends its connection.
+    fn connected() -> (Link<TestHost>, Arc<TestCloser>) {
+        let (link, closer) = (idle(), Arc::new(TestCloser::default()));
         link.state().process = 7;
-        link.state().closer = Some(Arc::new(Closer::of(&own).unwrap()));
-        (link, other)
+        link.state().closer = Some(closer.clone());
+        (link, closer)
     }
 
     #[test]
     fn a_connection_ends_once_another_process_has_the_server() {
-        let (link, other) = connected();
-        let now = Instant::now();
+        let (link, closer) = connected();
         // What is seen of others may lag behind whom a link has reached.
         for process in [Some(7), Some(6)] {
-            link.tick(now, process);
-            assert!(goes_on(&other));
+            link.tick(moment(0), process);
+            assert!(!closer.is_ended());
         }
-        link.tick(now, Some(8));
-        assert!(is_ended(&other));
+        link.tick(moment(0), Some(8));
+        assert!(closer.is_ended());
     }
 
     #[test]
     fn a_connection_goes_on_for_a_while_to_a_server_that_is_gone() {
-        let (link, other) = connected();
-        let now = Instant::now();
+        let (link, closer) = connected();
+        let now = moment(0);
         link.tick(now, None);
         link.tick(now + LAST / 2, None);
-        assert!(goes_on(&other));
+        assert!(!closer.is_ended());
         link.tick(now + LAST / 2, Some(7));
         link.tick(now + LAST, None);
-        assert!(goes_on(&other));
+        assert!(!closer.is_ended());
         link.tick(now + 2 * LAST, None);
-        assert!(is_ended(&other));
+        assert!(closer.is_ended());
+    }
+
+    #[test]
+    fn a_process_that_was_not_reached_is_left_alone_for_longer_each_time() {
+        let (link, inner) = (idle(), links());
+        let need = |link: &Link<TestHost>, after| link.state().need(inner.now() + after);
+        assert_eq!(need(&link, Duration::ZERO), LinkNeed::Nothing(None));
+        let (mut pause, mut waits) = (FIRST_PAUSE, Vec::new());
+        for _ in 0..9 {
+            let told = asked(&link);
+            assert_eq!(need(&link, pause), LinkNeed::Connection);
+            link.begin();
+            assert_eq!(need(&link, pause), LinkNeed::Nothing(None));
+            link.note_unreached(&io::Error::other("nobody listens"), &inner);
+            assert_eq!(told.try_recv().unwrap(), "unreached: nobody listens");
+            waits.push(asked(&link));
+            let until = inner.now() + pause;
+            assert_eq!(need(&link, pause / 2), LinkNeed::Nothing(Some(until)));
+            pause = (2 * pause).min(LAST_PAUSE);
+        }
+        link.stop();
+        assert_eq!(need(&link, pause), LinkNeed::End);
+    }
+
+    #[test]
+    fn one_of_an_older_version_is_greeted_in_that_at_once() {
+        let (link, inner) = (idle(), links());
+        let told = asked(&link);
+        let refused = io::Error::other(WireFault::Older(1));
+        assert_eq!(link.begin(), VERSION);
+        link.note_unreached(&refused, &inner);
+        assert_eq!(link.state().need(inner.now()), LinkNeed::Connection);
+        assert_eq!(link.begin(), 1);
+        // No other version is left.
+        link.note_unreached(&refused, &inner);
+        let why = refused.to_string();
+        assert_eq!(told.try_recv().unwrap(), format!("unreached: {why}"));
+        assert_eq!(link.begin(), VERSION);
     }
 }

@@ -5,8 +5,9 @@ use super::link_counts::LinkCounts;
 use super::outbound_message::OutboundMessage;
 use super::pending_handshakes::PendingHandshakes;
 use super::{Destination, Host, ReturnedRequests, Terms};
-use durkenzo_driver::Member;
+use durkenzo_driver::{Clock, Member};
 use std::collections::BTreeMap;
+use std::io;
 use std::sync::atomic::{AtomicBool, AtomicUsize, Ordering};
 use std::sync::{Arc, Mutex, MutexGuard, OnceLock, PoisonError};
 use std::time::{Duration, Instant};
@@ -14,8 +15,13 @@ use std::time::{Duration, Instant};
 /// How long until what couldn't be sent is tried again.
 const AGAIN: Duration = Duration::from_millis(30);
 
-/// What the threads of all links share.
+/// Has somebody move the bytes of a link that is new.
+pub(super) type BeginLink<H> = fn(&Arc<LinksInner<H>>, &Arc<Link<H>>) -> io::Result<()>;
+
+/// What all links of a process share.
 pub(super) struct LinksInner<H: Host> {
+    clock: Clock,
+    begin_link: BeginLink<H>,
     pub(super) terms: Terms,
     pub(super) member: Arc<Member>,
     /// How long requests wait.
@@ -34,8 +40,15 @@ pub(super) struct LinksInner<H: Host> {
 }
 
 impl<H: Host> LinksInner<H> {
-    pub(super) fn new(terms: Terms, member: Arc<Member>, wait: Duration) -> LinksInner<H> {
+    pub(super) fn new(
+        (clock, begin_link): (Clock, BeginLink<H>),
+        terms: Terms,
+        member: Arc<Member>,
+        wait: Duration,
+    ) -> LinksInner<H> {
         LinksInner {
+            clock,
+            begin_link,
             terms,
             member,
             wait,
@@ -50,16 +63,26 @@ impl<H: Host> LinksInner<H> {
         }
     }
 
+    /// This moment.
+    pub(super) fn now(&self) -> Instant {
+        self.clock.now()
+    }
+
     /// Notes the host, and how many servers the cluster has, once.
     pub(super) fn begin(&self, host: H, servers: u16) {
         // Links are begun once.
         let _ = self.begun.set((host, servers));
     }
 
-    /// Where the server's process is reached, if it is there.
-    pub(super) fn address_of(&self, server: u16) -> Option<String> {
+    /// Where the server's process is reached.
+    ///
+    /// # Errors
+    ///
+    /// If it isn't there.
+    pub(super) fn address_of(&self, server: u16) -> io::Result<String> {
         let members = self.member.members();
-        members.get(&server).map(|it| it.addresses.servers.clone())
+        let address = members.get(&server).map(|it| it.addresses.servers.clone());
+        address.ok_or_else(|| io::Error::other("it isn't there"))
     }
 
     /// The host, once others are answered.
@@ -101,12 +124,13 @@ impl<H: Host> LinksInner<H> {
         returned.refuse(server, why);
     }
 
-    fn link(self: &Arc<LinksInner<H>>, server: u16) -> std::io::Result<Arc<Link<H>>> {
+    fn link(self: &Arc<LinksInner<H>>, server: u16) -> io::Result<Arc<Link<H>>> {
         let mut links = locked(&self.links);
         if let Some(link) = links.get(&server) {
             return Ok(link.clone());
         }
-        let link = Link::begin(server, self.clone())?;
+        let link = Arc::new(Link::new(server));
+        (self.begin_link)(self, &link)?;
         links.insert(server, link.clone());
         Ok(link)
     }
@@ -116,7 +140,8 @@ impl<H: Host> LinksInner<H> {
     pub(super) fn go_on(&self, batch: ForwardedBatch<H>, why: Option<&str>) {
         // What would be tried again too late is refused by its reason, which its shard doesn't know.
         let pause = why.map_or(Duration::ZERO, |_| 2 * AGAIN);
-        let has_waited = batch.has_waited(self.wait.saturating_sub(pause));
+        let now = self.now();
+        let has_waited = batch.has_waited(self.wait.saturating_sub(pause), now);
         let Some(returned) = batch.returned() else {
             return;
         };
@@ -125,7 +150,7 @@ impl<H: Host> LinksInner<H> {
                 self.refuse(returned, why.unwrap_or("its shard moved all the time"));
             }
             None => self.resume(returned),
-            Some(_) => locked(&self.returned).push((Instant::now() + AGAIN, returned)),
+            Some(_) => locked(&self.returned).push((now + AGAIN, returned)),
         }
     }
 
@@ -142,7 +167,7 @@ impl<H: Host> LinksInner<H> {
 
     /// Has go on what is due, gives up what isn't answered in time, and ends connections to servers that have gone.
     pub(super) fn tick(&self) {
-        let now = Instant::now();
+        let now = self.now();
         let mut waiting = locked(&self.returned);
         let (due, later) = waiting.drain(..).partition(|it| it.0 <= now);
         *waiting = later;
@@ -163,6 +188,13 @@ impl<H: Host> LinksInner<H> {
             late.filter_map(|it| it.lost(&why))
                 .for_each(|it| self.go_on(it, Some(&why)));
         }
+    }
+
+    /// Ends all links for good.
+    pub(super) fn stop_links(&self) -> BTreeMap<u16, Arc<Link<H>>> {
+        let links = std::mem::take(&mut *locked(&self.links));
+        links.values().for_each(|it| it.stop());
+        links
     }
 
     /// Gives back all that was to be tried again, as this process ends.

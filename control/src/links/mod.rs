@@ -6,8 +6,8 @@
 //! are bytes that only the [`Host`] of either side reads. Nothing here decides who executes a request: the host says
 //! where it goes, and the host there looks at the shard's record before anything is done.
 //!
-//! Each queue has a bound: what would go beyond it is refused, or isn't read yet. `tests/own_service.rs` has a whole
-//! host. A connection begins so:
+//! Each queue has a bound: what would go beyond it is refused, or isn't read yet. Links decide by the bytes and the
+//! moments that they are given: only `sockets` waits. `tests/own_service.rs` has a whole host. A connection begins so:
 //!
 //! ```
 //! use durkenzo_control::links::{checksum, Greeting, Identity, FIRST_TABLE};
@@ -21,9 +21,9 @@
 //! ```
 #[cfg(test)]
 mod chance;
-mod channel;
 mod closer;
 mod connected_peers;
+mod connection;
 mod connection_slot;
 mod destination;
 mod fields;
@@ -40,6 +40,7 @@ mod keep_alive;
 mod link;
 mod link_counts;
 mod links_inner;
+mod outbound;
 mod outbound_message;
 mod outbox;
 mod peer_session;
@@ -53,12 +54,16 @@ mod request_outcome;
 mod returned_requests;
 mod secret;
 mod sent_frames;
+#[allow(clippy::disallowed_methods)]
+mod sockets;
 mod terms;
 #[cfg(test)]
 mod trial;
 mod wire_fault;
 mod write_buffer;
 
+pub use closer::Closer;
+pub use connection::{Connection, Dial};
 pub use destination::Destination;
 pub use fields::{put_text, Fields};
 pub use forwarded_command::ForwardedCommand;
@@ -67,6 +72,7 @@ pub use frame::{Frame, MAX_FRAME, MAX_REQUEST, MAX_REQUESTS};
 pub use greeting::{Greeting, MAX_SECRET};
 pub use host::Host;
 pub use identity::{checksum, Identity, FIRST_TABLE};
+pub use keep_alive::{KeepAlive, KEEP_ALIVE};
 pub use link_counts::LinkCounts;
 pub use peer_session::PeerSession;
 pub use reason::{Reason, MAX_REASON};
@@ -80,22 +86,23 @@ pub use sent_frames::SentFrames;
 pub use terms::Terms;
 pub use wire_fault::WireFault;
 
-use closer::Closer;
-use durkenzo_driver::Member;
+use durkenzo_driver::{Clock, Member};
 use forwarded_batch::ForwardedBatch;
-use inbound::Inbound;
-use links_inner::{locked, LinksInner};
+use link::LinkNeed;
+use links_inner::{locked, BeginLink, LinksInner};
 use outbound_message::OutboundMessage;
 use std::fmt;
-use std::io::{self, ErrorKind};
-use std::net::{SocketAddr, TcpListener, TcpStream};
+use std::io;
+use std::net::TcpListener;
 use std::sync::atomic::Ordering;
 use std::sync::Arc;
-use std::thread::{self, JoinHandle};
-use std::time::{Duration, Instant};
+use std::thread::JoinHandle;
+use std::time::Duration;
 
 /// How often a process looks for who connects, and for what is due.
-const TICK: Duration = Duration::from_millis(10);
+pub const TICK: Duration = Duration::from_millis(10);
+/// How long another process may take to be reached, to be met and greet in all, and to take what is sent.
+const PATIENCE: Duration = Duration::from_secs(2);
 /// How long others are told at a stop that nothing more is begun, so that they look who executes now.
 const LINGER: Duration = Duration::from_millis(200);
 /// How long a stop waits for answers that others asked for.
@@ -111,8 +118,24 @@ impl<H: Host> Links<H> {
     ///
     /// They reach others at once, and answer nobody before [`begin`](Links::begin).
     pub fn new(terms: Terms, member: Arc<Member>, wait: Duration) -> Links<H> {
+        let by = (Clock::default(), sockets::begin_link as BeginLink<H>);
         Links {
-            inner: Arc::new(LinksInner::new(terms, member, wait)),
+            inner: Arc::new(LinksInner::new(by, terms, member, wait)),
+        }
+    }
+
+    /// Returns links as [`Links::new`] does, but of no threads and by this clock. The caller makes the connections of
+    /// [`Links::dials`], gives those who connect to [`Links::accept`], moves the bytes of both, and has [`Links::tick`]
+    /// do what is due each [`TICK`]. Such links can be simulated.
+    pub fn without_threads(
+        terms: Terms,
+        member: Arc<Member>,
+        wait: Duration,
+        clock: Clock,
+    ) -> Links<H> {
+        let by = (clock, (|_, _| Ok(())) as BeginLink<H>);
+        Links {
+            inner: Arc::new(LinksInner::new(by, terms, member, wait)),
         }
     }
 
@@ -136,13 +159,15 @@ impl<H: Host> Links<H> {
         let (server, count) = (destination.server(), requests.len() as u64);
         self.inner.counts.sent.fetch_add(count, Ordering::Relaxed);
         let batch = ForwardedBatch::new(destination.clone(), requests);
+        let (wait, now) = (self.inner.wait, self.inner.now());
         self.inner
-            .ask(server, OutboundMessage::requests(batch, self.inner.wait));
+            .ask(server, OutboundMessage::requests(batch, wait, now));
     }
 
     /// Gives the command to the control in this server's process. It doesn't wait.
     pub fn ask_control(&self, server: u16, command: H::Command) {
-        self.inner.ask(server, OutboundMessage::command(command));
+        let command = OutboundMessage::command(command, self.inner.now());
+        self.inner.ask(server, command);
     }
 
     /// Returns how much went between this process and others.
@@ -169,17 +194,34 @@ impl<H: Host> Links<H> {
         servers: u16,
         host: H,
     ) -> io::Result<JoinHandle<()>> {
-        listener.set_nonblocking(true)?;
+        self.begin_without_threads(servers, host);
+        sockets::begin_to_answer(listener, self.inner.clone())
+    }
+
+    /// Begins to answer the processes that connect, by this host. The cluster has so many servers. The caller accepts
+    /// them.
+    pub fn begin_without_threads(&self, servers: u16, host: H) {
         self.inner.begin(host, servers);
-        let inner = self.inner.clone();
-        let thread = thread::Builder::new().name("peers".to_owned());
-        thread.spawn(move || {
-            while !inner.is_stopping() {
-                accept_all(&listener, &inner);
-                inner.tick();
-                thread::sleep(TICK);
-            }
-        })
+    }
+
+    /// Begins the connections that links need now, each of which the caller makes or has fail.
+    pub fn dials(&self) -> Vec<Dial<H>> {
+        let (links, now) = (locked(&self.inner.links).clone(), self.inner.now());
+        let links = links.into_values();
+        links
+            .filter(|it| it.state().need(now) == LinkNeed::Connection)
+            .map(|it| Dial::begin(it, self.inner.clone()))
+            .collect()
+    }
+
+    /// Takes the connection of whoever connected, which this ends, if there is room for it.
+    pub fn accept(&self, closer: Arc<dyn Closer>) -> Option<Connection<H>> {
+        Connection::accepted(self.inner.clone(), closer)
+    }
+
+    /// Has go on what is due, gives up what isn't answered in time, and ends connections to servers that have gone.
+    pub fn tick(&self) {
+        self.inner.tick();
     }
 
     /// Begins nothing more that others ask for, and tells them so.
@@ -193,21 +235,22 @@ impl<H: Host> Links<H> {
         self.close();
         self.inner.member.leave();
         // What was forwarded is answered yet.
-        self.linger(LINGER, STOP);
-        let links = std::mem::take(&mut *locked(&self.inner.links));
-        links.values().for_each(|it| it.stop());
-        self.linger(Duration::ZERO, LINGER);
+        sockets::linger(&self.inner, LINGER, STOP);
+        self.inner.stop_links();
+        sockets::linger(&self.inner, Duration::ZERO, LINGER);
         self.inner.peers.end();
     }
 
-    /// Waits until nothing is under way that others asked for, between so long and so long.
-    fn linger(&self, least: Duration, most: Duration) {
-        let began = Instant::now();
+    /// Leaves the cluster as [`Links::leave`] does, and waits for nothing: what is under way is lost, or told that this
+    /// process ends.
+    pub fn leave_at_once(&self) {
+        self.close();
+        self.inner.member.leave();
         self.inner.stop_returned();
-        while began.elapsed() < least || self.inner.peers.is_answering() && began.elapsed() < most {
-            thread::sleep(TICK);
-            self.inner.stop_returned();
+        for link in self.inner.stop_links().into_values() {
+            link.give_back_all("this process ends", &self.inner);
         }
+        self.inner.peers.end();
     }
 }
 
@@ -224,41 +267,4 @@ impl<H: Host> fmt::Debug for Links<H> {
             .field("terms", &self.inner.terms)
             .finish_non_exhaustive()
     }
-}
-
-/// Answers those who connected.
-fn accept_all<H: Host>(listener: &TcpListener, inner: &Arc<LinksInner<H>>) {
-    loop {
-        let (stream, from) = match listener.accept() {
-            Ok(accepted) => accepted,
-            Err(error) if error.kind() == ErrorKind::WouldBlock => return,
-            Err(error) => {
-                tracing::warn!(%error, "a process isn't accepted");
-                return;
-            }
-        };
-        if let Err(error) = answer(inner, stream, from) {
-            tracing::warn!(%error, "a process isn't answered");
-        }
-    }
-}
-
-/// Answers one who connected, on threads of its own.
-fn answer<H: Host>(
-    inner: &Arc<LinksInner<H>>,
-    stream: TcpStream,
-    from: SocketAddr,
-) -> io::Result<()> {
-    stream.set_nonblocking(false)?;
-    let Some(handshake) = inner.handshakes.take(Closer::of(&stream)?) else {
-        return Ok(());
-    };
-    let running = inner.clone();
-    let thread = thread::Builder::new().name("from".to_owned());
-    let run = move || {
-        if let Err(error) = Inbound::run(running, stream, handshake) {
-            tracing::warn!(%from, %error, "a connection of a process ended");
-        }
-    };
-    thread.spawn(run).map(drop)
 }

@@ -27,9 +27,12 @@ enum Payload<H: Host> {
 }
 
 impl<H: Host> OutboundMessage<H> {
-    /// Requests that wait for so long.
-    pub(super) fn requests(batch: ForwardedBatch<H>, wait: Duration) -> OutboundMessage<H> {
-        let now = Instant::now();
+    /// Requests that wait for so long, and are to be sent now.
+    pub(super) fn requests(
+        batch: ForwardedBatch<H>,
+        wait: Duration,
+        now: Instant,
+    ) -> OutboundMessage<H> {
         OutboundMessage {
             due: (batch.since() + wait).max(now + SOON),
             end: Some(now + wait + BEYOND),
@@ -37,11 +40,11 @@ impl<H: Host> OutboundMessage<H> {
         }
     }
 
-    /// A command for the control, whose answer may take as long as it likes.
-    pub(super) fn command(command: H::Command) -> OutboundMessage<H> {
+    /// A command for the control, which is to be sent now, and whose answer may take as long as it likes.
+    pub(super) fn command(command: H::Command, now: Instant) -> OutboundMessage<H> {
         let bytes = command.bytes();
         OutboundMessage {
-            due: Instant::now() + SEND,
+            due: now + SEND,
             end: None,
             payload: Payload::Command(command, bytes),
         }
@@ -72,10 +75,10 @@ impl<H: Host> OutboundMessage<H> {
         }
     }
 
-    /// Writes its frame with this number, once.
-    pub(super) fn write(&mut self, number: u64, out: &mut Vec<u8>) {
+    /// Writes its frame with this number at this moment, once.
+    pub(super) fn write(&mut self, number: u64, now: Instant, out: &mut Vec<u8>) {
         match &mut self.payload {
-            Payload::Requests(batch) => batch.write(number, out),
+            Payload::Requests(batch) => batch.write(number, now, out),
             Payload::Command(_, bytes) => {
                 Frame::<H::Reason>::Command(&std::mem::take(bytes)).write(number, out);
             }
@@ -153,14 +156,14 @@ impl<H: Host> OutboundMessage<H> {
 
 #[cfg(test)]
 mod tests {
-    use super::super::trial::{TestCommand, TestHost, TestReason};
+    use super::super::trial::{moment, TestCommand, TestHost, TestReason};
     use super::*;
 
     #[test]
     fn a_command_is_told_what_became_of_it() {
         let ended = |end: fn(OutboundMessage<TestHost>)| {
             let (command, told) = TestCommand::new();
-            end(OutboundMessage::command(command));
+            end(OutboundMessage::command(command, moment(0)));
             told.try_recv().unwrap()
         };
         let stopped = ended(|it| {

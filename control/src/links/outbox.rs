@@ -1,6 +1,6 @@
 use super::links_inner::locked;
 use super::{Frame, Reason, RequestOutcome};
-use std::sync::{Condvar, Mutex, MutexGuard, PoisonError};
+use std::sync::{Condvar, Mutex};
 
 /// How many requests of a process are under way here, and how many bytes of answers wait, before it is read no further.
 pub(super) const MOST_REQUESTS: usize = 1 << 16;
@@ -9,23 +9,33 @@ const MOST_BYTES: usize = 8 << 20;
 /// What another process is answered.
 #[derive(Default)]
 pub(super) struct Outbox {
-    state: Mutex<OutboxState>,
+    pub(super) state: Mutex<OutboxState>,
     /// There is something to send, or nobody is there any more.
-    told: Condvar,
+    pub(super) told: Condvar,
     /// There may be room for more requests.
-    taken: Condvar,
+    pub(super) taken: Condvar,
 }
 
 #[derive(Default)]
-struct OutboxState {
+pub(super) struct OutboxState {
     bytes: Vec<u8>,
     /// Whether some were taken that may not be sent yet.
-    is_sending: bool,
+    pub(super) is_sending: bool,
     under_way: usize,
     is_over: bool,
 }
 
 impl OutboxState {
+    /// Whether there is nothing to send, and somebody to answer.
+    pub(super) fn is_idle(&self) -> bool {
+        !self.is_over && self.bytes.is_empty()
+    }
+
+    /// Whether the process is read no further, and is still there.
+    pub(super) fn is_held_up(&self) -> bool {
+        !self.is_over && self.is_full()
+    }
+
     /// Whether no further requests begin.
     fn is_full(&self) -> bool {
         self.under_way > MOST_REQUESTS || self.bytes.len() > MOST_BYTES
@@ -33,27 +43,31 @@ impl OutboxState {
 }
 
 impl Outbox {
-    /// Waits until so many requests may begin. Returns whether there is still somebody to answer.
+    /// Whether the process is read no further, until something is sent.
+    pub(super) fn is_held_up(&self) -> bool {
+        locked(&self.state).is_held_up()
+    }
+
+    /// Notes that so many requests begin. Returns whether there is still somebody to answer.
     pub(super) fn begin(&self, requests: usize) -> bool {
-        let full = |it: &mut OutboxState| !it.is_over && it.is_full();
-        let state = self.taken.wait_while(locked(&self.state), full);
-        let mut state: MutexGuard<'_, OutboxState> = state.unwrap_or_else(PoisonError::into_inner);
+        let mut state = locked(&self.state);
         state.under_way += requests;
         !state.is_over
     }
 
-    /// The bytes that are sent next, once there are some; none where nobody is there any more. Those that were taken
-    /// before are sent.
-    pub(super) fn take(&self) -> Option<Vec<u8>> {
-        locked(&self.state).is_sending = false;
-        let idle = |it: &mut OutboxState| !it.is_over && it.bytes.is_empty();
-        let state = self.told.wait_while(locked(&self.state), idle);
-        let mut state = state.unwrap_or_else(PoisonError::into_inner);
+    /// Returns the bytes that are sent next, if there are any. Those that were taken before are sent.
+    pub(super) fn take(&self) -> Vec<u8> {
+        let mut state = locked(&self.state);
         let bytes = std::mem::take(&mut state.bytes);
         state.is_sending = !bytes.is_empty();
         drop(state);
         self.taken.notify_all();
-        (!bytes.is_empty()).then_some(bytes)
+        bytes
+    }
+
+    /// Whether something is to be sent.
+    pub(super) fn has_answers(&self) -> bool {
+        !locked(&self.state).bytes.is_empty()
     }
 
     /// Whether requests are under way, or answers wait or are being sent.
@@ -100,7 +114,6 @@ mod tests {
     use super::super::ReplySender;
     use super::*;
     use std::sync::Arc;
-    use std::thread;
 
     #[test]
     fn answers_go_in_the_order_in_which_they_come() {
@@ -110,22 +123,27 @@ mod tests {
             let reply = ReplySender::new(outbox.clone(), number, place);
             reply.refuse(TestReason::Stopped);
         }
-        let bytes = outbox.take().unwrap();
+        let bytes = outbox.take();
         let read = |it| Frame::<TestReason>::read(it).unwrap().unwrap();
         let (first, _, end) = read(&bytes);
         let (second, _, _) = read(&bytes[end..]);
         assert_eq!((first, second), (7, 4));
+        assert!(outbox.is_answering());
+        assert!(outbox.take().is_empty() && !outbox.is_answering());
         outbox.end();
-        assert!(outbox.take().is_none() && !outbox.begin(1));
+        assert!(!outbox.begin(1));
     }
 
     #[test]
     fn who_is_answered_late_is_read_no_further() {
         let outbox = Arc::new(Outbox::default());
-        assert!(outbox.begin(MOST_REQUESTS + 1));
-        let waiting = outbox.clone();
-        let thread = thread::spawn(move || waiting.begin(1));
+        assert!(outbox.begin(MOST_REQUESTS) && !outbox.is_held_up());
+        assert!(outbox.begin(1) && outbox.is_held_up());
         ReplySender::<TestReason>::new(outbox.clone(), 1, 0).answer(b"+OK\r\n");
-        assert!(thread.join().unwrap());
+        assert!(!outbox.is_held_up());
+        let reply = ReplySender::<TestReason>::new(outbox.clone(), 1, 0);
+        reply.answer(&vec![0; MOST_BYTES]);
+        assert!(outbox.is_held_up());
+        assert!(outbox.take().len() > MOST_BYTES && !outbox.is_held_up());
     }
 }

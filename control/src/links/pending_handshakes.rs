@@ -1,5 +1,5 @@
-use super::closer::Closer;
 use super::links_inner::locked;
+use super::Closer;
 use std::collections::VecDeque;
 use std::sync::{Arc, Mutex};
 
@@ -13,7 +13,7 @@ pub(super) struct PendingHandshakes(Mutex<HandshakesState>);
 
 #[derive(Default)]
 struct HandshakesState {
-    waiting: VecDeque<(u64, Closer)>,
+    waiting: VecDeque<(u64, Arc<dyn Closer>)>,
     last: u64,
     /// How many there are with those that were ended, and haven't noticed yet.
     count: usize,
@@ -27,7 +27,10 @@ pub(super) struct PendingHandshake {
 
 impl PendingHandshakes {
     /// Takes one more, whose connection this ends; none where those that were ended don't go.
-    pub(super) fn take(self: &Arc<PendingHandshakes>, end: Closer) -> Option<PendingHandshake> {
+    pub(super) fn take(
+        self: &Arc<PendingHandshakes>,
+        end: Arc<dyn Closer>,
+    ) -> Option<PendingHandshake> {
         let mut state = locked(&self.0);
         if state.count >= 2 * MOST {
             return None;
@@ -57,31 +60,28 @@ impl Drop for PendingHandshake {
 
 #[cfg(test)]
 mod tests {
-    use super::super::trial::{goes_on, is_ended};
+    use super::super::trial::TestCloser;
     use super::*;
-    use std::net::{TcpListener, TcpStream};
 
     #[test]
     fn who_comes_takes_the_place_of_who_has_taken_longest() {
-        let listener = TcpListener::bind("127.0.0.1:0").unwrap();
         let handshakes = Arc::new(PendingHandshakes::default());
         let come = || {
-            let client = TcpStream::connect(listener.local_addr().unwrap()).unwrap();
-            let (served, _) = listener.accept().unwrap();
-            let handshake = handshakes.take(Closer::of(&served).unwrap());
-            (client, served, handshake)
+            let closer = Arc::new(TestCloser::default());
+            (handshakes.take(closer.clone()), closer)
         };
         let mut came: Vec<_> = (0..2 * MOST).map(|_| come()).collect();
-        assert!(came[..MOST].iter().all(|it| is_ended(&it.0)));
-        assert!(goes_on(&came[MOST].0) && goes_on(&came[2 * MOST - 1].0));
+        let is_ended = |it: &(Option<PendingHandshake>, Arc<TestCloser>)| it.1.is_ended();
+        assert!(came[..MOST].iter().all(is_ended));
+        assert!(!came[MOST..].iter().any(is_ended));
         // Those that were ended haven't gone yet.
-        assert!(come().2.is_none());
+        assert!(come().0.is_none());
         came.drain(..MOST);
         came.push(come());
-        assert!(came[MOST].2.is_some() && is_ended(&came[0].0) && goes_on(&came[1].0));
+        assert!(came[MOST].0.is_some() && is_ended(&came[0]) && !is_ended(&came[1]));
         // One that greeted left room.
-        came[1].2 = None;
+        came[1].0 = None;
         came.push(come());
-        assert!(goes_on(&came[1].0) && goes_on(&came[2].0));
+        assert!(!is_ended(&came[1]) && !is_ended(&came[2]));
     }
 }

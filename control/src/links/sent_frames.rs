@@ -15,7 +15,8 @@ impl SentFrames {
     /// Waits for frames, and returns their bytes.
     pub fn read(&self) -> Vec<u8> {
         // Nobody else ends the outbox.
-        self.0.take().unwrap_or_default()
+        self.0.wait_for_answers();
+        self.0.take()
     }
 }
 

@@ -1,47 +1,72 @@
-//! A host for tests, whose requests and commands tell their names and how they ended, and what is seen of connections.
+//! A host for tests, whose requests and commands tell their names and how they ended.
+use super::links_inner::LinksInner;
 use super::*;
-use durkenzo_driver::Came;
-use durkenzo_store::Revision;
-use std::io::Read;
-use std::net::TcpStream;
+use durkenzo_driver::{Addresses, Came};
+use durkenzo_store::{Embedded, Revision};
+use std::sync::atomic::{AtomicBool, AtomicU64};
 use std::sync::mpsc::{channel, Receiver, Sender};
+use std::sync::OnceLock;
+use std::time::Instant;
 
-/// How long something is waited for that has to come, on a machine that may be busy.
-pub(super) const PATIENCE: Duration = Duration::from_secs(60);
-/// How long something is waited for that mustn't come.
-const MOMENT: Duration = Duration::from_millis(20);
-
-/// Whether the other side ends this connection, which it has to.
-pub(super) fn is_ended(own: &TcpStream) -> bool {
-    ends_within(own, PATIENCE)
+/// The moment so many milliseconds after the beginning of all tests, by a clock that stands still.
+pub(super) fn moment(milliseconds: u64) -> Instant {
+    static BEGINNING: OnceLock<Instant> = OnceLock::new();
+    let beginning = BEGINNING.get_or_init(|| Clock::default().now());
+    *beginning + Duration::from_millis(milliseconds)
 }
+/// What ends a connection that is none.
+#[derive(Default)]
+pub(super) struct TestCloser(AtomicBool);
 
-/// Whether the other side leaves this connection open.
-pub(super) fn goes_on(own: &TcpStream) -> bool {
-    !ends_within(own, MOMENT)
-}
-
-fn ends_within(mut own: &TcpStream, time: Duration) -> bool {
-    own.set_read_timeout(Some(time)).unwrap();
-    loop {
-        match own.read(&mut [0]) {
-            // The process was stopped, and goes on.
-            Err(error) if error.kind() == ErrorKind::Interrupted => {}
-            found => return matches!(found, Ok(0)),
-        }
+impl TestCloser {
+    /// Whether the connection was ended.
+    pub(super) fn is_ended(&self) -> bool {
+        self.0.load(Ordering::Relaxed)
     }
+}
+
+impl Closer for TestCloser {
+    fn end(&self) {
+        self.0.store(true, Ordering::Relaxed);
+    }
+}
+
+/// The terms of server 2, with this secret.
+pub(super) fn terms(secret: &str) -> Terms {
+    Terms {
+        identity: Identity {
+            server: 2,
+            settings: 1,
+            process: 9,
+            table: FIRST_TABLE,
+        },
+        secret: Secret::of(secret.as_bytes()),
+        tls: None,
+    }
+}
+
+/// Links of this server's process, by a clock that tells so many milliseconds. Their host isn't there yet.
+pub(super) fn links_of(server: u16, milliseconds: &Arc<AtomicU64>) -> Links<TestHost> {
+    let addresses = Addresses::default();
+    let store = Arc::new(Embedded::in_memory());
+    let length = Duration::from_secs(60);
+    let member = Member::join_without_thread(store, server, addresses, length, || Duration::ZERO);
+    let mut terms = terms("");
+    terms.identity.server = server;
+    let milliseconds = milliseconds.clone();
+    let clock = Clock::new(move || moment(milliseconds.load(Ordering::Relaxed)));
+    let (member, wait) = (Arc::new(member.unwrap()), Duration::from_secs(1));
+    Links::without_threads(terms, member, wait, clock)
+}
+
+/// What the links of server 1 share, whose clock stands still and whose host isn't there yet.
+pub(super) fn links() -> Arc<LinksInner<TestHost>> {
+    links_of(1, &Arc::default()).inner
 }
 
 /// A host that answers nobody.
 #[derive(Debug)]
 pub(super) struct TestHost;
-
-impl TestHost {
-    /// The server 2, which executes shard 3.
-    pub(super) fn destination() -> TestDestination {
-        TestDestination(Instant::now())
-    }
-}
 
 impl Host for TestHost {
     type Reason = TestReason;
@@ -76,7 +101,7 @@ impl PeerSession for TestSession {
 }
 
 #[derive(Clone, Debug)]
-pub(super) struct TestDestination(Instant);
+pub(super) struct TestDestination(pub(super) Instant);
 
 impl Destination for TestDestination {
     fn shard(&self) -> u16 {

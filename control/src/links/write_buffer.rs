@@ -7,11 +7,21 @@ const MOST: usize = 256 << 10;
 #[derive(Default)]
 pub(super) struct WriteBuffer {
     bytes: Vec<u8>,
+    /// How many of the bytes were written.
+    written: usize,
     /// Where each begins, with its number.
     begins: Vec<(usize, u64)>,
 }
 
 impl WriteBuffer {
+    /// Returns a buffer of these bytes, whose frames nobody asks for.
+    pub(super) fn of(bytes: Vec<u8>) -> WriteBuffer {
+        WriteBuffer {
+            bytes,
+            ..WriteBuffer::default()
+        }
+    }
+
     /// Adds the frame with this number, which this writes behind the others.
     pub(super) fn add(&mut self, number: u64, write: impl FnOnce(&mut Vec<u8>)) {
         self.begins.push((self.bytes.len(), number));
@@ -23,24 +33,32 @@ impl WriteBuffer {
         self.bytes.len() >= MOST
     }
 
-    /// Writes it, or says why not all of it, with the numbers of the frames of which nothing was written.
-    pub(super) fn send(&self, writer: &mut dyn Write) -> Result<(), (Vec<u64>, io::Error)> {
-        let (mut written, mut last) = (0, None);
-        while written < self.bytes.len() && last.is_none() {
-            match writer.write(&self.bytes[written..]) {
-                Ok(0) => last = Some(ErrorKind::WriteZero.into()),
-                Ok(count) => written += count,
+    /// Whether all of it was written.
+    pub(super) fn is_written(&self) -> bool {
+        self.written == self.bytes.len()
+    }
+
+    /// Writes what isn't written yet, as far as the writer takes it.
+    ///
+    /// # Errors
+    ///
+    /// The writer's, by which it took nothing more. After `WouldBlock` the rest may be written later.
+    pub(super) fn send(&mut self, writer: &mut dyn Write) -> io::Result<()> {
+        while !self.is_written() {
+            match writer.write(&self.bytes[self.written..]) {
+                Ok(0) => return Err(ErrorKind::WriteZero.into()),
+                Ok(count) => self.written += count,
                 Err(error) if error.kind() == ErrorKind::Interrupted => {}
-                Err(error) => last = Some(error),
+                Err(error) => return Err(error),
             }
         }
-        match last.map_or_else(|| writer.flush(), Err) {
-            Ok(()) => Ok(()),
-            Err(error) => {
-                let unsent = self.begins.iter().filter(|it| it.0 >= written);
-                Err((unsent.map(|it| it.1).collect(), error))
-            }
-        }
+        writer.flush()
+    }
+
+    /// Returns the numbers of the frames of which nothing was written.
+    pub(super) fn unsent(&self) -> Vec<u64> {
+        let unsent = self.begins.iter().filter(|it| it.0 >= self.written);
+        unsent.map(|it| it.1).collect()
     }
 }
 
@@ -68,16 +86,29 @@ mod tests {
 
     #[test]
     fn what_was_not_written_is_known() {
-        let mut buffer = WriteBuffer::default();
-        for number in 7..10 {
-            buffer.add(number, |it| it.extend([0; 10]));
-        }
-        let unsent = |room| buffer.send(&mut Narrow(room)).map_err(|it| it.0);
-        assert_eq!(unsent(30), Ok(()));
-        assert_eq!(unsent(29), Err(vec![]));
-        assert_eq!(unsent(21), Err(vec![]));
-        assert_eq!(unsent(20), Err(vec![9]));
-        assert_eq!(unsent(3), Err(vec![8, 9]));
-        assert_eq!(unsent(0), Err(vec![7, 8, 9]));
+        let sent = |room| {
+            let mut buffer = WriteBuffer::default();
+            for number in 7..10 {
+                buffer.add(number, |it| it.extend([0; 10]));
+            }
+            let is_sent = buffer.send(&mut Narrow(room)).is_ok();
+            assert_eq!(is_sent, buffer.is_written());
+            (is_sent, buffer.unsent())
+        };
+        assert_eq!(sent(30), (true, vec![]));
+        assert_eq!(sent(29), (false, vec![]));
+        assert_eq!(sent(21), (false, vec![]));
+        assert_eq!(sent(20), (false, vec![9]));
+        assert_eq!(sent(3), (false, vec![8, 9]));
+        assert_eq!(sent(0), (false, vec![7, 8, 9]));
+    }
+
+    #[test]
+    fn what_was_written_before_is_not_written_again() {
+        let mut buffer = WriteBuffer::of((0..9).collect());
+        assert!(buffer.send(&mut Narrow(4)).is_err());
+        let mut rest = Vec::new();
+        buffer.send(&mut rest).unwrap();
+        assert_eq!(rest, [4, 5, 6, 7, 8]);
     }
 }

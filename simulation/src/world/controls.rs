@@ -1,12 +1,14 @@
 //! The controls that ship, in schedules whose processes have them: operators ask them, and all is well in the end.
 use super::{server_of, World, PROCESSES, SERVERS};
 use crate::command_mail::{CommandAnswer, CommandMessage, VisitorReply};
+use crate::fault::Fault;
 use crate::key::DecodedKey;
 use crate::law::Broken;
 use crate::operator;
 use crate::operator_reply::OperatorReply;
 use crate::process::{Process, LEASE};
 use crate::reading::{self, DecodedRecord};
+use crate::timeline::Column;
 use durkenzo_control::control::{Asked, Words};
 use std::sync::atomic::Ordering;
 use std::time::Duration;
@@ -66,7 +68,7 @@ impl World {
         };
         let life = process.sender.life;
         let reply_to = OperatorReply::of((&self.ledger, &self.store), words, life);
-        process.inbox.push_back(Asked {
+        process.ask(Asked {
             words: Words::of(words),
             reply_to: Box::new(reply_to),
         });
@@ -96,11 +98,12 @@ impl World {
             return;
         }
         let is_calm = self.store().is_calm;
-        let fate = match is_calm {
-            true => 20,
-            false => self.chance.below(20),
+        let is_lost = !is_calm && self.strikes(Fault::CommandLost, 3, 20, sender.place);
+        let fate = match is_lost {
+            true => self.chance.below(3),
+            false => 20,
         };
-        let mut targets = self.processes.iter_mut().flatten();
+        let mut targets = self.processes.iter().flatten();
         let target = targets.find(|it| Some(it.member.process()) == process);
         let Some(target) = target else {
             return command.give_back("PEERDOWN nothing has changed");
@@ -119,7 +122,7 @@ impl World {
         // One that is lost may have come there.
         if fate > 1 {
             let reply_to = Box::new(VisitorReply { mails, visits });
-            target.inbox.push_back(Asked { words, reply_to });
+            target.ask(Asked { words, reply_to });
         }
     }
 
@@ -139,7 +142,8 @@ impl World {
             command,
             became,
         } = answer;
-        let is_lost = !self.store().is_calm && self.chance.is_true(1, 20);
+        let is_calm = self.store().is_calm;
+        let is_lost = !is_calm && self.strikes(Fault::CommandLost, 1, 20, sender.place);
         match (self.is_there(sender), is_lost) {
             (false, _) => {}
             (true, true) => command.lose(),
@@ -155,16 +159,25 @@ impl World {
 
     /// A process is paused: it does nothing for a while, and then goes on.
     pub(super) fn pause(&mut self) {
-        let time = Duration::from_millis(self.chance.below(PAUSE));
-        let until = self.time.passed() + time;
-        if let Some(process) = self.process() {
-            process.paused_until = until;
-        }
+        let Some(place) = self.place() else {
+            return;
+        };
+        let struck = self
+            .faults
+            .strike(Fault::Pause, 1, 1, Column::Process(place));
+        let (Some(mut chance), Some(process)) = (struck, self.processes[place].as_mut()) else {
+            return;
+        };
+        let time = Duration::from_millis(chance.below(PAUSE));
+        process.paused_until = self.time.passed() + time;
     }
 
     /// A process is to stop, or ends its stop.
     pub(super) fn stop(&mut self) {
-        let Some(place) = self.place() else {
+        let Some(place) = self
+            .place()
+            .filter(|it| self.strikes(Fault::Stop, 1, 1, *it))
+        else {
             return;
         };
         let process = self.processes[place].as_mut();
@@ -180,11 +193,12 @@ impl World {
             return;
         };
         process.is_stopping.store(true, Ordering::Relaxed);
-        while !process.inbox.is_empty() {
+        while process.is_asked() {
             process.take_turn();
         }
         let campaigner = process.campaigner.take();
         campaigner.into_iter().for_each(|it| it.end());
+        self.leave_links(&process);
         process.member.leave();
         self.bury(process);
     }
@@ -219,8 +233,9 @@ impl World {
         if !self.passes_until(WELL, missing, is_well) {
             return self.find("shards get owners that run", self.shown());
         }
-        if !self.passes_until(OVER, 0, World::is_over) {
-            self.find("all that is under way comes to its end", self.shown());
+        match self.passes_until(OVER, 0, World::is_over) {
+            true => self.rest(),
+            false => self.find("all that is under way comes to its end", self.shown()),
         }
     }
 
@@ -281,6 +296,7 @@ impl World {
             self.deliver_command();
             self.answer_command();
         }
+        self.settle_network();
         self.settle_messages();
         while self.has_heard() {}
         for process in self.processes.iter_mut().flatten() {
@@ -316,9 +332,8 @@ impl World {
 
     /// Returns whether all that was asked and was under way is over, and all servers are up.
     fn is_over(&self) -> bool {
-        let idle = |it: &Process| {
-            it.inbox.is_empty() && it.campaigner.as_ref().is_none_or(|it| it.is_idle())
-        };
+        let idle =
+            |it: &Process| !it.is_asked() && it.campaigner.as_ref().is_none_or(|it| it.is_idle());
         let is_idle = self.processes.iter().flatten().all(idle);
         let are_up = (1..=SERVERS).all(|it| self.state_of(it) == UP);
         let is_told = self.ledger.lock().expect("no panic").open() == 0;
@@ -352,14 +367,14 @@ impl World {
 
     fn state_of(&self, server: u16) -> u64 {
         let (store, key) = (self.store(), format!("state/{server:05}"));
-        let pair = store.pair_at(key.as_bytes(), store.revision);
+        let pair = store.pair_at(key.as_bytes(), store.revision());
         pair.and_then(|it| reading::state(&it.value))
             .map_or(UP, |it| it.0)
     }
 
     fn record_of(&self, shard: u16) -> DecodedRecord {
         let (store, key) = (self.store(), format!("record/{shard:05}"));
-        let pair = store.pair_at(key.as_bytes(), store.revision);
+        let pair = store.pair_at(key.as_bytes(), store.revision());
         let record = pair.and_then(|it| DecodedRecord::of(&it.value));
         record.unwrap_or_default()
     }
@@ -380,7 +395,7 @@ impl World {
         }
     }
 
-    fn find(&mut self, law: &'static str, by: String) {
+    pub(super) fn find(&mut self, law: &'static str, by: String) {
         self.fault.get_or_insert(Broken { law, by });
     }
 }

@@ -52,7 +52,7 @@ async fn follow(
     moment: &mut Revision,
     watcher: &mut Watcher,
 ) -> Ended {
-    let asked = WatchRequest::after(prefix, *moment);
+    let asked = WatchRequest::from(prefix, *moment);
     let Ok(mut stream) = gateway.watch(member, &asked).await else {
         return Ended::Lost;
     };
@@ -68,7 +68,8 @@ async fn follow(
         if found.canceled {
             return Ended::Forgotten;
         }
-        let changes: Vec<KeyChange> = found.events.into_iter().map(KeyChange::from).collect();
+        let changes = found.events.into_iter().map(KeyChange::from);
+        let changes: Vec<KeyChange> = changes.filter(|it| it.revision > *moment).collect();
         if let Some(last) = changes.last() {
             *moment = last.revision.max(*moment);
             watcher(Seen::Changes(*moment, changes));

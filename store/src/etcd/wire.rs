@@ -230,6 +230,8 @@ pub(super) struct Stored {
     value: Vec<u8>,
     #[serde(deserialize_with = "number::deserialize")]
     mod_revision: u64,
+    #[serde(deserialize_with = "number::deserialize")]
+    create_revision: u64,
 }
 
 impl From<Stored> for Pair {
@@ -238,6 +240,7 @@ impl From<Stored> for Pair {
             key: it.key,
             value: it.value,
             revision: Revision(it.mod_revision),
+            created: Revision(it.create_revision),
         }
     }
 }
@@ -357,14 +360,15 @@ struct WatchCreate {
 }
 
 impl WatchRequest {
-    /// Of all keys that begin so, after this moment.
-    pub(super) fn after(prefix: &[u8], moment: Revision) -> WatchRequest {
+    /// Of all keys that begin so, from this moment on, of which all is known. At the revision of a compaction etcd keeps
+    /// no deletions, and says only to who asks for what was before it that something is gone.
+    pub(super) fn from(prefix: &[u8], moment: Revision) -> WatchRequest {
         let (key, range_end) = (prefix.to_vec(), end_of(prefix));
         WatchRequest {
             create_request: WatchCreate {
                 key,
                 range_end,
-                start_revision: moment.next().0,
+                start_revision: moment.0,
             },
         }
     }
@@ -395,6 +399,7 @@ impl From<WatchEvent> for crate::KeyChange {
             key: pair.key,
             value,
             revision: pair.revision,
+            created: pair.created,
         }
     }
 }

@@ -186,11 +186,9 @@ impl Member {
         let mut stream =
             TcpStream::connect(self.endpoint.trim_start_matches("http://")).expect("it listens");
         let length = asked.len();
-        write!(
-            stream,
-            "POST {path} HTTP/1.0\r\nContent-Length: {length}\r\n\r\n{asked}"
-        )
-        .expect("it hears");
+        let asked = format!("POST {path} HTTP/1.0\r\nContent-Length: {length}\r\n\r\n{asked}");
+        // In one piece, as the system holds back a second one.
+        stream.write_all(asked.as_bytes()).expect("it hears");
         let mut answer = String::new();
         stream.read_to_string(&mut answer).expect("it answers");
         answer

@@ -10,7 +10,12 @@ pub struct Relay {
     pub endpoint: String,
     sent: Arc<Mutex<Vec<u8>>>,
     callers: Arc<AtomicUsize>,
+    /// The connections that go on; none can begin while there is no list.
+    connections: Connections,
 }
+
+/// Both ends of connections.
+type Connections = Arc<Mutex<Option<Vec<TcpStream>>>>;
 
 impl Relay {
     /// One before the member at this address.
@@ -25,10 +30,16 @@ impl Relay {
         let member = endpoint.trim_start_matches("http://").to_owned();
         let sent = Arc::new(Mutex::new(Vec::new()));
         let callers = Arc::new(AtomicUsize::new(0));
+        let connections: Connections = Arc::new(Mutex::new(Some(Vec::new())));
         let (noted, counted) = (Arc::clone(&sent), Arc::clone(&callers));
+        let going_on = Arc::clone(&connections);
         thread::spawn(move || {
             for client in listener.incoming() {
                 let (client, noted) = (client.expect("a caller"), Arc::clone(&noted));
+                match &mut *going_on.lock().unwrap_or_else(PoisonError::into_inner) {
+                    Some(list) => list.push(client.try_clone().expect("it")),
+                    None => continue,
+                }
                 let delay = delay(counted.fetch_add(1, Ordering::Relaxed));
                 let member = TcpStream::connect(&member).expect("it listens");
                 let (back, to) = (member.try_clone().expect("it"), client.try_clone());
@@ -45,7 +56,29 @@ impl Relay {
             endpoint,
             sent,
             callers,
+            connections,
         }
+    }
+
+    /// Ends all connections, and takes no others until it is mended.
+    pub fn cut(&self) {
+        let mut connections = self
+            .connections
+            .lock()
+            .unwrap_or_else(PoisonError::into_inner);
+        for it in connections.take().into_iter().flatten() {
+            // One that has ended already stays so.
+            let _ = it.shutdown(Shutdown::Both);
+        }
+    }
+
+    /// Takes connections again.
+    pub fn mend(&self) {
+        let mut connections = self
+            .connections
+            .lock()
+            .unwrap_or_else(PoisonError::into_inner);
+        connections.get_or_insert_with(Vec::new);
     }
 
     /// How many callers came.

@@ -1,0 +1,73 @@
+use super::step::TABLE;
+use super::{Inbox, LinkedDestination, LinkedHost, LinkedStep, Parcels};
+use crate::bug::Bug;
+use crate::ledger::SharedLedger;
+use crate::mail::Sender;
+use crate::time::Time;
+use durkenzo_control::links::{Identity, Links, Secret, Terms, FIRST_TABLE};
+use durkenzo_driver::{Clock, Durable, HandOver, Member};
+use std::sync::Arc;
+use std::time::Duration;
+
+/// The checksum of the settings that all processes have, and what each of them knows.
+const SETTINGS: u64 = 7;
+const SECRET: &[u8] = b"a secret";
+
+/// How the links of a process are.
+pub struct LinkShape {
+    pub parcels: Parcels,
+    pub ledger: SharedLedger,
+    pub bug: Option<Bug>,
+    /// How long requests wait.
+    pub wait: Duration,
+    /// Whether the process is of the version before.
+    pub is_older: bool,
+}
+
+impl LinkShape {
+    /// Returns the links of this member's process.
+    pub fn links(&self, member: &Arc<Member>, time: &Time) -> Links<LinkedHost> {
+        let identity = Identity {
+            server: member.server(),
+            settings: SETTINGS,
+            process: member.process(),
+            table: if self.is_older { FIRST_TABLE } else { TABLE },
+        };
+        let terms = Terms {
+            identity,
+            secret: Secret::of(SECRET),
+            tls: None,
+        };
+        let time = time.clone();
+        let clock = Clock::new(move || time.now());
+        Links::without_threads(terms, member.clone(), self.wait, clock)
+    }
+
+    /// Returns what sends steps to other processes by these links.
+    pub fn hand_over(&self, links: &Links<LinkedHost>, sender: Sender) -> HandOver {
+        let (links, ledger, bug) = (links.clone(), self.ledger.clone(), self.bug);
+        Box::new(move |elsewhere, steps| {
+            let steps = steps.into_iter();
+            let steps = steps.map(|it| LinkedStep::new(it, sender.life, &ledger, bug));
+            links.forward(&LinkedDestination(elsewhere), steps.collect());
+        })
+    }
+
+    /// Has the links answer other processes by these shards, and what this control is asked.
+    pub fn begin(
+        &self,
+        links: &Links<LinkedHost>,
+        servers: u16,
+        durable: &Arc<Durable>,
+        inbox: &Inbox,
+    ) {
+        let host = LinkedHost {
+            durable: Arc::downgrade(durable),
+            inbox: inbox.clone(),
+            parcels: self.parcels.clone(),
+            bug: self.bug,
+            lost: Default::default(),
+        };
+        links.begin_without_threads(servers, host);
+    }
+}

@@ -1,0 +1,103 @@
+use super::SimulatedReason;
+use crate::bug::Bug;
+use crate::ledger::SharedLedger;
+use durkenzo_control::links::{ForwardedMessage, ForwardedRequest, FIRST_TABLE};
+use durkenzo_driver::{Begin, NotDone, WorkStep};
+
+/// The version of the table of commands that processes have which aren't of the version before.
+pub const TABLE: u16 = FIRST_TABLE + 1;
+
+/// A step that a link has, and ends or gives back.
+pub struct LinkedStep {
+    /// The step, until it is ended or given back.
+    step: Option<WorkStep>,
+    /// The process that gave it to the link.
+    life: u64,
+    ledger: SharedLedger,
+    bug: Option<Bug>,
+}
+
+impl LinkedStep {
+    /// Returns the step as this process gives it to a link.
+    pub fn new(step: WorkStep, life: u64, ledger: &SharedLedger, bug: Option<Bug>) -> LinkedStep {
+        LinkedStep {
+            step: Some(step),
+            life,
+            ledger: ledger.clone(),
+            bug,
+        }
+    }
+
+    /// Takes the step back.
+    pub fn into_step(mut self) -> WorkStep {
+        self.step.take().expect("a link ends a step once")
+    }
+
+    fn step(&self) -> &WorkStep {
+        self.step.as_ref().expect("a link ends a step once")
+    }
+
+    fn end(self, why: NotDone) {
+        self.into_step().work.end(Err(why));
+    }
+}
+
+impl ForwardedRequest for LinkedStep {
+    type Reason = SimulatedReason;
+
+    fn message(&self) -> ForwardedMessage {
+        let WorkStep { begin, work } = self.step();
+        let table = match begin {
+            Begin::Keys(_) | Begin::Count => TABLE,
+            Begin::Read(_)
+            | Begin::Scan(_)
+            | Begin::Change(_)
+            | Begin::Write(_)
+            | Begin::Numbered(..) => FIRST_TABLE,
+        };
+        let bytes = work.spell();
+        ForwardedMessage { bytes, table }
+    }
+
+    fn is_awaited(&self) -> bool {
+        self.step().work.is_wanted()
+    }
+
+    fn answer(self, answer: &[u8]) {
+        self.into_step().work.answered(answer);
+    }
+
+    fn refuse(self, reason: SimulatedReason) {
+        self.end(reason.0);
+    }
+
+    fn refuse_unreached(self, _server: u16, why: &str) {
+        self.end(NotDone::NotMade(why.to_owned()));
+    }
+
+    fn refuse_unknown(self, server: u16) {
+        self.end(NotDone::NotMade(format!("server {server} doesn't know it")));
+    }
+
+    fn after_loss(self, why: &str) -> Option<LinkedStep> {
+        let begin = &self.step().begin;
+        // These change nothing if they are done twice.
+        let is_harmless = begin.only_reads() || matches!(begin, Begin::Numbered(..));
+        if is_harmless || self.bug == Some(Bug::SentAgain) {
+            return Some(self);
+        }
+        self.end(NotDone::Unknown(why.to_owned()));
+        None
+    }
+}
+
+impl Drop for LinkedStep {
+    fn drop(&mut self) {
+        let (Some(step), Ok(mut ledger)) = (&self.step, self.ledger.lock()) else {
+            return;
+        };
+        if !ledger.ended.contains(&self.life) && step.work.is_wanted() {
+            ledger.dropped.get_or_insert(format!("{:?}", step.begin));
+        }
+    }
+}

@@ -1,0 +1,24 @@
+use durkenzo_control::links::Closer;
+use std::sync::atomic::{AtomicBool, Ordering};
+
+/// Ends a side of a connection, once its bytes are moved next.
+#[derive(Default)]
+pub struct SimulatedCloser(AtomicBool);
+
+impl SimulatedCloser {
+    /// Ends it.
+    pub fn close(&self) {
+        self.0.store(true, Ordering::Relaxed);
+    }
+
+    /// Returns whether it was ended.
+    pub fn is_ended(&self) -> bool {
+        self.0.load(Ordering::Relaxed)
+    }
+}
+
+impl Closer for SimulatedCloser {
+    fn end(&self) {
+        self.close();
+    }
+}

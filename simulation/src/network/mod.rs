@@ -1,0 +1,335 @@
+//! The network between processes that have the links that ship: connections come to be, carry bytes in their order, and
+//! break.
+mod closer;
+mod disguise;
+mod pipe;
+mod wire;
+
+use crate::bug::Bug;
+use crate::chance::Chance;
+use crate::fault::Fault;
+use crate::faults::Faults;
+use crate::links::LinkedHost;
+use crate::mail::Sender;
+use crate::time::Time;
+use crate::timeline::{Column, Timeline};
+use closer::SimulatedCloser;
+use durkenzo_control::links::{Connection, Dial, Links};
+use std::collections::{BTreeMap, BTreeSet};
+use std::io::{self, ErrorKind};
+use std::sync::Arc;
+use std::time::Duration;
+use wire::{Wire, WireStream, CALLED, CALLER};
+
+/// How long it takes until a process gives up to reach another one.
+const DIALLING: Duration = Duration::from_secs(2);
+/// For how long two processes can't reach each other, and a direction carries nothing, at most.
+const HARM: u64 = 3_000;
+/// How many places there are.
+const PLACES: u64 = 4;
+
+/// One side of a connection: whose it is, and what ends it.
+struct Side {
+    sender: Sender,
+    connection: Connection<LinkedHost>,
+    closer: Arc<SimulatedCloser>,
+}
+
+/// A connection between two processes: who called first, and then who was called.
+struct Connected {
+    wire: Wire,
+    sides: [Option<Side>; 2],
+}
+
+/// A process that is being reached.
+struct Dialling {
+    from: Sender,
+    dial: Dial<LinkedHost>,
+    /// When that is given up.
+    until: Duration,
+}
+
+/// All connections of a schedule.
+pub struct SimulatedNetwork {
+    chance: Chance,
+    time: Time,
+    bug: Option<Bug>,
+    faults: Faults,
+    timeline: Timeline,
+    connected: Vec<Connected>,
+    dialling: Vec<Dialling>,
+    /// Until when one place doesn't reach another one.
+    blocked: BTreeMap<(usize, usize), Duration>,
+    /// The processes of the version before.
+    older: BTreeSet<u64>,
+    /// How many connections were made, and how many broke.
+    pub made: u64,
+    pub broken: u64,
+}
+
+impl SimulatedNetwork {
+    /// Returns a network without connections.
+    pub fn new(
+        chance: Chance,
+        time: Time,
+        bug: Option<Bug>,
+        (faults, timeline): (Faults, Timeline),
+    ) -> SimulatedNetwork {
+        SimulatedNetwork {
+            chance,
+            time,
+            bug,
+            faults,
+            timeline,
+            connected: Vec::new(),
+            dialling: Vec::new(),
+            blocked: BTreeMap::new(),
+            older: BTreeSet::new(),
+            made: 0,
+            broken: 0,
+        }
+    }
+
+    /// Notes that this process is of the version before.
+    pub fn note_older(&mut self, life: u64) {
+        self.older.insert(life);
+    }
+
+    /// Has a process begin to reach another one.
+    pub fn dial(&mut self, from: Sender, dial: Dial<LinkedHost>) {
+        match dial.address() {
+            Ok(_) => self.dialling.push(Dialling {
+                from,
+                dial,
+                until: self.time.passed() + DIALLING,
+            }),
+            Err(error) => dial.failed(&error),
+        }
+    }
+
+    /// Has processes be reached that are there, or not. If all is calm, none isn't.
+    pub fn reach(&mut self, there: &[(Sender, &Links<LinkedHost>)], is_calm: bool) {
+        for dialling in std::mem::take(&mut self.dialling) {
+            let Dialling { from, dial, until } = dialling;
+            let to = dial.address().ok().and_then(|it| it.parse().ok());
+            let (now, place) = (self.time.passed(), to.unwrap_or(usize::MAX));
+            let is_blocked = !is_calm && self.blocked.get(&(from.place, place)) > Some(&now);
+            let found = there.iter().find(|it| it.0.place == place);
+            let column = Column::Process(from.place);
+            let fails = !is_calm && self.faults.strikes(Fault::DialFails, 1, 12, column);
+            match found {
+                Some((to, links)) if !fails && !is_blocked => {
+                    self.connect(from, dial, *to, links);
+                }
+                _ if fails || until <= now => dial.failed(&ErrorKind::ConnectionRefused.into()),
+                _ => self.dialling.push(Dialling { from, dial, until }),
+            }
+        }
+    }
+
+    fn connect(
+        &mut self,
+        from: Sender,
+        dial: Dial<LinkedHost>,
+        to: Sender,
+        links: &Links<LinkedHost>,
+    ) {
+        let closers = [(); 2].map(|()| Arc::new(SimulatedCloser::default()));
+        let Some(called) = links.accept(closers[CALLED].clone()) else {
+            return dial.failed(&ErrorKind::ConnectionReset.into());
+        };
+        let caller = dial.made(closers[CALLER].clone());
+        let are_older = [from, to].map(|it| self.older.contains(&it.life));
+        let [first, second] = closers;
+        let side = |sender, connection, closer| {
+            Some(Side {
+                sender,
+                connection,
+                closer,
+            })
+        };
+        self.made += 1;
+        let reaches = || format!("reaches {}", to.place + 1);
+        self.timeline.note(Column::Process(from.place), reaches);
+        self.connected.push(Connected {
+            wire: Wire::new(&mut self.chance, are_older),
+            sides: [side(from, caller, first), side(to, called, second)],
+        });
+    }
+
+    /// Some bytes of some connection go on, on the side of a process that isn't paused.
+    pub fn go_on(&mut self, is_paused: impl Fn(Sender) -> bool) {
+        let at = self.chance.below(self.connected.len().max(1) as u64) as usize;
+        let side = self.chance.below(2) as usize;
+        let found = self.connected.get(at);
+        let sender = found.and_then(|it| it.sides[side].as_ref().map(|it| it.sender));
+        if sender.is_some_and(|it| !is_paused(it)) {
+            self.move_bytes(at, side);
+        }
+    }
+
+    /// All bytes go on, as far as that leads to no end of more.
+    pub fn settle(&mut self) {
+        const ROUNDS: usize = 2_000;
+        for _ in 0..ROUNDS {
+            let mut has_moved = false;
+            for at in (0..self.connected.len()).rev() {
+                for side in [CALLER, CALLED] {
+                    has_moved |= self.move_bytes(at, side);
+                }
+            }
+            self.forget_ended();
+            if !has_moved {
+                return;
+            }
+        }
+    }
+
+    /// What this process has still to send goes, as far as it can.
+    pub fn flush(&mut self, life: u64) {
+        for at in 0..self.connected.len() {
+            for side in [CALLER, CALLED] {
+                let sides = &self.connected[at].sides;
+                let is_own = sides[side]
+                    .as_ref()
+                    .is_some_and(|it| it.sender.life == life);
+                while is_own && self.move_bytes(at, side) {}
+            }
+        }
+        self.forget_ended();
+    }
+
+    /// One side writes and reads once. Returns whether bytes moved, or the side ended.
+    fn move_bytes(&mut self, at: usize, side: usize) -> bool {
+        let (now, bug) = (self.time.passed(), self.bug);
+        let Some(Connected { wire, sides }) = self.connected.get_mut(at) else {
+            return false;
+        };
+        let Some(moving) = &mut sides[side] else {
+            return false;
+        };
+        let before = wire.moved();
+        let mut stream = wire.stream(side, &mut self.chance, now);
+        stream.keeps_alive = bug != Some(Bug::NoKeepAlive);
+        stream.is_torn = bug == Some(Bug::TornFrame) && side == CALLER;
+        let ended = moving.exchange(stream);
+        let is_refused = wire.disguise();
+        let has_moved = wire.moved() != before;
+        if let Err(error) = &ended {
+            self.end(at, side, error);
+        }
+        if is_refused {
+            self.end(at, CALLED, &ErrorKind::ConnectionReset.into());
+        }
+        has_moved || ended.is_err() || is_refused
+    }
+
+    /// One side has ended: the other one reads that, or that the connection was reset.
+    fn end(&mut self, at: usize, side: usize, error: &io::Error) {
+        let Connected { wire, sides } = &mut self.connected[at];
+        if let Some(ended) = sides[side].take() {
+            self.broken += 1;
+            let is_reset = self.chance.is_true(1, 3);
+            wire.end(side, is_reset);
+            ended.connection.end(error);
+        }
+    }
+
+    /// A process is gone with all its sides: with its machine, so that nobody is told, or not.
+    pub fn forget(&mut self, life: u64) {
+        let now = self.time.passed();
+        self.dialling.retain(|it| it.from.life != life);
+        for Connected { wire, sides } in &mut self.connected {
+            for side in [CALLER, CALLED] {
+                let is_own = |it: &mut Side| it.sender.life == life;
+                if let Some(gone) = sides[side].take_if(is_own) {
+                    let column = Column::Process(gone.sender.place);
+                    match self.faults.strikes(Fault::MachineGone, 1, 3, column) {
+                        true => wire.go_dark(side, now),
+                        false => wire.end(side, self.chance.is_true(1, 3)),
+                    }
+                }
+            }
+        }
+        self.forget_ended();
+    }
+
+    fn forget_ended(&mut self) {
+        let is_there = |it: &Connected| it.sides.iter().any(Option::is_some);
+        self.connected.retain(is_there);
+    }
+
+    /// Returns how many connections are there of which one side is gone, or that are to be made.
+    pub fn half_connected(&self) -> usize {
+        let is_half = |it: &&Connected| it.sides.iter().any(Option::is_none);
+        self.dialling.len() + self.connected.iter().filter(is_half).count()
+    }
+
+    /// Something fails: a direction carries nothing for a while or for good, a connection breaks, or one process
+    /// doesn't reach another one.
+    pub fn harm(&mut self) {
+        let at = self.chance.below(self.connected.len().max(1) as u64) as usize;
+        let connected = self.connected.get(at);
+        let sides = connected.map(|it| it.sides.iter().flatten());
+        let place = sides.and_then(|mut it| it.next()).map(|it| it.sender.place);
+        match (self.chance.below(8), place) {
+            (0 | 1, _) => self.block(),
+            (2..=5, Some(place)) => self.cut(at, place),
+            (_, Some(place)) => {
+                let column = Column::Process(place);
+                if self.faults.strikes(Fault::ConnectionBreaks, 1, 1, column) {
+                    let sides = self.connected[at].sides.iter().flatten();
+                    sides.for_each(|it| it.closer.close());
+                }
+            }
+            (_, None) => {}
+        }
+    }
+
+    /// One process doesn't reach another one.
+    fn block(&mut self) {
+        let [from, to] = [(); 2].map(|()| self.chance.below(PLACES) as usize);
+        let column = Column::Process(from);
+        if let Some(mut chance) = self.faults.strike(Fault::PlaceBlocked, 1, 1, column) {
+            let for_long = Duration::from_millis(chance.below(HARM));
+            let until = self.time.passed() + for_long;
+            self.blocked.insert((from, to), until);
+        }
+    }
+
+    /// One direction of a connection of that place carries nothing, or both do.
+    fn cut(&mut self, at: usize, place: usize) {
+        let column = Column::Process(place);
+        let struck = self.faults.strike(Fault::ConnectionCut, 1, 1, column);
+        let Some(mut chance) = struck else {
+            return;
+        };
+        let (now, wire) = (self.time.passed(), &mut self.connected[at].wire);
+        let for_long = Duration::from_millis(chance.below(HARM));
+        let until = chance.is_true(1, 2).then_some(now + for_long);
+        let cut: &[usize] = match chance.below(4) {
+            0 => &[CALLER, CALLED],
+            1 | 2 => &[CALLER],
+            _ => &[CALLED],
+        };
+        cut.iter().for_each(|side| wire.cut(*side, now, until));
+    }
+}
+
+impl Side {
+    /// Writes and reads once. Fails if the side has ended.
+    fn exchange(&mut self, mut stream: WireStream<'_>) -> io::Result<()> {
+        stream.is_closed = self.closer.is_ended();
+        goes_on(self.connection.write(&mut stream))?;
+        goes_on(self.connection.read(&mut stream))?;
+        self.connection.tick()
+    }
+}
+
+/// Has `WouldBlock` be no end.
+fn goes_on(moved: io::Result<()>) -> io::Result<()> {
+    match moved {
+        Err(error) if error.kind() == ErrorKind::WouldBlock => Ok(()),
+        other => other,
+    }
+}

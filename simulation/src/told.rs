@@ -1,0 +1,47 @@
+//! How timelines tell of transactions and of what became of them.
+use crate::flight::Became;
+use durkenzo_store::{Outcome, Seen, Transaction};
+
+/// Returns a key without the zeros that pad its numbers.
+pub fn key(key: &[u8]) -> String {
+    let text = String::from_utf8_lossy(key);
+    let parts = text.split('/').map(|it| match it.trim_start_matches('0') {
+        "" if !it.is_empty() => "0",
+        trimmed => trimmed,
+    });
+    parts.collect::<Vec<_>>().join("/")
+}
+
+/// Returns what a transaction writes and deletes, or that it only compares.
+pub fn summary(transaction: &Transaction) -> String {
+    let puts = transaction.puts.iter().map(|it| key(&it.key));
+    let deletes = transaction.deletes.iter().map(|it| format!("-{}", key(it)));
+    let written: Vec<String> = puts.chain(deletes).collect();
+    match written.is_empty() {
+        true => {
+            let compared = transaction.compares.iter().map(|it| key(&it.key));
+            format!("compare {}", compared.collect::<Vec<_>>().join(" "))
+        }
+        false => written.join(" "),
+    }
+}
+
+/// Returns what became of a transaction.
+pub fn became(became: &Became) -> String {
+    match became {
+        Ok(Outcome::Made(revision)) => format!("made {revision}"),
+        Ok(Outcome::Lost(reading)) => format!("lost at {}", reading.revision),
+        Err(error) => format!("error: {error}"),
+    }
+}
+
+/// Returns what a watch tells.
+pub fn seen(seen: &Seen) -> String {
+    match seen {
+        Seen::All(reading) => format!("sees all at {}", reading.revision),
+        Seen::Changes(revision, changes) => {
+            let keys: Vec<String> = changes.iter().map(|it| key(&it.key)).collect();
+            format!("sees {revision}: {}", keys.join(" "))
+        }
+    }
+}

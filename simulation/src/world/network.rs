@@ -1,0 +1,93 @@
+//! What happens between processes that have the links that ship.
+use super::World;
+use crate::links::LinkedHost;
+use crate::mail::Sender;
+use crate::process::Process;
+use durkenzo_control::links::Links;
+use std::time::Duration;
+
+/// How often bytes move at once, at most.
+const MOVES: u64 = 64;
+
+impl World {
+    /// Bytes go on between processes.
+    pub(super) fn move_bytes(&mut self) {
+        let moves = 1 + self.chance.below(MOVES);
+        let (now, processes) = (self.time.passed(), &self.processes);
+        let is_paused = |it: Sender| {
+            let process = processes[it.place].as_ref();
+            process.is_some_and(|it| it.paused_until > now)
+        };
+        if let Some(network) = &mut self.network {
+            (0..moves).for_each(|_| network.go_on(is_paused));
+        }
+    }
+
+    /// Processes that links need are reached, or aren't.
+    pub(super) fn reach(&mut self) {
+        let (is_calm, now) = (self.store().is_calm, self.time.passed());
+        let there: Vec<_> = there(&self.processes, now).collect();
+        if let Some(network) = &mut self.network {
+            for (sender, links) in &there {
+                let dials = links.dials().into_iter();
+                dials.for_each(|it| network.dial(*sender, it));
+            }
+            network.reach(&there, is_calm);
+        }
+    }
+
+    /// Links do what is due.
+    pub(super) fn tick_links(&mut self) {
+        let links = self.process().and_then(|it| it.links.clone());
+        links.iter().for_each(Links::tick);
+    }
+
+    /// Something fails between processes.
+    pub(super) fn harm_network(&mut self) {
+        self.network.iter_mut().for_each(|it| it.harm());
+    }
+
+    /// All that is on its way between processes comes there.
+    pub(super) fn settle_network(&mut self) {
+        let now = self.time.passed();
+        there(&self.processes, now).for_each(|it| it.1.tick());
+        self.reach();
+        self.network.iter_mut().for_each(|it| it.settle());
+    }
+
+    /// A process leaves the others, which read what it has still to tell.
+    pub(super) fn leave_links(&mut self, process: &Process) {
+        // Who asked it something sees that it ends.
+        let mut ledger = self.ledger.lock().expect("no panic");
+        ledger.ended.insert(process.sender.life);
+        drop(ledger);
+        if let (Some(links), Some(network)) = (&process.links, &mut self.network) {
+            links.close();
+            network.flush(process.sender.life);
+            links.leave_at_once();
+        }
+    }
+
+    /// Checks that links ended all that they got, or gave it back.
+    pub(super) fn judge_links(&mut self) {
+        let ledger = self.ledger.lock().expect("no panic");
+        let dropped = ledger.dropped.clone();
+        drop(ledger);
+        if let Some(dropped) = dropped {
+            self.find("what a link gets is ended or goes on", dropped);
+        }
+        if let Some(network) = &self.network {
+            (self.tally.reached, self.tally.broken) = (network.made, network.broken);
+        }
+    }
+}
+
+/// The processes that aren't paused, and their links.
+fn there(
+    processes: &[Option<Process>],
+    now: Duration,
+) -> impl Iterator<Item = (Sender, &Links<LinkedHost>)> {
+    let there = processes.iter().flatten();
+    let there = there.filter(move |it| it.paused_until <= now);
+    there.filter_map(|it| Some((it.sender, it.links.as_ref()?)))
+}

@@ -1,0 +1,66 @@
+//! What failed once fails no more, one seed is one run, and what still fails is shrunk and drawn.
+use simulation::bug::Bug;
+use simulation::faults::Kept;
+use simulation::plan::Plan;
+use simulation::shrink::shrunk;
+use simulation::world::{run, run_by};
+
+/// The seeds that failed, each with why.
+const SEEDS: &str = include_str!("../seeds.txt");
+
+#[test]
+fn seeds_that_failed_fail_no_more() {
+    let lines = SEEDS.lines().filter(|it| !it.starts_with('#'));
+    for line in lines {
+        let (seed, why) = line.split_once(' ').expect("a seed and why");
+        let seed = seed.parse().expect("a number");
+        if let Err(broken) = run(seed, None).1 {
+            panic!("seed {seed}, {why}: {}: {}", broken.law, broken.by);
+        }
+    }
+}
+
+/// The schedule that a plan shows.
+fn shown(plan: &Plan) -> String {
+    let ran = run_by(&Plan {
+        is_shown: true,
+        ..plan.clone()
+    });
+    ran.timeline.expect("it is shown")
+}
+
+/// A bug that needs faults is shrunk to few, which break the same law again, and are in the timeline.
+#[test]
+fn what_fails_is_shrunk_and_drawn() {
+    let bug = Some(Bug::UnknownAsLost);
+    let found = (0..).find(|it| run(*it, bug).1.is_err());
+    let plan = Plan::new(found.expect("a seed"), bug);
+    let law = run_by(&plan).verdict.expect_err("it fails").law;
+    let faults = shrunk(&plan).expect("it fails");
+    assert!((1..=8).contains(&faults.len()), "{faults:?}");
+    let kept = |it: &[_]| Plan {
+        kept: Kept::Only(it.iter().copied().collect()),
+        ..plan.clone()
+    };
+    let shrunk = kept(&faults);
+    let ran = run_by(&shrunk);
+    assert_eq!(ran.verdict.expect_err("it fails").law, law);
+    assert_eq!(ran.struck.len(), faults.len());
+    let timeline = shown(&shrunk);
+    assert_eq!(timeline, shown(&shrunk));
+    for fault in &faults {
+        assert!(
+            timeline.contains(&format!("! {fault}")),
+            "{fault}: {timeline}"
+        );
+    }
+    // None of them can be left out.
+    for at in 0..faults.len() {
+        let fewer = [&faults[..at], &faults[at + 1..]].concat();
+        let verdict = run_by(&kept(&fewer)).verdict;
+        assert!(
+            verdict.map_or_else(|it| it.law != law, |()| true),
+            "{fewer:?}"
+        );
+    }
+}
