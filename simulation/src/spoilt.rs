@@ -121,7 +121,7 @@ impl SimulatedStore {
                 heads.for_each(|it| one_batch_less(&mut it.value));
             }
             Some(Bug::WrongHead) => {
-                let moment = self.revision.saturating_sub(self.chance.below(6));
+                let moment = self.revision().saturating_sub(self.chance.below(6));
                 let heads = reading.pairs.iter_mut();
                 for it in heads.filter(|it| it.key.starts_with(b"head/")) {
                     if let Some(before) = self.pair_at(&it.key, moment) {
