@@ -813,6 +813,7 @@ fn written(seen: Seen) -> (Revision, Vec<Pair>) {
                     key: it.key,
                     value: it.value?,
                     revision: it.revision,
+                    created: it.created,
                 })
             });
             (moment, written.collect())

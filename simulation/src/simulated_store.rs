@@ -14,6 +14,8 @@ use std::time::Duration;
 /// What a key has held since a revision: nothing, if that deleted it.
 struct KeyVersion {
     since: u64,
+    /// The revision that created the key; 0 if this one deleted it.
+    created: u64,
     value: Option<Vec<u8>>,
     lease: Option<LeaseId>,
 }
@@ -91,6 +93,7 @@ impl SimulatedStore {
             key: key.to_vec(),
             value: last.value.clone()?,
             revision: Revision(last.since),
+            created: Revision(last.created),
         })
     }
 
@@ -181,13 +184,22 @@ impl SimulatedStore {
         let deletes = transaction.deletes.iter().map(|it| (it, None, None));
         let mut changes = Vec::new();
         for (key, value, lease) in puts.chain(deletes) {
+            let versions = self.held.entry(key.clone()).or_default();
+            let before = versions.last().map_or(0, |it| it.created);
+            let created = match (&value, before) {
+                (None, _) => 0,
+                (Some(_), 0) => self.revision,
+                (Some(_), before) => before,
+            };
             changes.push(KeyChange {
                 key: key.clone(),
                 value: value.clone(),
                 revision: Revision(self.revision),
+                created: Revision(created),
             });
-            self.held.entry(key.clone()).or_default().push(KeyVersion {
+            versions.push(KeyVersion {
                 since: self.revision,
+                created,
                 value,
                 lease,
             });

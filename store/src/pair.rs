@@ -9,6 +9,8 @@ pub struct Pair {
     pub value: Vec<u8>,
     /// The revision of the transaction that wrote it last.
     pub revision: Revision,
+    /// The revision of the transaction that created it. It stays until the key is deleted.
+    pub created: Revision,
 }
 
 /// What lay in the store at one moment.

@@ -10,6 +10,8 @@ pub struct KeyChange {
     pub value: Option<Vec<u8>>,
     /// The revision that did it.
     pub revision: Revision,
+    /// The revision that created the key; [`Revision::NEVER`] if it was deleted.
+    pub created: Revision,
 }
 
 /// What a watch tells.

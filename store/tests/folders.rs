@@ -108,7 +108,7 @@ fn refuses_another_version() {
             opened,
             Err(OpenError::OtherVersion {
                 found: 7,
-                known: 2,
+                known: 3,
                 ..
             })
         ),
@@ -162,6 +162,38 @@ fn reads_the_version_without_checksums() {
         .map(|it| (&it.value[..], it.revision.0));
     assert_eq!(told.collect::<Vec<_>>(), [(&b"1"[..], 3), (b"3", 6)]);
     assert_eq!(reading.revision.0, 6);
+}
+
+/// A file of the version whose rows don't say when their keys were created.
+#[test]
+fn dates_the_keys_of_an_earlier_version() {
+    let folder = Folder::new();
+    drop(folder.open());
+    let earlier = rusqlite::Connection::open(file(&folder)).expect("it");
+    let words = "
+        ALTER TABLE pairs DROP COLUMN created;
+        ALTER TABLE pairs DROP COLUMN created_checksum;
+        UPDATE moment SET revision = 5, checksum = NULL;
+        INSERT INTO pairs VALUES (CAST('a' AS BLOB), CAST('1' AS BLOB), 3, NULL, NULL);
+        PRAGMA user_version = 2;
+    ";
+    earlier.execute_batch(words).expect("it");
+    drop(earlier);
+    let store = folder.open();
+    let created = || {
+        let reading = store.read(&[b"a", b"b"]).expect("a reading");
+        let told = reading.pairs.iter().map(|it| it.created.0);
+        told.collect::<Vec<_>>()
+    };
+    assert_eq!(created(), [1]);
+    let put = |key| store.make(Transaction::new().put(key, "3")).expect("made");
+    for key in ["a", "b", "b"] {
+        put(key);
+    }
+    assert_eq!(created(), [1, 7]);
+    store.make(Transaction::new().delete("a")).expect("made");
+    put("a");
+    assert_eq!(created(), [10, 7]);
 }
 
 /// One bit of the file is another one: then it isn't opened, or what is read is right or refused.

@@ -37,6 +37,7 @@ impl Simplest {
                 key: it.key.clone(),
                 value: it.value.clone(),
                 revision,
+                created: self.0.get(&it.key).map_or(revision, |it| it.created),
             };
             self.0.insert(it.key.clone(), pair);
         }
@@ -200,11 +201,13 @@ fn tells_a_watch_all_changes_in_order() {
             key: b"seen/1".to_vec(),
             value: None,
             revision: second,
+            created: Revision::NEVER,
         };
         let written = KeyChange {
             key: b"seen/2".to_vec(),
             value: Some(b"d".to_vec()),
             revision: second,
+            created: second,
         };
         assert_eq!((moment, changes), (second, vec![deleted, written]));
 

@@ -74,6 +74,7 @@ impl Target for EtcdAnswers {
             key: b"a".to_vec(),
             value: b"b".to_vec(),
             revision: Revision(3),
+            created: Revision(2),
         }];
         let range = range(Revision(7), &pairs);
         let answers = [
@@ -117,11 +118,13 @@ fn of_watch(found: WatchResult) -> Result<(), String> {
             key,
             value,
             revision,
+            created,
         } = change;
         let pair = Pair {
             key,
             value: value.unwrap_or_default(),
             revision,
+            created,
         };
         of_range(pair.revision, vec![pair])?;
     }
@@ -138,6 +141,7 @@ fn stored(pair: &Pair) -> Value {
         "key": base64::encode(&pair.key),
         "value": base64::encode(&pair.value),
         "mod_revision": pair.revision.0.to_string(),
+        "create_revision": pair.created.0.to_string(),
     })
 }
 

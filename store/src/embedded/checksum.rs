@@ -11,6 +11,11 @@ impl RowChecksum {
         RowChecksum::of_row(&pair.key, &pair.value, pair.revision)
     }
 
+    /// That of when this pair's key was created, which stays while the key is written over.
+    pub(super) fn of_creation(pair: &Pair) -> RowChecksum {
+        RowChecksum::of_row(&pair.key, &[], pair.created)
+    }
+
     /// That of the moment's row, which has neither key nor value.
     pub(super) fn of_moment(moment: Revision) -> RowChecksum {
         RowChecksum::of_row(&[], &[], moment)
@@ -41,6 +46,7 @@ mod tests {
             key: key.into(),
             value: value.into(),
             revision: Revision(revision),
+            created: Revision(revision),
         })
     }
 
@@ -64,6 +70,7 @@ mod tests {
             key: b"batch/00001/1".to_vec(),
             value: vec![7; 300],
             revision: Revision(9),
+            created: Revision(9),
         };
         let whole = RowChecksum::of(&pair);
         for bit in 0..300 * 8 {

@@ -278,6 +278,7 @@ impl<T: Tables> Engine<T> {
                     key: key.clone(),
                     value: None,
                     revision,
+                    created: Revision::NEVER,
                 });
             }
         }
@@ -286,12 +287,14 @@ impl<T: Tables> Engine<T> {
                 key: it.key.clone(),
                 value: it.value.clone(),
                 revision,
+                created: revision,
             };
-            self.tables.put(&pair, it.lease)?;
+            let created = self.tables.put(&pair, it.lease)?;
             changes.push(KeyChange {
                 key: pair.key,
                 value: Some(pair.value),
                 revision,
+                created,
             });
         }
         Ok(())

@@ -6,14 +6,22 @@ use std::collections::BTreeMap;
 #[derive(Default)]
 pub(super) struct MemoryTables {
     moment: Revision,
-    entries: BTreeMap<Vec<u8>, (Vec<u8>, Revision)>,
+    entries: BTreeMap<Vec<u8>, Entry>,
 }
 
-fn pair((key, (value, revision)): (&Vec<u8>, &(Vec<u8>, Revision))) -> Pair {
+/// What lies at a key.
+struct Entry {
+    value: Vec<u8>,
+    revision: Revision,
+    created: Revision,
+}
+
+fn pair((key, entry): (&Vec<u8>, &Entry)) -> Pair {
     Pair {
         key: key.clone(),
-        value: value.clone(),
-        revision: *revision,
+        value: entry.value.clone(),
+        revision: entry.revision,
+        created: entry.created,
     }
 }
 
@@ -26,7 +34,7 @@ impl Tables for MemoryTables {
         Ok(self
             .entries
             .get(key)
-            .map_or(Revision::NEVER, |(_, revision)| *revision))
+            .map_or(Revision::NEVER, |entry| entry.revision))
     }
 
     fn pair_of(&self, key: &[u8]) -> Result<Option<Pair>, TableFailure> {
@@ -57,10 +65,16 @@ impl Tables for MemoryTables {
         Ok(())
     }
 
-    fn put(&mut self, pair: &Pair, _lease: Option<LeaseId>) -> Result<(), TableFailure> {
-        self.entries
-            .insert(pair.key.clone(), (pair.value.clone(), pair.revision));
-        Ok(())
+    fn put(&mut self, pair: &Pair, _lease: Option<LeaseId>) -> Result<Revision, TableFailure> {
+        let before = self.entries.get(&pair.key);
+        let entry = Entry {
+            value: pair.value.clone(),
+            revision: pair.revision,
+            created: before.map_or(pair.created, |it| it.created),
+        };
+        let created = entry.created;
+        self.entries.insert(pair.key.clone(), entry);
+        Ok(created)
     }
 
     fn delete(&mut self, key: &[u8]) -> Result<bool, TableFailure> {

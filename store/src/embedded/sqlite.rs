@@ -13,12 +13,14 @@ const FILE: &str = "durkenzo.sqlite";
 /// What marks the file as ours.
 const APPLICATION: i64 = 0x4475_726b;
 /// The version of its form.
-const VERSION: i64 = 2;
-/// The version before, whose rows have no checksums.
+const VERSION: i64 = 3;
+/// The version before, whose rows don't say when their keys were created.
+const UNDATED: i64 = 2;
+/// The version before that, whose rows have no checksums.
 const UNSUMMED: i64 = 1;
 const SCHEMA: &str = "
     CREATE TABLE pairs (key BLOB PRIMARY KEY NOT NULL, value BLOB NOT NULL, revision INTEGER NOT NULL, lease INTEGER,
-        checksum INTEGER);
+        checksum INTEGER, created INTEGER, created_checksum INTEGER);
     CREATE INDEX leased ON pairs (lease) WHERE lease IS NOT NULL;
     CREATE TABLE moment (revision INTEGER NOT NULL, checksum INTEGER);
     INSERT INTO moment (revision) VALUES (0);
@@ -27,11 +29,23 @@ const SCHEMA: &str = "
 const SUMMED: &str = "
     ALTER TABLE pairs ADD COLUMN checksum INTEGER;
     ALTER TABLE moment ADD COLUMN checksum INTEGER;
+    ALTER TABLE pairs ADD COLUMN created INTEGER;
+    ALTER TABLE pairs ADD COLUMN created_checksum INTEGER;
 ";
+/// Keys that were there before tell [`FIRST`] until they are deleted.
+const DATED: &str = "
+    ALTER TABLE pairs ADD COLUMN created INTEGER;
+    ALTER TABLE pairs ADD COLUMN created_checksum INTEGER;
+";
+/// The revision that created keys of an earlier version, which kept no such revision.
+const FIRST: Revision = Revision(1);
+/// A key that is written over keeps when it was created, and the checksum of that.
 const PUT: &str = "
-    INSERT INTO pairs (key, value, revision, lease, checksum) VALUES (?1, ?2, ?3, ?4, ?5)
+    INSERT INTO pairs (key, value, revision, lease, checksum, created, created_checksum)
+    VALUES (?1, ?2, ?3, ?4, ?5, ?6, ?7)
     ON CONFLICT (key) DO UPDATE SET value = excluded.value, revision = excluded.revision, lease = excluded.lease,
         checksum = excluded.checksum
+    RETURNING created
 ";
 
 /// Why nothing is written where a little room is left.
@@ -79,7 +93,20 @@ enum Form {
     New,
     /// Its rows have no checksums.
     Unsummed,
-    Summed,
+    /// Its rows don't say when their keys were created.
+    Undated,
+    Latest,
+}
+
+impl Form {
+    /// What gives such a file the latest form, if it isn't of that form already.
+    fn bettering(self) -> Option<&'static str> {
+        match self {
+            Form::New | Form::Latest => None,
+            Form::Unsummed => Some(SUMMED),
+            Form::Undated => Some(DATED),
+        }
+    }
 }
 
 impl From<rusqlite::Error> for NotOpened {
@@ -106,10 +133,10 @@ fn opened(folder: &Path, file: &Path, sync: Sync) -> Result<Sqlite, NotOpened> {
     }
     look_through(&connection)?;
     let mut reserve = Reserve::open(folder).map_err(NotOpened::Reserve)?;
-    if form == Form::Unsummed {
+    if let Some(schema) = form.bettering() {
         // A full disk may have room for it by what is kept back.
         reserve.lend(Kept::Nothing);
-        connection.execute_batch(&bettered(SUMMED))?;
+        connection.execute_batch(&bettered(schema))?;
         reserve.take_back();
     }
     let moment = moment_without_leases(&connection)?;
@@ -171,7 +198,8 @@ fn form(connection: &Connection) -> Result<Form, NotOpened> {
     let (application, found) = (number("application_id")?, number("user_version")?);
     let known = VERSION;
     match application {
-        APPLICATION if found == known => Ok(Form::Summed),
+        APPLICATION if found == known => Ok(Form::Latest),
+        APPLICATION if found == UNDATED => Ok(Form::Undated),
         APPLICATION if found == UNSUMMED => Ok(Form::Unsummed),
         APPLICATION => Err(NotOpened::Form(Box::new(move |file| {
             OpenError::OtherVersion { file, found, known }
@@ -248,15 +276,23 @@ fn revision(number: i64) -> Revision {
     Revision(number.unsigned_abs())
 }
 
+/// The revision that created a key, by what its row says of that.
+fn created(number: Option<i64>) -> Revision {
+    number.map_or(FIRST, revision)
+}
+
 /// The pair of a row, if it has the bytes that were written.
 fn pair(row: &Row<'_>) -> Result<Pair, TableFailure> {
     let pair = Pair {
         key: row.get(0)?,
         value: row.get(1)?,
         revision: row.get(2).map(revision)?,
+        created: row.get(4).map(created)?,
     };
-    let sum: Option<i64> = row.get(3)?;
-    match sum.is_none_or(|it| it == RowChecksum::of(&pair).number()) {
+    let (sum, of_created): (Option<i64>, Option<i64>) = (row.get(3)?, row.get(5)?);
+    let is_whole = sum.is_none_or(|it| it == RowChecksum::of(&pair).number())
+        && of_created.is_none_or(|it| it == RowChecksum::of_creation(&pair).number());
+    match is_whole {
         true => Ok(pair),
         false => Err(TableFailure::Damaged(changed(&pair.key))),
     }
@@ -322,13 +358,13 @@ impl Tables for Sqlite {
     fn pair_of(&self, key: &[u8]) -> Result<Option<Pair>, TableFailure> {
         let mut query = self
             .connection
-            .prepare_cached("SELECT key, value, revision, checksum FROM pairs WHERE key = ?1")?;
+            .prepare_cached("SELECT key, value, revision, checksum, created, created_checksum FROM pairs WHERE key = ?1")?;
         let mut found = query.query_and_then([key], pair)?;
         found.next().transpose()
     }
 
     fn pairs(&self, prefix: &[u8]) -> Result<Vec<Pair>, TableFailure> {
-        let sql = "SELECT key, value, revision, checksum FROM pairs WHERE key >= ?1 ORDER BY key";
+        let sql = "SELECT key, value, revision, checksum, created, created_checksum FROM pairs WHERE key >= ?1 ORDER BY key";
         let mut query = self.connection.prepare_cached(sql)?;
         let mut rows = query.query([prefix])?;
         let mut found = Vec::new();
@@ -343,7 +379,7 @@ impl Tables for Sqlite {
 
     fn range(&self, from: &[u8], end: &[u8], most: usize) -> Result<Vec<Pair>, TableFailure> {
         let words = "
-            SELECT key, value, revision, checksum FROM pairs WHERE key >= ?1 AND key < ?2 ORDER BY key LIMIT ?3
+            SELECT key, value, revision, checksum, created, created_checksum FROM pairs WHERE key >= ?1 AND key < ?2 ORDER BY key LIMIT ?3
         ";
         let mut found = self.connection.prepare_cached(words)?;
         let most = i64::try_from(most).unwrap_or(i64::MAX);
@@ -372,16 +408,18 @@ impl Tables for Sqlite {
         Ok(())
     }
 
-    fn put(&mut self, pair: &Pair, lease: Option<LeaseId>) -> Result<(), TableFailure> {
+    fn put(&mut self, pair: &Pair, lease: Option<LeaseId>) -> Result<Revision, TableFailure> {
         let mut put = self.connection.prepare_cached(PUT)?;
-        put.execute(params![
+        let row = params![
             pair.key,
             pair.value,
             number(pair.revision),
             lease.map(|it| it.0),
-            RowChecksum::of(pair).number()
-        ])?;
-        Ok(())
+            RowChecksum::of(pair).number(),
+            number(pair.created),
+            RowChecksum::of_creation(pair).number()
+        ];
+        Ok(put.query_row(row, |row| row.get(0).map(created))?)
     }
 
     fn delete(&mut self, key: &[u8]) -> Result<bool, TableFailure> {

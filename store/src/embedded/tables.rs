@@ -48,8 +48,9 @@ pub(super) trait Tables {
     /// Begins writing, with this room.
     fn begin(&mut self, room: Room) -> Result<(), TableFailure>;
 
-    /// Writes a pair, which a lease's end will delete.
-    fn put(&mut self, pair: &Pair, lease: Option<LeaseId>) -> Result<(), TableFailure>;
+    /// Writes a pair, which a lease's end will delete. Returns the revision that created its key: `pair.created` if the
+    /// key lay nowhere.
+    fn put(&mut self, pair: &Pair, lease: Option<LeaseId>) -> Result<Revision, TableFailure>;
 
     /// Deletes a key, and says whether it lay there.
     fn delete(&mut self, key: &[u8]) -> Result<bool, TableFailure>;

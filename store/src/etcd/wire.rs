@@ -230,6 +230,8 @@ pub(super) struct Stored {
     value: Vec<u8>,
     #[serde(deserialize_with = "number::deserialize")]
     mod_revision: u64,
+    #[serde(deserialize_with = "number::deserialize")]
+    create_revision: u64,
 }
 
 impl From<Stored> for Pair {
@@ -238,6 +240,7 @@ impl From<Stored> for Pair {
             key: it.key,
             value: it.value,
             revision: Revision(it.mod_revision),
+            created: Revision(it.create_revision),
         }
     }
 }
@@ -395,6 +398,7 @@ impl From<WatchEvent> for crate::KeyChange {
             key: pair.key,
             value,
             revision: pair.revision,
+            created: pair.created,
         }
     }
 }

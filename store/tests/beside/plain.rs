@@ -99,10 +99,12 @@ impl Kept {
         for (key, value, lease) in changes {
             self.leased.remove(&key);
             self.leased.extend(lease.map(|it| (key.clone(), it)));
+            let created = self.pairs.get(&key).map_or(revision, |it| it.created);
             let pair = value.clone().map(|value| Pair {
                 key: key.clone(),
                 value,
                 revision,
+                created,
             });
             let before = match pair {
                 Some(pair) => self.pairs.insert(key.clone(), pair),
@@ -111,6 +113,7 @@ impl Kept {
             if value.is_some() || before.is_some() {
                 made.push(KeyChange {
                     key,
+                    created: value.as_ref().map_or(Revision::NEVER, |_| created),
                     value,
                     revision,
                 });
