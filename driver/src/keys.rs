@@ -165,12 +165,18 @@ fn number_of_version(bytes: &[u8]) -> Option<u64> {
     (*version == 1).then(|| number.try_into().ok().map(u64::from_be_bytes))?
 }
 
+/// The state that these bytes tell, if this version knows its number. A state that was never written is `Up`.
+pub(crate) fn state_of(state: &[u8]) -> Option<ServerState> {
+    let number = state.get(1..9).and_then(|it| it.try_into().ok());
+    number.map_or(Some(ServerState::Up), |it| {
+        ServerState::of_number(u64::from_be_bytes(it))
+    })
+}
+
 /// Whether requests reach a server of which these bytes are the state: it is neither stopped nor failed. None reach one
 /// whose state has a number that this version doesn't know.
 pub(crate) fn is_reached(state: &[u8]) -> bool {
-    let number = state.get(1..9).and_then(|it| it.try_into().ok());
-    let number = number.map(u64::from_be_bytes);
-    number.is_none_or(|it| ServerState::of_number(it).is_some_and(ServerState::is_reached))
+    state_of(state).is_some_and(ServerState::is_reached)
 }
 
 /// The head of the shard's log.

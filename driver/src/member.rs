@@ -1,6 +1,6 @@
 use crate::lease_clock::{LeaseClock, Moment};
 use crate::lowest::Lowest;
-use crate::{keys, process, Addresses, JoinFault, Live, Members, OpenFault};
+use crate::{keys, process, Addresses, JoinFault, KeptLease, Live, Members, OpenFault};
 use durkenzo_store::{
     LeaseError, LeaseId, Outcome, Revision, Seen, Store, Transaction, Watch, WriteError,
 };
@@ -292,6 +292,24 @@ impl Member {
     pub fn lease(&self) -> Option<LeaseId> {
         let state = self.inner.state();
         state.lease.filter(|_| state.written > Revision::NEVER)
+    }
+
+    /// Returns how much time has passed by the clock that judges the lease, since some beginning. That clock goes on
+    /// while the machine is suspended.
+    pub fn time(&self) -> Duration {
+        self.now().since_beginning()
+    }
+
+    /// Returns the lease of this process as it was kept last. Returns none while the server's key isn't known to lie
+    /// under it.
+    pub fn kept_lease(&self) -> Option<KeptLease> {
+        let state = self.inner.state();
+        let is_there = state.lease.is_some() && state.joined > Revision::NEVER && !state.is_over;
+        is_there.then(|| KeptLease {
+            joined: state.joined,
+            asked: state.kept.since_beginning(),
+            length: self.inner.length,
+        })
     }
 
     /// Returns the revision at which this process joined: the one that created its key under its lease. It is
