@@ -110,6 +110,11 @@ impl ShardView {
         self.0.reading
     }
 
+    /// Returns whether the owner that forwards by the record has let go, or has failed.
+    pub fn is_freed(&self) -> bool {
+        self.0.freed
+    }
+
     /// Returns the revision at which the process put its server's key.
     pub fn joined(&self) -> u64 {
         self.0.joined
