@@ -2,7 +2,7 @@ use crate::{keys, Addresses, Live, Members, StoredRecord};
 use durkenzo_store::{ReadError, Revision, Seen, Store, Watch};
 use std::collections::BTreeMap;
 use std::fmt;
-use std::sync::{Arc, PoisonError, RwLock};
+use std::sync::{Arc, Mutex, PoisonError, RwLock};
 
 /// Which server owns each shard, and where servers are, as a watch of the store tells it to a process that runs none.
 ///
@@ -10,7 +10,7 @@ use std::sync::{Arc, PoisonError, RwLock};
 pub struct RouteMap {
     seen: Arc<RwLock<SeenRoutes>>,
     /// They end with this value.
-    _watches: [Watch; 2],
+    _watches: Mutex<[Watch; 2]>,
 }
 
 #[derive(Default)]
@@ -46,7 +46,7 @@ impl RouteMap {
             };
             store.watch(prefix, Box::new(note))
         };
-        let _watches = [watch(keys::RECORDS)?, watch(keys::SERVERS)?];
+        let _watches = Mutex::new([watch(keys::RECORDS)?, watch(keys::SERVERS)?]);
         Ok(RouteMap { seen, _watches })
     }
 

@@ -6,7 +6,8 @@ import other_crates
 from testing import workspace
 from testing.library import is_there
 
-BINDINGS, SIMULATION = ("-p", "durkenzo-store-sys"), ("-p", "simulation", "--release")
+BINDINGS = ("-p", "durkenzo-store-sys", "--features", "permits")
+SIMULATION = ("-p", "simulation", "--release")
 # As many on each machine, so that none finds what another one does not; a slow one tries fewer.
 LIMITS = ("--schedules", "10000", "--seconds", "20")
 
