@@ -41,17 +41,17 @@ abbrev pub hand_over_numbers : HandOver → HandOverNumbers
 hand_over_numbers hand = record { joined = hand.joined; generation = hand.generation; server = hand.server }
 
 -- the number is no server's
-abbrev pub IsNoServer : ℕ → Type 0
-IsNoServer number = (number ≡ 0) ⊎ (MAX_SERVER < number)
+abbrev pub IsBadServer : ℕ → Type 0
+IsBadServer number = (number ≡ 0) ⊎ (MAX_SERVER < number)
 
 -- no record has this word
-abbrev pub IsNoWord : ℕ → Type 0
-IsNoWord word = (state : Record) → IsWellFormed state → word_of state ≢ word
+abbrev pub IsBadWord : ℕ → Type 0
+IsBadWord word = (state : Record) → IsWellFormed state → word_of state ≢ word
 
 -- a request came from this server, or directly if it is 0
-abbrev pub CameFrom : ℕ → Mode → Type 0
-CameFrom from Direct = from ≡ 0
-CameFrom from (Forwarded server) = from ≡ server
+abbrev pub ComesBy : ℕ → Mode → Type 0
+ComesBy from Direct = from ≡ 0
+ComesBy from (Forwarded server) = from ≡ server
 
 -- these numbers are those of the reading, whose record has a word
 abbrev pub AreOfReading : ReadingNumbers → ShardReading → Type 0
@@ -65,7 +65,7 @@ AreOfView numbers view =
 -- these numbers are no view's: by the code, the server or the word is none
 abbrev pub AreOfNone : ViewNumbers → ℕ → Type 0
 AreOfNone numbers code =
-    ((code ≡ 2) × IsNoServer numbers.server) ⊎ ((code ≡ 4) × IsNoWord numbers.reading.word)
+    ((code ≡ 2) × IsBadServer numbers.server) ⊎ ((code ≡ 4) × IsBadWord numbers.reading.word)
 
 -- the numbers become those of the view that the function makes of the view that they were
 abbrev pub Becomes : ViewNumbers → (ShardView → ShardView) → ViewNumbers → Type 0

@@ -1,5 +1,5 @@
 ghost use Rattle.std.specs.Prelude.{◌≡◌, IfNone, IfSome};
-ghost use Rattle.sm_permit_c.specs.Numbers.{IsNoServer, hand_over_numbers};
+ghost use Rattle.sm_permit_c.specs.Numbers.{IsBadServer, hand_over_numbers};
 
 use sm_permit::HandOver;
 use sm_ranges::server_id::ServerId;
@@ -19,7 +19,7 @@ impl HandOverNumbers {
     /// Returns what has these numbers, or none if the server is none.
     pub(crate) fn hand_over(&self) -> Option<HandOver>
         ensures made { IfSome result (λ hand. self.now ≡ hand_over_numbers hand) }
-        ensures none { IfNone result (IsNoServer self.now.server) }
+        ensures none { IfNone result (IsBadServer self.now.server) }
     {
         let server = ServerId::new(self.server)?;
         Some(HandOver {

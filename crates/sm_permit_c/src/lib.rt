@@ -12,8 +12,8 @@ ghost use Rattle.sm_permit.specs.declared.shard_reading.ShardReading.{ShardReadi
 ghost use Rattle.sm_permit.specs.declared.shard_view.ShardView.{ShardView as ViewValue};
 ghost use Rattle.sm_permit.specs.Views.{may_ack, may_execute, new_view, view_acked, view_handed, view_kept};
 ghost use Rattle.sm_permit.specs.Views.{view_let_go, view_read};
-ghost use Rattle.sm_permit_c.specs.Numbers.{AreOfNone, AreOfReading, AreOfView, Becomes, CameFrom, IsNoServer};
-ghost use Rattle.sm_permit_c.specs.Numbers.{IsNoWord, hand_over_numbers};
+ghost use Rattle.sm_permit_c.specs.Numbers.{AreOfNone, AreOfReading, AreOfView, Becomes, ComesBy, IsBadServer};
+ghost use Rattle.sm_permit_c.specs.Numbers.{IsBadWord, hand_over_numbers};
 
 mod codes;
 pub mod hand_over_numbers;
@@ -37,7 +37,7 @@ pub extern "C" fn durkenzo_permit_new(
     view: &mut ViewNumbers,
 ) -> u32
     ensures made { result ≡ 0 → AreOfView view.new (new_view server joined until) }
-    ensures refused { result ≢ 0 → (result ≡ 2) × IsNoServer server }
+    ensures refused { result ≢ 0 → (result ≡ 2) × IsBadServer server }
     ensures kept { result ≢ 0 → view.new ≡ view.old }
 {
     let Some(server) = ServerId::new(server) else {
@@ -57,7 +57,7 @@ pub extern "C" fn durkenzo_permit_may_execute(
     may: &mut bool,
 ) -> u32
     ensures told { result ≡ 0 → (known : ViewValue) × (mode : ModeValue) × AreOfView view.now known
-        × CameFrom from mode × (may.new ≡ may_execute known mode time) }
+        × ComesBy from mode × (may.new ≡ may_execute known mode time) }
     ensures refused { result ≢ 0 → AreOfNone view.now result ⊎ ((result ≡ 2) × (MAX_SERVER < from)) }
     ensures kept { result ≢ 0 → may.new ≡ may.old }
 {
@@ -115,7 +115,7 @@ pub extern "C" fn durkenzo_permit_kept(view: &mut ViewNumbers, until: u64) -> u3
 pub extern "C" fn durkenzo_permit_read(view: &mut ViewNumbers, reading: &ReadingNumbers) -> u32
     ensures made { result ≡ 0 → (told : ReadingValue) × AreOfReading reading.now told
         × Becomes view.old (λ known. view_read known told) view.new }
-    ensures refused { result ≢ 0 → AreOfNone view.old result ⊎ ((result ≡ 4) × IsNoWord reading.now.word) }
+    ensures refused { result ≢ 0 → AreOfNone view.old result ⊎ ((result ≡ 4) × IsBadWord reading.now.word) }
     ensures kept { result ≢ 0 → view.new ≡ view.old }
 {
     let known = match view.view() {
@@ -133,7 +133,7 @@ pub extern "C" fn durkenzo_permit_read(view: &mut ViewNumbers, reading: &Reading
 #[unsafe(no_mangle)]
 pub extern "C" fn durkenzo_permit_acked(view: &mut ViewNumbers, server: u16, generation: u64) -> u32
     ensures made { result ≡ 0 → Becomes view.old (λ known. view_acked known server generation) view.new }
-    ensures refused { result ≢ 0 → AreOfNone view.old result ⊎ ((result ≡ 2) × IsNoServer server) }
+    ensures refused { result ≢ 0 → AreOfNone view.old result ⊎ ((result ≡ 2) × IsBadServer server) }
     ensures kept { result ≢ 0 → view.new ≡ view.old }
 {
     let known = match view.view() {
@@ -152,7 +152,7 @@ pub extern "C" fn durkenzo_permit_acked(view: &mut ViewNumbers, server: u16, gen
 pub extern "C" fn durkenzo_permit_handed(view: &mut ViewNumbers, hand: &HandOverNumbers) -> u32
     ensures made { result ≡ 0 → (named : HandOverValue) × (hand.now ≡ hand_over_numbers named)
         × Becomes view.old (λ known. view_handed known named) view.new }
-    ensures refused { result ≢ 0 → AreOfNone view.old result ⊎ ((result ≡ 2) × IsNoServer hand.now.server) }
+    ensures refused { result ≢ 0 → AreOfNone view.old result ⊎ ((result ≡ 2) × IsBadServer hand.now.server) }
     ensures kept { result ≢ 0 → view.new ≡ view.old }
 {
     let known = match view.view() {

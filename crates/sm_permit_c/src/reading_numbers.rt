@@ -1,6 +1,6 @@
 ghost use Rattle.std.specs.Prelude.{◌≡◌, IfNone, IfSome};
 ghost use Rattle.sm_word.specs.Word.{IsWellFormed};
-ghost use Rattle.sm_permit_c.specs.Numbers.{AreOfReading, IsNoWord, reading_numbers};
+ghost use Rattle.sm_permit_c.specs.Numbers.{AreOfReading, IsBadWord, reading_numbers};
 
 use sm_permit::ShardReading;
 use sm_word::word::{pack, unpack};
@@ -39,7 +39,7 @@ impl ReadingNumbers {
     /// Returns the reading that has these numbers, or none if no record has the word.
     pub(crate) fn reading(&self) -> Option<ShardReading>
         ensures made { IfSome result (AreOfReading self.now) }
-        ensures none { IfNone result (IsNoWord self.now.word) }
+        ensures none { IfNone result (IsBadWord self.now.word) }
     {
         let Some(state) = unpack(self.word) else {
             return None;
