@@ -112,6 +112,5 @@ fn main() -> Result<(), Box<dyn Error>> {
     };
     let fleet = Fleet::join(limiter, Options::parse())?;
     println!("server {} at {}", fleet.server(), fleet.address());
-    fleet.serve();
-    Ok(())
+    Ok(fleet.serve()?)
 }

@@ -1,7 +1,7 @@
 //! A call's way through a server: it is executed, goes on to another server, or waits.
 use crate::connections::{is_open, NotAnswered};
 use crate::fleet::FleetInner;
-use crate::frame::{CallFrame, Request, Response};
+use crate::frame::{CallFrame, Request, Response, MOST};
 use crate::queue::Turn;
 use crate::{Destination, Enter, Mode, Service};
 use durkenzo::MOST_HOPS;
@@ -79,7 +79,10 @@ impl<S: Service> FleetInner<S> {
             Enter::Here(mut permit) => {
                 drop(turn.take());
                 let answer = permit.answer(call.request);
-                if permit.holds() {
+                if answer.len() > MOST {
+                    let why = "the call was made, and its answer is too large to be sent";
+                    Response::Unsure(why).write(out);
+                } else if permit.holds() {
                     let (server, hops, fence) = (self.server(), call.hops, permit.fence());
                     Response::Answered {
                         server,

@@ -15,7 +15,6 @@ const IDLE: usize = 64;
 pub(crate) struct Connections {
     /// The checksum of the fleet's settings, 0 if it isn't known yet.
     checksum: u64,
-    longest: usize,
     idle: Mutex<HashMap<String, Vec<TcpStream>>>,
 }
 
@@ -31,11 +30,10 @@ pub(crate) enum NotAnswered {
 }
 
 impl Connections {
-    /// Returns connections to a fleet with this checksum of its settings, whose payloads have at most so many bytes.
-    pub(crate) fn new(checksum: u64, most: usize) -> Connections {
+    /// Returns connections to a fleet with this checksum of its settings.
+    pub(crate) fn new(checksum: u64) -> Connections {
         Connections {
             checksum,
-            longest: frame::longest(most),
             idle: Mutex::default(),
         }
     }
@@ -58,7 +56,7 @@ impl Connections {
         stream.write_all(&bytes).map_err(unreached)?;
         let received = stream
             .set_read_timeout(Some(within.max(Duration::from_millis(1))))
-            .and_then(|()| frame::receive(&mut stream, self.longest, &mut bytes));
+            .and_then(|()| frame::receive(&mut stream, &mut bytes));
         received.map_err(|error| NotAnswered::Lost(address.to_owned(), error))?;
         let mut idle = self.idle.lock().unwrap_or_else(PoisonError::into_inner);
         let kept = idle.entry(address.to_owned()).or_default();

@@ -15,15 +15,21 @@ use durkenzo_driver::{Addresses, Durable, Member, NotDone, Own, Tuning};
 use durkenzo_store::Store;
 use durkenzo_store_sys::ShardView;
 use std::fmt;
+use std::io;
 use std::net::SocketAddr;
 use std::sync::atomic::{AtomicBool, Ordering};
 use std::sync::mpsc::Sender;
-use std::sync::{Arc, Condvar, Mutex, PoisonError};
+use std::sync::{Arc, Mutex, PoisonError};
 use std::thread;
 use std::time::{Duration, Instant};
+use tokio::runtime;
+use tokio::signal::unix::{signal, SignalKind};
+use tokio::sync::Notify;
 
 /// How often it is looked whether the control has stopped this server.
 const LOOK: Duration = Duration::from_millis(20);
+/// How long a server that was stopped forwards what still comes.
+const LINGER: Duration = Duration::from_millis(500);
 
 /// A process of a fleet. It follows records, holds bodies, and answers clients and other processes, until it leaves.
 pub struct Fleet<S: Service> {
@@ -44,7 +50,7 @@ pub(crate) struct FleetInner<S: Service> {
     /// The control of this process; none once it has left.
     pub(crate) control: Mutex<Option<Sender<Asked>>>,
     pub(crate) stopping: Arc<AtomicBool>,
-    left: (Mutex<bool>, Condvar),
+    left: Notify,
 }
 
 impl<S: Service> Fleet<S> {
@@ -109,10 +115,7 @@ impl<S: Service> Fleet<S> {
         let inner = Arc::new(FleetInner {
             service,
             places: (0..sharding.shards()).map(|_| Place::new(view)).collect(),
-            connections: Arc::new(Connections::new(
-                checksum(settings.as_bytes()),
-                options.most,
-            )),
+            connections: Arc::new(Connections::new(checksum(settings.as_bytes()))),
             member,
             durable: Arc::new(durable),
             options,
@@ -120,7 +123,7 @@ impl<S: Service> Fleet<S> {
             settings,
             control: Mutex::default(),
             stopping,
-            left: Default::default(),
+            left: Notify::new(),
         });
         follower::begin(&inner, noticed)?;
         leading::begin(&inner)?;
@@ -132,15 +135,25 @@ impl<S: Service> Fleet<S> {
         })
     }
 
-    /// Serves until this process leaves the fleet.
-    pub fn serve(&self) {
-        let (left, changed) = &self.inner.left;
-        let mut has_left = left.lock().unwrap_or_else(PoisonError::into_inner);
-        while !*has_left {
-            has_left = changed
-                .wait(has_left)
-                .unwrap_or_else(PoisonError::into_inner);
+    /// Serves until this process leaves the fleet. SIGTERM has it [stop](Fleet::stop), within `--grace`.
+    ///
+    /// # Errors
+    ///
+    /// The system doesn't let signals be waited for.
+    pub fn serve(&self) -> io::Result<()> {
+        let runtime = runtime::Builder::new_current_thread().enable_io().build()?;
+        let is_asked = runtime.block_on(async {
+            let mut asked = signal(SignalKind::terminate())?;
+            let is_asked = tokio::select! {
+                _ = asked.recv() => true,
+                () = self.inner.left.notified() => false,
+            };
+            Ok::<_, io::Error>(is_asked)
+        })?;
+        if is_asked {
+            self.stop(Duration::from_secs(self.inner.options.grace));
         }
+        Ok(())
     }
 
     /// Returns whether this process may execute a call that came so, or where the call goes on. A process that has
@@ -183,6 +196,8 @@ impl<S: Service> Fleet<S> {
         while !self.inner.durable.is_away(server) && Instant::now() < end {
             thread::sleep(LOOK);
         }
+        // Clients whose maps are old have it forward a little longer.
+        thread::sleep(LINGER.min(end.saturating_duration_since(Instant::now())));
         self.leave();
     }
 
@@ -200,9 +215,7 @@ impl<S: Service> Fleet<S> {
         *inner.control.lock().unwrap_or_else(PoisonError::into_inner) = None;
         inner.member.leave();
         self.listener.end(self.address);
-        let (left, changed) = &inner.left;
-        *left.lock().unwrap_or_else(PoisonError::into_inner) = true;
-        changed.notify_all();
+        inner.left.notify_one();
     }
 }
 

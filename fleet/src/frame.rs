@@ -7,8 +7,10 @@ use std::io::{self, Read};
 pub(crate) const MAGIC: [u8; 4] = *b"DKF1";
 /// How many bytes of a body one frame carries at most. One frame of a body is under way at a time.
 pub(crate) const CHUNK: usize = 256 << 10;
-/// How many bytes a frame has beside its payload at most.
-const FIELDS: usize = 64;
+/// How many bytes a request and an answer have at most.
+pub(crate) const MOST: usize = 1 << 20;
+/// How long a frame is at most: it has fields beside its payload.
+pub(crate) const LONGEST: usize = MOST + 64;
 /// How many words a command has at most.
 const WORDS: u32 = 64;
 
@@ -258,17 +260,12 @@ pub(crate) fn words(bytes: &[u8]) -> Result<Vec<&[u8]>, WireFault> {
     Ok(words)
 }
 
-/// Returns how long a frame may be whose payload has at most so many bytes.
-pub(crate) fn longest(most: usize) -> usize {
-    most.max(CHUNK) + FIELDS
-}
-
-/// Reads a frame of at most so many bytes into the room. A longer one is refused before there is room for it.
-pub(crate) fn receive(from: &mut impl Read, longest: usize, room: &mut Vec<u8>) -> io::Result<()> {
+/// Reads a frame into the room. One that is longer than [`LONGEST`] is refused before there is room for it.
+pub(crate) fn receive(from: &mut impl Read, room: &mut Vec<u8>) -> io::Result<()> {
     let mut length = [0; 4];
     from.read_exact(&mut length)?;
     let length = u32::from_be_bytes(length) as usize;
-    if length > longest {
+    if length > LONGEST {
         return Err(io::Error::new(
             io::ErrorKind::InvalidData,
             WireFault::TooLong,
@@ -321,7 +318,7 @@ mod tests {
             let mut out = Vec::new();
             request.write(&mut out);
             let mut room = Vec::new();
-            receive(&mut &out[..], longest(0), &mut room).unwrap();
+            receive(&mut &out[..], &mut room).unwrap();
             assert_eq!(Request::read(&room), Ok(request));
         }
     }
@@ -353,7 +350,7 @@ mod tests {
     #[test]
     fn frames_that_are_none_are_refused() {
         let mut room = Vec::new();
-        let endless = receive(&mut &[0xff; 8][..], longest(0), &mut room);
+        let endless = receive(&mut &[0xff; 8][..], &mut room);
         assert_eq!(endless.unwrap_err().kind(), io::ErrorKind::InvalidData);
         assert_eq!(room.capacity(), 0);
         assert_eq!(Request::read(&[9]), Err(WireFault::Kind(9)));

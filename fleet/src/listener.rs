@@ -50,13 +50,14 @@ impl Listener {
         })
     }
 
-    /// Ends all connections, and takes no more. The address is where this listens.
+    /// Takes no more connections and requests. Calls that are under way are still answered. The address is where this
+    /// listens.
     pub(crate) fn end(&self, address: SocketAddr) {
         self.shared.is_over.store(true, Ordering::Release);
         // It waits for the next one.
         drop(TcpStream::connect_timeout(&address, GREETING));
         for stream in self.shared.streams().1.values() {
-            let _ = stream.shutdown(Shutdown::Both);
+            let _ = stream.shutdown(Shutdown::Read);
         }
     }
 }
@@ -109,9 +110,9 @@ fn serve<S: Service>(fleet: &FleetInner<S>, stream: &TcpStream) -> io::Result<()
     let mut reader = BufReader::new(stream);
     greet(fleet, &mut reader)?;
     stream.set_read_timeout(None)?;
-    let (longest, mut room, mut out) = (frame::longest(fleet.options.most), Vec::new(), Vec::new());
+    let (mut room, mut out) = (Vec::new(), Vec::new());
     loop {
-        frame::receive(&mut reader, longest, &mut room)?;
+        frame::receive(&mut reader, &mut room)?;
         out.clear();
         let request = Request::read(&room);
         let request = request.map_err(|error| io::Error::new(io::ErrorKind::InvalidData, error))?;

@@ -88,6 +88,15 @@ pub struct Options {
     )]
     pub margin: u64,
 
+    /// How long a stop by SIGTERM takes at most, until the process leaves with the shards that it still has
+    #[arg(
+        long,
+        env = "DURKENZO_GRACE",
+        value_name = "SECONDS",
+        default_value_t = 60
+    )]
+    pub grace: u64,
+
     /// How long a call waits at a server for a shard that nobody executes, within its budget
     #[arg(
         long,
@@ -115,10 +124,6 @@ pub struct Options {
     )]
     pub connections: usize,
 
-    /// How large a request and an answer may be
-    #[arg(long, env = "DURKENZO_MOST", value_name = "BYTES", default_value_t = 1 << 20)]
-    pub most: usize,
-
     /// A wrong rule, of a test.
     #[cfg(test)]
     #[arg(skip)]
@@ -141,7 +146,7 @@ impl Options {
         Ok(Arc::new(Etcd::new(Access::new(self.etcd.iter()))?))
     }
 
-    /// Returns how keys go to shards.
+    /// Returns how keys go to shards, if all options are within their bounds.
     pub(crate) fn sharding(&self) -> Result<Sharding, JoinError> {
         if !(1..=durkenzo::MAX_SERVER).contains(&self.servers)
             || !(1..=self.servers).contains(&self.name)
@@ -153,6 +158,10 @@ impl Options {
                 durkenzo::MAX_SERVER
             );
             return Err(JoinError::Options(why));
+        }
+        if self.allowed(Duration::from_secs(self.lease)).is_zero() {
+            let why = "--margin and --drift leave nothing of --lease";
+            return Err(JoinError::Options(why.to_owned()));
         }
         let first = std::iter::once(String::new());
         Ok(match self.bounds.is_empty() {

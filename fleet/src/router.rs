@@ -1,5 +1,5 @@
 use crate::connections::{Connections, NotAnswered};
-use crate::frame::{spelled, CallFrame, Request, Response};
+use crate::frame::{spelled, CallFrame, Request, Response, MOST};
 use crate::{commands, CallError, JoinError, Retry, Sharding};
 use durkenzo_control::links::checksum;
 use durkenzo_driver::{keys, RouteMap};
@@ -14,8 +14,6 @@ use std::time::{Duration, Instant};
 const PAUSE: Duration = Duration::from_millis(5);
 /// How long a server may take to tell its map.
 const MAP: Duration = Duration::from_secs(5);
-/// How large a request and an answer may be.
-const MOST: usize = 16 << 20;
 
 /// A client of a fleet, for any threads. Its map never goes back, and an old map costs a call one hop.
 pub struct Router {
@@ -77,7 +75,7 @@ impl Router {
             .strip_prefix("http://")
             .unwrap_or(url)
             .trim_end_matches('/');
-        let text = map_of(&Connections::new(0, MOST), address);
+        let text = map_of(&Connections::new(0), address);
         let text =
             text.map_err(|error| JoinError::Address(address.to_owned(), io::Error::other(error)))?;
         let mut told = Told {
@@ -97,7 +95,7 @@ impl Router {
             .ok_or_else(|| JoinError::Options("there is no fleet".to_owned()))?;
         Ok(Router {
             sharding: sharding?,
-            connections: Connections::new(checksum(settings.as_bytes()), MOST),
+            connections: Connections::new(checksum(settings.as_bytes())),
             source,
         })
     }

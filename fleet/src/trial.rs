@@ -1,11 +1,18 @@
 //! Several processes of a service that counts, in one process of a test. Its clients know which count comes next, so a
 //! count that is lost or made twice is found, and so is each wrong rule that is planted.
+use crate::connections::Connections;
+use crate::frame::{HandFrame, Request, Response};
 use crate::plant::Plant;
-use crate::{Call, CallError, Came, Changes, Fault, Fleet, Options, Retry, Router, Service, Shard};
+use crate::{
+    Call, CallError, Came, Changes, Enter, Fault, Fleet, Mode, Options, Refused, Retry, Router,
+    Service, Shard,
+};
+use durkenzo_control::links::checksum;
 use durkenzo_store::{
     CompactError, Done, Embedded, LeaseError, LeaseId, ReadError, Reading, Seen, Store,
     Transaction, Watch, Watcher, WriteError,
 };
+use durkenzo_store_sys::HandOver;
 use std::collections::{HashMap, HashSet};
 use std::sync::atomic::{AtomicBool, Ordering};
 use std::sync::{Arc, Mutex};
@@ -490,4 +497,86 @@ fn a_process_that_is_cut_from_the_store_answers_no_more_than_its_lease_allows() 
 fn a_process_that_goes_on_without_a_lease_is_found() {
     let tally = cut(Some(Plant::NoLease));
     assert!(tally.wrong > 0, "{tally:?}");
+}
+
+/// A key of this shard.
+fn key_of(router: &Router, shard: u16) -> Vec<u8> {
+    let keys = (0_u32..).map(|it| it.to_string().into_bytes());
+    let mut of_shard = keys.filter(|it| router.sharding().shard_of(it) == shard);
+    of_shard.next().unwrap()
+}
+
+#[test]
+fn a_call_of_a_paused_shard_ends_with_its_budget_and_fences_rise() {
+    let trial = Trial::new(30, false, None);
+    let router = Router::watch(&*trial.store).unwrap();
+    let key = key_of(&router, 0);
+    let first = router.call(&key, &key, Retry::Until(PATIENCE)).unwrap();
+    trial.command(&["PAUSE", "0"]);
+    let began = Instant::now();
+    let late = router.call(&key, &key, Retry::Until(Duration::from_millis(300)));
+    assert!(matches!(late, Err(CallError::NotMade(_))), "{late:?}");
+    assert!(began.elapsed() >= Duration::from_millis(290));
+    trial.command(&["RESUME", "0"]);
+    let second = router.call(&key, &key, Retry::Until(PATIENCE)).unwrap();
+    assert_eq!(second.bytes, 2_u64.to_be_bytes());
+    assert!(first.fence < second.fence, "{first:?} {second:?}");
+    trial.end();
+}
+
+#[test]
+fn a_process_says_where_calls_go_and_gives_permits_of_its_own_shards() {
+    let trial = Trial::new(30, false, None);
+    let owner = trial.owner(0).unwrap();
+    for fleet in &trial.fleets {
+        let is_owner = fleet.server() == owner;
+        let decided = || match fleet.enter(0, Mode::Direct) {
+            Enter::Here(mut permit) => {
+                assert!(is_owner && permit.holds() && permit.fence() > 0);
+                permit.body().counts.insert(b"a".to_vec(), 7);
+                true
+            }
+            Enter::Elsewhere(to) => {
+                assert!(!is_owner && to.server == owner && to.address.is_some());
+                true
+            }
+            Enter::Wait(_) => false,
+            Enter::Forward(_) | Enter::Refused(_) => panic!("no shard is forwarded"),
+        };
+        trial.wait_until("it is decided", decided);
+        let unknown = fleet.enter(SHARDS, Mode::Direct);
+        assert!(matches!(unknown, Enter::Refused(Refused::UnknownShard)));
+        let nobody = fleet.enter(0, Mode::Forwarded(0));
+        assert!(matches!(nobody, Enter::Refused(Refused::UnknownServer)));
+    }
+    trial.end();
+}
+
+#[test]
+fn what_another_process_hands_over_is_refused() {
+    let trial = Trial::new(30, false, None);
+    let fleet = &trial.fleets[0];
+    let connections = Connections::new(checksum(fleet.inner.settings.as_bytes()));
+    let hand = HandOver {
+        joined: 1,
+        generation: 1,
+        server: 3,
+    };
+    let (is_changes, at, total, bytes) = (false, 0, 1, &b"x"[..]);
+    let frame = HandFrame {
+        shard: 0,
+        hand,
+        is_changes,
+        at,
+        total,
+        bytes,
+    };
+    let response = connections.ask(&fleet.address().to_string(), &Request::Hand(frame), SOON);
+    let response = response.unwrap();
+    assert!(matches!(Response::read(&response), Ok(Response::Again(_))));
+    // A client of another fleet isn't answered.
+    let other = Connections::new(7);
+    let refused = other.ask(&fleet.address().to_string(), &Request::Routes, SOON);
+    assert!(refused.is_err());
+    trial.end();
 }

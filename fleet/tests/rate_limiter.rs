@@ -1,6 +1,7 @@
 //! The example of a rate limiter as three processes over etcd: shards move under load, and a process is killed.
 use durkenzo_fleet::{CallError, Retry, Router};
 use durkenzo_store::{Access, Etcd, Store};
+use std::collections::BTreeSet;
 use std::fs;
 use std::io::{BufRead, BufReader};
 use std::net::TcpListener;
@@ -171,6 +172,13 @@ fn example() -> PathBuf {
     folder.join("examples/rate_limiter")
 }
 
+/// Which servers own shards.
+fn owned(router: &Router) -> BTreeSet<u16> {
+    let lines = router.command(&["SHARDS"], PATIENCE).unwrap_or_default();
+    let owners = lines.iter().skip(1).filter_map(|it| it.split(' ').nth(2));
+    owners.filter_map(|it| it.parse().ok()).collect()
+}
+
 #[test]
 fn shards_move_under_load_and_a_killed_process_leaves_only_unsure_calls() {
     let Some(etcd) = OwnEtcd::begin() else {
@@ -206,18 +214,24 @@ fn shards_move_under_load_and_a_killed_process_leaves_only_unsure_calls() {
     assert!(tally.unsure == 0 && tally.not_made.is_empty(), "{tally:?}");
 
     let tally = under_load(&routers, || {
+        let (mut stopped, _) = servers.remove(1);
+        let id = stopped.0.id().to_string();
+        let told = Command::new("kill").args(["-TERM", &id]).status();
+        assert!(told.unwrap().success() && stopped.0.wait().unwrap().success());
+    });
+    assert!(tally.answered > 50, "{tally:?}");
+    assert!(tally.unsure == 0 && tally.not_made.is_empty(), "{tally:?}");
+    servers.push(server(&program, &etcd.url, 2));
+    let is_back = || owned(&watching).contains(&2);
+    until("the server that was stopped has its shards again", is_back);
+
+    let tally = under_load(&routers, || {
         thread::sleep(Duration::from_millis(200));
-        let (mut killed, _) = servers.pop().unwrap();
+        let (mut killed, _) = servers.remove(1);
         killed.0.kill().unwrap();
         killed.0.wait().unwrap();
-        let third = || {
-            let told = watching.command(&["SHARDS"], PATIENCE).unwrap_or_default();
-            told.iter()
-                .skip(1)
-                .all(|it| it.split(' ').nth(2) != Some("3"))
-                && told.len() > 1
-        };
-        until("the others own all shards", third);
+        let is_gone = || !owned(&watching).contains(&3) && !owned(&watching).is_empty();
+        until("the others own all shards", is_gone);
     });
     assert!(tally.answered > 50 && tally.unsure <= CLIENTS, "{tally:?}");
     assert!(tally.not_made.is_empty(), "{tally:?}");
