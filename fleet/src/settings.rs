@@ -3,6 +3,7 @@ use crate::JoinError;
 use durkenzo::{Layout, LayoutFault};
 use durkenzo_driver::keys;
 use durkenzo_store::{Outcome, Revision, Store, Transaction};
+use serde_json::{json, Value};
 use std::fmt;
 
 /// How keys go to shards, by the proved layout.
@@ -10,7 +11,7 @@ pub struct Sharding {
     layout: Layout,
     /// Whether a key's hash is looked up, and not the key.
     hashes: bool,
-    line: String,
+    bounds: Vec<String>,
 }
 
 impl Sharding {
@@ -44,23 +45,21 @@ impl Sharding {
 
     fn of(bounds: Vec<String>, hashes: bool) -> Result<Sharding, LayoutFault> {
         let layout = Layout::new(&bounds)?;
-        let line = bounds
-            .iter()
-            .map(|it| quoted(it))
-            .collect::<Vec<_>>()
-            .join(",");
         Ok(Sharding {
             layout,
             hashes,
-            line,
+            bounds,
         })
     }
 
-    /// Returns the sharding of a fleet by what lies in the store.
+    /// Returns the sharding of a fleet by what lies in the store, if that is of a fleet.
     pub(crate) fn written(settings: &str) -> Option<Result<Sharding, LayoutFault>> {
         let (rule, line) = settings.split_once('\n')?;
-        let (bounds, _) = line.split_once("\"bounds\":[\"")?.1.split_once("\"],")?;
-        let bounds = bounds.split("\",\"").map(unquoted).collect();
+        let line: Value = serde_json::from_str(line).ok()?;
+        let bounds = line.get("bounds")?.as_array()?.iter();
+        let bounds = bounds
+            .map(|it| it.as_str().map(str::to_owned))
+            .collect::<Option<_>>()?;
         Some(Sharding::of(bounds, rule == HASHES))
     }
 
@@ -84,19 +83,26 @@ impl Sharding {
         let shards = self.shards();
         // Whatever server is away, the others have room.
         let capacity = shards.div_ceil(servers.saturating_sub(1).max(1));
-        let rows = (1..=servers)
-            .map(|it| format!("{{\"id\":{it},\"domain\":{it},\"capacity\":{capacity}}}"));
-        let domains = (1..=servers).map(|it| format!("{{\"domain\":{it},\"down\":1}}"));
-        let shard = "{\"group\":0,\"load\":1,\"cap\":1}";
-        format!(
-            "{rule}\n{{\"version\":2,\"bounds\":[{}],\"servers\":[{}],\"groups\":[{{\"limit\":4096,\"down\":4096}}],\
-             \"shards\":[{}],\"ops\":1,\"kept\":1048576,\"ceiling\":{},\"workers\":1,\"domains\":[{}]}}",
-            self.line,
-            rows.collect::<Vec<_>>().join(","),
-            vec![shard; usize::from(shards)].join(","),
-            durkenzo::MAX_GENERATION,
-            domains.collect::<Vec<_>>().join(","),
-        )
+        let rows: Vec<Value> = (1..=servers)
+            .map(|it| json!({"id": it, "domain": it, "capacity": capacity}))
+            .collect();
+        let domains: Vec<Value> = (1..=servers)
+            .map(|it| json!({"domain": it, "down": 1}))
+            .collect();
+        let each = json!({"group": 0, "load": 1, "cap": 1});
+        let line = json!({
+            "version": 2,
+            "bounds": self.bounds,
+            "servers": rows,
+            "groups": [{"limit": durkenzo::MAX_SHARD, "down": durkenzo::MAX_SHARD}],
+            "shards": vec![each; usize::from(shards)],
+            "ops": 1,
+            "kept": 1,
+            "ceiling": durkenzo::MAX_GENERATION,
+            "workers": 1,
+            "domains": domains,
+        });
+        format!("{rule}\n{line}")
     }
 }
 
@@ -154,14 +160,6 @@ fn hash(key: &[u8]) -> u32 {
     (spread >> 32) as u32
 }
 
-fn quoted(bound: &str) -> String {
-    format!("\"{}\"", bound.replace('\\', "\\\\").replace('"', "\\\""))
-}
-
-fn unquoted(bound: &str) -> String {
-    bound.replace("\\\"", "\"").replace("\\\\", "\\")
-}
-
 #[cfg(test)]
 mod tests {
     use super::*;
@@ -192,7 +190,7 @@ mod tests {
     fn clients_read_the_settings_that_servers_wrote() {
         for sharding in [
             Sharding::hashes(5).unwrap(),
-            Sharding::ranges(["", "a\"b", "c\\"].map(str::to_owned).to_vec()).unwrap(),
+            Sharding::ranges(["", "a\"],b", "c\\"].map(str::to_owned).to_vec()).unwrap(),
         ] {
             let written = sharding.settings(3);
             let read = Sharding::written(&written).unwrap().unwrap();
