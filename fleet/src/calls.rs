@@ -3,9 +3,10 @@ use crate::connections::{is_open, NotAnswered};
 use crate::fleet::FleetInner;
 use crate::frame::{CallFrame, Request, Response, MOST};
 use crate::queue::Turn;
-use crate::{Destination, Enter, Mode, Service};
+use crate::{Destination, Enter, Mode, Permit, Service};
 use durkenzo::MOST_HOPS;
 use std::net::TcpStream;
+use std::sync::atomic::Ordering;
 use std::time::{Duration, Instant};
 
 /// How long a call waits until it is sent again to a server that isn't reached.
@@ -28,6 +29,9 @@ impl<S: Service> FleetInner<S> {
         let Some(place) = self.places.get(usize::from(call.shard)) else {
             return Response::Again("there is no such shard").write(out);
         };
+        if self.closing.load(Ordering::Acquire) {
+            return Response::Again("this process leaves, and others have its shards").write(out);
+        }
         // Who comes later waits behind those who wait.
         let mut turn = None;
         if !place.queue.is_empty() {
@@ -76,25 +80,9 @@ impl<S: Service> FleetInner<S> {
             Mode::Forwarded(call.from)
         };
         let (to, from) = match self.enter(call.shard, mode) {
-            Enter::Here(mut permit) => {
+            Enter::Here(permit) => {
                 drop(turn.take());
-                let answer = permit.answer(call.request);
-                if answer.len() > MOST {
-                    let why = "the call was made, and its answer is too large to be sent";
-                    Response::Unsure(why).write(out);
-                } else if permit.holds() {
-                    let (server, hops, fence) = (self.server(), call.hops, permit.fence());
-                    Response::Answered {
-                        server,
-                        hops,
-                        fence,
-                        answer: &answer,
-                    }
-                    .write(out);
-                } else {
-                    Response::Unsure("the server's lease may have ended before it answered")
-                        .write(out);
-                }
+                execute(permit, call, out);
                 return Step::Done;
             }
             Enter::Forward(to) => (to, self.server()),
@@ -138,17 +126,7 @@ impl<S: Service> FleetInner<S> {
             ..*call
         };
         match self.connections.ask(address, &Request::Call(onward), left) {
-            Ok(bytes) => match Response::read(&bytes) {
-                Ok(Response::Again(why)) => Step::Waits(why.to_owned()),
-                Ok(response) => {
-                    response.write(out);
-                    Step::Done
-                }
-                Err(error) => {
-                    Response::Unsure(&error.to_string()).write(out);
-                    Step::Done
-                }
-            },
+            Ok(bytes) => returned(&bytes, out),
             Err(error @ NotAnswered::Lost(..)) => {
                 Response::Unsure(&error.to_string()).write(out);
                 Step::Done
@@ -159,4 +137,34 @@ impl<S: Service> FleetInner<S> {
             }
         }
     }
+}
+
+/// Executes the call, and writes the answer, if the permit holds still.
+fn execute<S: Service>(mut permit: Permit<'_, S>, call: &CallFrame<'_>, out: &mut Vec<u8>) {
+    let answer = permit.answer(call.request);
+    if answer.len() > MOST {
+        let why = "the call was made, and its answer is too large to be sent";
+        return Response::Unsure(why).write(out);
+    }
+    if !permit.holds() {
+        let why = "the server's lease may have ended before it answered";
+        return Response::Unsure(why).write(out);
+    }
+    let answered = Response::Answered {
+        server: permit.fleet.server(),
+        hops: call.hops,
+        fence: permit.fence(),
+        answer: &answer,
+    };
+    answered.write(out);
+}
+
+/// Writes what another server has answered, unless nothing was done there.
+fn returned(bytes: &[u8], out: &mut Vec<u8>) -> Step {
+    match Response::read(bytes) {
+        Ok(Response::Again(why)) => return Step::Waits(why.to_owned()),
+        Ok(response) => response.write(out),
+        Err(error) => Response::Unsure(&error.to_string()).write(out),
+    }
+    Step::Done
 }

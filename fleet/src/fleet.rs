@@ -50,6 +50,8 @@ pub(crate) struct FleetInner<S: Service> {
     /// The control of this process; none once it has left.
     pub(crate) control: Mutex<Option<Sender<Asked>>>,
     pub(crate) stopping: Arc<AtomicBool>,
+    /// Whether no call is taken any more.
+    pub(crate) closing: AtomicBool,
     left: Notify,
 }
 
@@ -78,53 +80,14 @@ impl<S: Service> Fleet<S> {
         if !options.listen.ip().is_loopback() && !options.open {
             return Err(JoinError::Open(options.listen));
         }
-        let settings = sharding.settings(options.servers);
-        settings::agree(&*store, &settings)?;
         let (listener, address) = Listener::bind(options.listen)?;
         let at = options
             .advertise
             .clone()
             .unwrap_or_else(|| address.to_string());
-        let addresses = Addresses {
-            servers: at.clone(),
-            clients: at,
-        };
         let (notices, noticed) = Notices::new();
-        let (lease, on_change) = (Duration::from_secs(options.lease), notices.teller());
-        let member = Member::join(store.clone(), options.name, addresses, lease, on_change)?;
-        let member = Arc::new(member);
-        let own = Own {
-            member: member.clone(),
-            // No request of such a service goes through a log.
-            elsewhere: Box::new(|_, steps| {
-                steps
-                    .into_iter()
-                    .for_each(|it| it.work.end(Err(NotDone::Busy)))
-            }),
-        };
-        let durable = Durable::open_one(
-            store,
-            sharding.shards(),
-            Tuning::default(),
-            own,
-            notices.teller(),
-        )?;
-        let view =
-            ShardView::new(options.name, 0, 0).map_err(|it| JoinError::Options(it.to_string()))?;
-        let stopping = Arc::<AtomicBool>::default();
-        let inner = Arc::new(FleetInner {
-            service,
-            places: (0..sharding.shards()).map(|_| Place::new(view)).collect(),
-            connections: Arc::new(Connections::new(checksum(settings.as_bytes()))),
-            member,
-            durable: Arc::new(durable),
-            options,
-            sharding,
-            settings,
-            control: Mutex::default(),
-            stopping,
-            left: Notify::new(),
-        });
+        let inner = FleetInner::joined((service, options, sharding), at, store, &notices)?;
+        let inner = Arc::new(inner);
         follower::begin(&inner, noticed)?;
         leading::begin(&inner)?;
         listener.begin(&inner)?;
@@ -196,8 +159,12 @@ impl<S: Service> Fleet<S> {
         while !self.inner.durable.is_away(server) && Instant::now() < end {
             thread::sleep(LOOK);
         }
-        // Clients whose maps are old have it forward a little longer.
-        thread::sleep(LINGER.min(end.saturating_duration_since(Instant::now())));
+        // Clients whose maps are old have it forward a little longer. Who still comes then is told to ask elsewhere, so
+        // that no call is under way as connections end.
+        let linger = || thread::sleep(LINGER.min(end.saturating_duration_since(Instant::now())));
+        linger();
+        self.inner.closing.store(true, Ordering::Release);
+        linger();
         self.leave();
     }
 
@@ -237,6 +204,59 @@ impl<S: Service> fmt::Debug for Fleet<S> {
 }
 
 impl<S: Service> FleetInner<S> {
+    /// Joins as the server of these options, which others reach at that address.
+    fn joined(
+        (service, options, sharding): (S, Options, Sharding),
+        at: String,
+        store: Arc<dyn Store>,
+        notices: &Notices,
+    ) -> Result<FleetInner<S>, JoinError> {
+        let settings = sharding.settings(options.servers);
+        settings::agree(&*store, &settings)?;
+        let (addresses, lease) = (
+            Addresses {
+                servers: at.clone(),
+                clients: at,
+            },
+            Duration::from_secs(options.lease),
+        );
+        let member = Member::join(
+            store.clone(),
+            options.name,
+            addresses,
+            lease,
+            notices.teller(),
+        )?;
+        let member = Arc::new(member);
+        let own = Own {
+            member: member.clone(),
+            // No request of such a service goes through a log.
+            elsewhere: Box::new(|_, steps| {
+                steps
+                    .into_iter()
+                    .for_each(|it| it.work.end(Err(NotDone::Busy)));
+            }),
+        };
+        let (shards, tuning) = (sharding.shards(), Tuning::default());
+        let durable = Durable::open_one(store, shards, tuning, own, notices.teller())?;
+        let unread = ShardView::new(options.name, 0, 0);
+        let unread = unread.map_err(|it| JoinError::Options(it.to_string()))?;
+        Ok(FleetInner {
+            service,
+            places: (0..shards).map(|_| Place::new(unread)).collect(),
+            connections: Arc::new(Connections::new(checksum(settings.as_bytes()))),
+            member,
+            durable: Arc::new(durable),
+            options,
+            sharding,
+            settings,
+            control: Mutex::default(),
+            stopping: Arc::default(),
+            closing: AtomicBool::new(false),
+            left: Notify::new(),
+        })
+    }
+
     pub(crate) fn server(&self) -> u16 {
         self.member.server()
     }

@@ -81,18 +81,36 @@ pub(crate) enum Response<'a> {
     Text(&'a [u8]),
 }
 
+impl CallFrame<'_> {
+    fn write(&self, out: &mut Vec<u8>) {
+        out.push(1);
+        out.extend(self.shard.to_be_bytes());
+        out.extend(self.from.to_be_bytes());
+        out.push(self.hops);
+        out.extend(self.revision.to_be_bytes());
+        out.extend(self.budget.to_be_bytes());
+        out.extend(self.request);
+    }
+}
+
+impl HandFrame<'_> {
+    fn write(&self, out: &mut Vec<u8>) {
+        out.push(3);
+        out.extend(self.shard.to_be_bytes());
+        out.extend(self.hand.server.to_be_bytes());
+        out.extend(self.hand.joined.to_be_bytes());
+        out.extend(self.hand.generation.to_be_bytes());
+        out.push(u8::from(self.is_changes));
+        out.extend(self.at.to_be_bytes());
+        out.extend(self.total.to_be_bytes());
+        out.extend(self.bytes);
+    }
+}
+
 impl<'a> Request<'a> {
     pub(crate) fn write(&self, out: &mut Vec<u8>) {
         framed(out, |out| match self {
-            Request::Call(call) => {
-                out.push(1);
-                out.extend(call.shard.to_be_bytes());
-                out.extend(call.from.to_be_bytes());
-                out.push(call.hops);
-                out.extend(call.revision.to_be_bytes());
-                out.extend(call.budget.to_be_bytes());
-                out.extend(call.request);
-            }
+            Request::Call(call) => call.write(out),
             Request::Copy {
                 shard,
                 generation,
@@ -103,17 +121,7 @@ impl<'a> Request<'a> {
                 out.extend(generation.to_be_bytes());
                 out.extend(at.to_be_bytes());
             }
-            Request::Hand(it) => {
-                out.push(3);
-                out.extend(it.shard.to_be_bytes());
-                out.extend(it.hand.server.to_be_bytes());
-                out.extend(it.hand.joined.to_be_bytes());
-                out.extend(it.hand.generation.to_be_bytes());
-                out.push(u8::from(it.is_changes));
-                out.extend(it.at.to_be_bytes());
-                out.extend(it.total.to_be_bytes());
-                out.extend(it.bytes);
-            }
+            Request::Hand(hand) => hand.write(out),
             Request::Command {
                 is_passed_on,
                 words,

@@ -186,24 +186,11 @@ impl<S: Service> FleetInner<S> {
     /// Stops executing, gives the next owner what it needs, and forwards from then on. Returns whether that was done.
     fn hand_over(&self, shard: u16, place: &Place<S::Body>, next: u16, generation: u64) -> bool {
         let mut body = place.body();
-        let (hand, has_copy) = {
-            let mut known = place.known();
-            if known.record().generation != generation {
-                return true;
-            }
-            if known.let_go().is_err() {
-                return false;
-            }
-            let copy = known
-                .copy
-                .take()
-                .filter(|it| it.is_whole && it.generation + 1 == generation);
-            let hand = HandOver {
-                joined: known.view.joined(),
-                generation,
-                server: self.server(),
-            };
-            (hand, copy.is_some())
+        if place.known().record().generation != generation {
+            return true;
+        }
+        let Some((hand, has_copy)) = self.let_go(place, generation) else {
+            return false;
         };
         #[cfg(test)]
         if self.options.plant == Some(crate::plant::Plant::EarlyAck) {
@@ -228,6 +215,21 @@ impl<S: Service> FleetInner<S> {
             self.member.ack(shard, generation);
         }
         is_handed
+    }
+
+    /// Lets go of the record, which nothing is executed by any more. Returns what is named by what is handed over, and
+    /// whether the next owner has a first copy.
+    fn let_go(&self, place: &Place<S::Body>, generation: u64) -> Option<(HandOver, bool)> {
+        let mut known = place.known();
+        known.let_go().ok()?;
+        let copy = known.copy.take();
+        let has_copy = copy.is_some_and(|it| it.is_whole && it.generation + 1 == generation);
+        let hand = HandOver {
+            joined: known.view.joined(),
+            generation,
+            server: self.server(),
+        };
+        Some((hand, has_copy))
     }
 
     /// Sends the next owner what it needs, one piece at a time. Returns whether it has taken all.

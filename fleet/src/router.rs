@@ -12,6 +12,8 @@ use std::time::{Duration, Instant};
 
 /// How long a call waits until it is sent again.
 const PAUSE: Duration = Duration::from_millis(5);
+/// How long servers aren't asked for their map again.
+const AGAIN: Duration = Duration::from_millis(20);
 /// How long a server may take to tell its map.
 const MAP: Duration = Duration::from_secs(5);
 
@@ -36,6 +38,8 @@ struct Told {
     addresses: Vec<String>,
     /// The revision of each shard's record, and where its owner is.
     routes: BTreeMap<u16, (u64, String)>,
+    /// When they were asked last.
+    asked: Option<Instant>,
 }
 
 /// What a service answered.
@@ -81,6 +85,7 @@ impl Router {
         let mut told = Told {
             addresses: vec![address.to_owned()],
             routes: BTreeMap::new(),
+            asked: None,
         };
         told.note(&text);
         let end = text
@@ -120,7 +125,13 @@ impl Router {
         let (shard, end) = (self.sharding.shard_of(key), Instant::now() + retry.budget());
         loop {
             let why = match self.call_once(shard, request, end) {
-                Ok(answer) => return Ok(answer),
+                Ok(answer) => {
+                    // A call that was forwarded went by an old map.
+                    if answer.hops > 0 {
+                        self.refresh();
+                    }
+                    return Ok(answer);
+                }
                 Err(unsure @ CallError::Unsure(_)) => return Err(unsure),
                 Err(CallError::NotMade(why)) => why,
             };
@@ -158,25 +169,7 @@ impl Router {
             }
             Err(error @ NotAnswered::Lost(..)) => return Err(CallError::Unsure(error.to_string())),
         };
-        match Response::read(&bytes) {
-            Ok(Response::Answered {
-                server,
-                hops,
-                fence,
-                answer,
-            }) => Ok(Answer {
-                bytes: answer.to_vec(),
-                server,
-                fence,
-                hops,
-            }),
-            Ok(Response::Again(why)) => Err(not_made(why)),
-            Ok(Response::Unsure(why)) => Err(CallError::Unsure(why.to_owned())),
-            Ok(Response::Piece { .. } | Response::Taken | Response::Text(_)) => Err(
-                CallError::Unsure("the server answers something else".to_owned()),
-            ),
-            Err(error) => Err(CallError::Unsure(error.to_string())),
-        }
+        answer_of(&bytes)
     }
 
     /// Gives the control of the fleet a command, as `["MIGRATE", "3", "2"]`, by way of the owner of the first shard, and
@@ -229,13 +222,44 @@ impl Router {
         let Source::Servers(told) = &self.source else {
             return;
         };
-        let addresses = locked(told).addresses.clone();
+        let addresses = {
+            let mut told = locked(told);
+            if told.asked.is_some_and(|it| it.elapsed() < AGAIN) {
+                return;
+            }
+            told.asked = Some(Instant::now());
+            told.addresses.clone()
+        };
         let answered = addresses
             .iter()
             .find_map(|it| map_of(&self.connections, it).ok());
         if let Some(text) = answered {
             locked(told).note(&text);
         }
+    }
+}
+
+/// What a server has answered to a call.
+fn answer_of(bytes: &[u8]) -> Result<Answer, CallError> {
+    match Response::read(bytes) {
+        Ok(Response::Answered {
+            server,
+            hops,
+            fence,
+            answer,
+        }) => Ok(Answer {
+            bytes: answer.to_vec(),
+            server,
+            fence,
+            hops,
+        }),
+        Ok(Response::Again(why)) => Err(CallError::NotMade(why.to_owned())),
+        Ok(Response::Unsure(why)) => Err(CallError::Unsure(why.to_owned())),
+        Ok(Response::Piece { .. } | Response::Taken | Response::Text(_)) => {
+            let why = "the server answers something else";
+            Err(CallError::Unsure(why.to_owned()))
+        }
+        Err(error) => Err(CallError::Unsure(error.to_string())),
     }
 }
 

@@ -172,6 +172,26 @@ fn example() -> PathBuf {
     folder.join("examples/rate_limiter")
 }
 
+/// Has shards go from server to server for a while.
+fn migrate(router: &Router) {
+    let end = Instant::now() + Duration::from_secs(2);
+    for turn in (0..).take_while(|_| Instant::now() < end) {
+        let [shard, to] = [turn % 12, turn % usize::from(SERVERS) + 1].map(|it| it.to_string());
+        let told = router.command(&["MIGRATE", &shard, &to], PATIENCE);
+        // The shard may be there already.
+        let is_there = |refusal: &String| refusal.contains("SameServer");
+        assert!(told.as_ref().err().is_none_or(is_there), "{told:?}");
+        thread::sleep(Duration::from_millis(20));
+    }
+}
+
+/// Asks the process to end, and waits until it has.
+fn stop(mut process: Process) {
+    let id = process.0.id().to_string();
+    let asked = Command::new("kill").args(["-TERM", &id]).status();
+    assert!(asked.unwrap().success() && process.0.wait().unwrap().success());
+}
+
 /// Which servers own shards.
 fn owned(router: &Router) -> BTreeSet<u16> {
     let lines = router.command(&["SHARDS"], PATIENCE).unwrap_or_default();
@@ -199,26 +219,11 @@ fn shards_move_under_load_and_a_killed_process_leaves_only_unsure_calls() {
     let asking = Arc::new(Router::of(&format!("http://{}/", servers[0].1)).unwrap());
     let routers = [watching.clone(), asking];
 
-    let tally = under_load(&routers, || {
-        let end = Instant::now() + Duration::from_secs(2);
-        for turn in (0..).take_while(|_| Instant::now() < end) {
-            let [shard, to] = [turn % 12, turn % usize::from(SERVERS) + 1].map(|it| it.to_string());
-            let told = watching.command(&["MIGRATE", &shard, &to], PATIENCE);
-            // The shard may be there already.
-            let is_there = |refusal: &String| refusal.contains("SameServer");
-            assert!(told.as_ref().err().is_none_or(is_there), "{told:?}");
-            thread::sleep(Duration::from_millis(20));
-        }
-    });
+    let tally = under_load(&routers, || migrate(&watching));
     assert!(tally.answered > 50, "{tally:?}");
     assert!(tally.unsure == 0 && tally.not_made.is_empty(), "{tally:?}");
 
-    let tally = under_load(&routers, || {
-        let (mut stopped, _) = servers.remove(1);
-        let id = stopped.0.id().to_string();
-        let told = Command::new("kill").args(["-TERM", &id]).status();
-        assert!(told.unwrap().success() && stopped.0.wait().unwrap().success());
-    });
+    let tally = under_load(&routers, || stop(servers.remove(1).0));
     assert!(tally.answered > 50, "{tally:?}");
     assert!(tally.unsure == 0 && tally.not_made.is_empty(), "{tally:?}");
     servers.push(server(&program, &etcd.url, 2));
@@ -227,9 +232,7 @@ fn shards_move_under_load_and_a_killed_process_leaves_only_unsure_calls() {
 
     let tally = under_load(&routers, || {
         thread::sleep(Duration::from_millis(200));
-        let (mut killed, _) = servers.remove(1);
-        killed.0.kill().unwrap();
-        killed.0.wait().unwrap();
+        drop(servers.remove(1));
         let is_gone = || !owned(&watching).contains(&3) && !owned(&watching).is_empty();
         until("the others own all shards", is_gone);
     });
