@@ -112,17 +112,16 @@ pub record HasReply (reply : TextReply) (text : List ℕ) (answer : TextAnswer) 
   pub length_is : answer.length ≡ length text
   pub bytes : take (length text) written ≡ text
 
--- the answer is that to the read, with this text
-abbrev pub TellsRead : ReadReply TextReply → Vec ℕ → TextAnswer → List ℕ → Type 0
-TellsRead read text answer written =
+-- the answer is that to the read, with its text
+abbrev pub TellsRead : ReadReply TextReply → TextAnswer → List ℕ → Type 0
+TellsRead read answer written =
     (answer.client ≡ read.client) × (answer.number ≡ read.number)
-    × IfSome read.reply (λ reply. HasReply reply text.items answer written) × IsSome read.reply
+    × IfSome read.answer (λ found. HasReply found.reply found.text.items answer written) × IsSome read.answer
 
 -- it is that to the read at this place
 abbrev pub IsReadAnswer : ℕ → TextAnswer → List ℕ → TextServer → Type 0
 IsReadAnswer at answer written server =
-    (read : ReadReply TextReply) × (text : Vec ℕ) × (slice_get server.read.items at ≡ Some read)
-    × (slice_get server.texts.items at ≡ Some text) × TellsRead read text answer written
+    (read : ReadReply TextReply) × (slice_get server.read.items at ≡ Some read) × TellsRead read answer written
 
 -- the numbers and the bytes are those of the keys of these pairs
 pub record WritesKeys (pairs : List KeyPair) (numbers : KeyNumbers) (written : List ℕ) : Type 0 where

@@ -1,10 +1,10 @@
 -- What a call does to a server of a shard: a step of the protocol, on what the bytes that it was given spell.
-use Rattle.std.specs.Prelude.{ℕ, Bool, true, false, ◌≡◌, ◌+◌, ◌++◌, ◌∷◌, [], List, Option, Some, None, IfSome, map}
+use Rattle.std.specs.Prelude.{ℕ, Bool, true, false, ◌≡◌, ◌+◌, ◌++◌, ◌∷◌, [], List, Option, Some, None, IfSome}
 use Rattle.std.specs.Prelude.{Ok, if◌then◌else◌, length, slice_get, take}
 use Rattle.std.specs.List.{AllByRecursion}
 use Rattle.std.specs.Global.{Vec}
 use Rattle.sm_ownership.specs.declared.record.Record.{Record}
-use Rattle.sm_map.specs.KeyMap.{KeyPair, held_at, text_of, within}
+use Rattle.sm_map.specs.KeyMap.{KeyPair, within}
 use Rattle.sm_store.specs.declared.head.Head.{Head}
 use Rattle.sm_store.specs.declared.item.Item.{Item}
 use Rattle.sm_store.specs.Deeds.{Charter, MaySend}
@@ -30,7 +30,7 @@ use Rattle.sm_store.specs.declared.store_key.PassingKey.TheVariants.{Batch, Part
 use Rattle.sm_texts.specs.declared.text_reply.TextReply.{TextReply}
 use Rattle.sm_texts.specs.Parts.{part_text}
 use Rattle.sm_texts.specs.Saves.{texts_service}
-use Rattle.sm_texts.specs.Texts.{is_read, parts_in}
+use Rattle.sm_texts.specs.Texts.{is_read}
 use Rattle.sm_driver.specs.declared.part_numbers.PartNumbers.{PartNumbers}
 use Rattle.sm_driver.specs.declared.sent_bytes.SentBytes.{SentBytes}
 use Rattle.sm_driver.specs.declared.text_server.TextServer.{TextServer}
@@ -188,27 +188,11 @@ SpellsSending server sent =
     sending_transaction sending ≡ sent_transaction server.core.me server.core.shard ready)
     × MayBeSent server.core (sending_transaction sending)
 
--- the text that the request asks for, where its key holds one
-abbrev pub text_for : List KeyPair → Option (ℕ × List ℕ × List ℕ) → List ℕ
-text_for pairs None = []
-text_for pairs (Some (kind, key, rest)) = text_of (held_at pairs key)
-
--- the texts that reads ask for
-abbrev pub texts_for : List KeyPair → List (Item (Vec ℕ)) → List (List ℕ)
-texts_for pairs items = map (λ item. text_for pairs (parts_in item.request.items)) items
-
--- the texts of the reads that a transaction carries, by the map that they read
-abbrev pub AreTexts : TextServer → List (Vec ℕ) → Type 0
-AreTexts server texts =
-    IfSome server.core.ready (λ ready.
-    map (λ text. text.items) texts ≡ texts_for ready.replica.machine ready.carried.items)
-
--- the answers are those of the transaction that was made, and the texts those that its reads asked for
+-- the answers are those of the transaction that was made, and of the reads that it carried
 abbrev pub TellsAnswers : TextServer → ℕ → TextServer → Type 0
 TellsAnswers old revision new =
     DoneOn old (λ input. input ≡ Made revision)
     (λ output. output ≡ Answers (record { made = new.made; read = new.read })) new
-    × AreTexts old new.texts.items
 
 -- the shard as the server knows it, after all requests that are made
 abbrev pub TextState : Type 0

@@ -656,32 +656,27 @@ fn answer_in(server: &TextServer, at: usize, answer: &mut TextAnswer) -> u32
 fn text_in(server: &TextServer, at: usize, answer: &mut TextAnswer, into: &mut [u8]) -> u32
     ensures { result ≡ 0 → IsReadAnswer at answer.new into.new server.now }
 {
-    match (server.read.get(at), server.texts.get(at)) {
-        (Some(read), Some(text)) => tell_read(read, text, answer, into),
-        _ => NO_MORE,
+    match server.read.get(at) {
+        Some(read) => tell_read(read, answer, into),
+        None => NO_MORE,
     }
 }
 
-fn tell_read(
-    read: &ReadReply<TextReply>,
-    text: &Vec<u8>,
-    answer: &mut TextAnswer,
-    into: &mut [u8],
-) -> u32
-    ensures { result ≡ 0 → TellsRead read.now text.now answer.new into.new }
+fn tell_read(read: &ReadReply<TextReply>, answer: &mut TextAnswer, into: &mut [u8]) -> u32
+    ensures { result ≡ 0 → TellsRead read.now answer.new into.new }
 {
-    let Some(reply) = read.reply else {
+    let Some(found) = &read.answer else {
         return NO_MORE;
     };
-    if !write(text, into) {
+    if !write(&found.text, into) {
         return TOO_SHORT;
     }
     *answer = TextAnswer {
         client: read.client,
         number: read.number,
-        value: reply.number,
-        length: text.len(),
-        kind: reply.kind,
+        value: found.reply.number,
+        length: found.text.len(),
+        kind: found.reply.kind,
     };
     0
 }

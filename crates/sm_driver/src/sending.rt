@@ -1,21 +1,17 @@
 //! What a server sends, as bytes.
-ghost use Rattle.std.specs.Prelude.{◌≡◌, ◌<◌, ◌^◌, IfOk, IsTrue, Option, None, map};
+ghost use Rattle.std.specs.Prelude.{◌≡◌, ◌<◌, ◌^◌, IfOk, IsTrue, Option, None};
 ghost use Rattle.sm_codec.specs.Spelling.{FitsBatch, FitsItem, FitsMode, item_view, item_views};
-ghost use Rattle.sm_texts.specs.Texts.{parts_in};
-ghost use Rattle.sm_driver.specs.Servers.{AreTexts, IsSpelled, batch_written, head_written, number_written, text_for};
-ghost use Rattle.sm_driver.specs.Servers.{texts_for};
+ghost use Rattle.sm_driver.specs.Servers.{IsSpelled, batch_written, head_written, number_written};
 
 use crate::driver_fault::DriverFault;
 use crate::sent_bytes::SentBytes;
-use crate::text_server::TextServer;
 use sm_codec::{write_head, write_requests};
 use sm_ownership::mode::Mode;
 use sm_ranges::server_id::ServerId;
 use sm_shard::{BatchSending, NamedBase};
 use sm_store::head::Head;
 use sm_store::item::Item;
-use sm_texts::{StoreTexts, Val, parts_of};
-use std::alloc::{AllocError, Global};
+use std::alloc::Global;
 
 /// What the transaction compares and writes.
 pub(crate) fn spelled(
@@ -152,46 +148,5 @@ fn names_server(mode: Mode)
         Mode::Forwarded(from) => {
             let _ = from.number();
         }
-    }
-}
-
-/// The texts that the reads of the transaction that was sent ask for.
-pub(crate) fn texts_of(alloc: Global, server: &TextServer) -> Result<Vec<Vec<u8>>, DriverFault>
-    ensures { IfOk result (λ texts. AreTexts server.now texts.items) }
-{
-    match &server.core.ready {
-        Some(ready) => {
-            let texts = texts_in(alloc, &ready.replica.machine, &ready.carried)?;
-            Ok(texts)
-        }
-        None => Ok(Vec::new(alloc)),
-    }
-}
-
-fn texts_in(
-    alloc: Global,
-    machine: &StoreTexts,
-    items: &[Item<Vec<u8>>],
-) -> Result<Vec<Vec<u8>>, AllocError>
-    ensures { IfOk result (λ texts. map (λ text. text.items) texts.items ≡ texts_for machine.now items.now) }
-{
-    let mut texts = Vec::new(alloc);
-    for item in items {
-        let text = text_in(alloc, machine, &item.request)?;
-        texts.push(text)?;
-    }
-    Ok(texts)
-}
-
-// The text that the request asks for, where its key holds one.
-fn text_in(alloc: Global, machine: &StoreTexts, request: &[u8]) -> Result<Vec<u8>, AllocError>
-    ensures { IfOk result (λ text. text.items ≡ text_for machine.now (parts_in request.now)) }
-{
-    match parts_of(request) {
-        Some((_, key, _)) => match machine.look(key) {
-            Some(Val::Text(text)) => Vec::from_slice(alloc, text),
-            _ => Ok(Vec::new(alloc)),
-        },
-        None => Ok(Vec::new(alloc)),
     }
 }

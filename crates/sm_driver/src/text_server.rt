@@ -11,7 +11,7 @@ ghost use Rattle.sm_texts.specs.Keys.{spelled_keys};
 
 use crate::driver_fault::DriverFault;
 use crate::part_numbers::PartNumbers;
-use crate::sending::{spelled, texts_of};
+use crate::sending::spelled;
 use crate::sent_bytes::SentBytes;
 use sm_codec::{ReadError, read_batch, read_head, read_record};
 use sm_ranges::server_id::ServerId;
@@ -37,8 +37,6 @@ pub struct TextServer {
     /// The answers of the last transaction that was made, and to the reads that it carried.
     pub made: Vec<MadeReply<TextReply>>,
     pub read: Vec<ReadReply<TextReply>>,
-    /// The texts that those reads asked for.
-    pub texts: Vec<Vec<u8>>,
 }
 
 impl TextServer {
@@ -59,7 +57,6 @@ impl TextServer {
                 batches: Vec::new(alloc),
                 made: Vec::new(alloc),
                 read: Vec::new(alloc),
-                texts: Vec::new(alloc),
             }),
             None => None,
         }
@@ -191,13 +188,11 @@ impl TextServer {
     pub fn on_made(&mut self, alloc: Global, revision: u64) -> Result<(), DriverFault>
         ensures told { OnOk result (TellsAnswers self.old revision self.new) }
     {
-        let texts = texts_of(alloc, self)?;
         let output = step(alloc, &mut self.core, ShardInput::Made(revision))?;
         match output {
             ShardOutput::Answers(answers) => {
                 self.made = answers.made;
                 self.read = answers.read;
-                self.texts = texts;
                 Ok(())
             }
             _ => Err(DriverFault::Unread),

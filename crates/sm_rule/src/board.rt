@@ -15,6 +15,7 @@ mod closing;
 mod executing;
 mod making;
 mod telling;
+mod two_passes;
 
 use crate::chair::Chair;
 use crate::origin::Origin;

@@ -18,6 +18,16 @@ pub struct View<Q> {
     pub stage: Stage,
     /// The seat that it has taken in last.
     pub heard: Option<Heard<Q>>,
+    /// How many seats were cut from it.
+    pub cuts: u64,
+    /// The seat from which it was cut, if it was.
+    pub parent: Option<Parent>,
+}
+
+/// A seat from which another was cut: its number, and how many had been cut from it by then, with that other.
+pub struct Parent {
+    pub number: u64,
+    pub cuts: u64,
 }
 
 /// Whether a seat acts.
@@ -38,8 +48,9 @@ pub struct HeldShard<Q> {
     pub all: LinkedList<Q>,
 }
 
-/// What a seat that was taken in had seen, and its number.
+/// What a seat that was taken in had seen, its number, and the seat from which it was cut.
 pub struct Heard<Q> {
     pub by: u64,
     pub seen: LinkedList<Entry<Q>>,
+    pub parent: Option<Parent>,
 }

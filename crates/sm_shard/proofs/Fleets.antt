@@ -172,7 +172,7 @@ module _ {Q R : Type 0} where
   system_is (Starts server ∷ acts) = system_is acts
   system_is (Steps which old input result new ∷ acts) =
       let sends = step_sends result new in
-      let claims = step_claims new.shard input result in
+      let claims = step_claims old.server input result in
       ap (λ (now : System Q (Part R) R). with_claims (with_sent now sends) claims) (system_is acts)
       ∙ ap (λ (now : System Q (Part R) R). with_claims now claims) (sym (sent_after (events_of acts) sends))
       ∙ sym (claimed_after (map Sends sends ++ events_of acts) claims)
@@ -183,11 +183,12 @@ module _ {M Q R : Type 0} (service : Automaton M Q R) where
   may_still : (system : System Q (Part R) R) (txns : List (Transaction Q (Part R))) (claims : List (Claim Q R))
       (claim : Claim Q R) → MayClaim service system claim
       → MayClaim service (with_claims (with_sent system txns) claims) claim
-  may_still system txns claims (Replies shard client number answer) may = may
+  may_still system txns claims (Replies shard client number request answer) may = may
   may_still system txns claims (Overtaken shard client number) may = may
-  may_still system txns claims (Reads shard client number answer) may = record {
+  may_still system txns claims (Reads shard client number request answer text) may = record {
     ask = may.ask;
     was_asked = may.was_asked;
+    request_is = may.request_is;
     held = may.held;
     only_reads = may.only_reads;
     was_held = may.was_held;
@@ -197,6 +198,7 @@ module _ {M Q R : Type 0} (service : Automaton M Q R) where
     items_were = may.items_were;
     compared = may.compared;
     answer_is = may.answer_is;
+    text_is = may.text_is;
   }
 
 module _ {M Q R : Type 0} (service : Automaton M Q R) (charter : Charter Q (Part R)) where
@@ -272,18 +274,15 @@ module _ {M Q R : Type 0} (service : Automaton M Q R) (charter : Charter Q (Part
       subst (λ (now : System Q (Part R) R). ArePast now) (sym is) (asks_within events) in
       let right : AreRight charter log =
       subst (λ (now : System Q (Part R) R). AreRight charter now.log) (sym is) (law events run.might).right in
-      let safe : IsSafe service charter system old.since old.server.shard input result new =
+      let safe : IsSafe service charter system old.since old.server input result new =
       step.call charter system old.since was.count parts right past was.known was.in_time step.input_is in
-      let claims_may : AllByRecursion (MayClaim service system) (step_claims new.shard input result) =
-      subst (λ (k : ℕ). AllByRecursion (MayClaim service system) (step_claims k input result))
-      (sym step.shard) safe.claims in
       let sends = step_sends result new in
-      let claims = step_claims new.shard input result in
+      let claims = step_claims old.server input result in
       let first : List (Event Q (Part R) R) = map Sends sends ++ events in
       let sent : with_sent system sends ≡ system_after first =
       ap (λ (now : System Q (Part R) R). with_sent now sends) is ∙ sym (sent_after events sends) in
       record {
-        might = claims_might system sends first (sym sent) claims claims_may
+        might = claims_might system sends first (sym sent) claims safe.claims
             (sends_might events sends
             (subst (λ (now : System Q (Part R) R). AllByRecursion (MaySend charter now.log) sends) is safe.may)
             run.might);
@@ -348,7 +347,7 @@ module _ {M Q R : Type 0} (service : Automaton M Q R) (charter : Charter Q (Part
         servers = all_set (AreRunningAsked asked) fleet.servers which
             (record { server = new; since = since_after result old.since (length fleet.system.log) }) run.servers
             done.requests;
-        events = claims_asked (step_claims new.shard input result) (map Sends sends ++ events)
+        events = claims_asked (step_claims old.server input result) (map Sends sends ++ events)
             (sends_asked events sends
             (subst (λ (now : System Q (Part R) R). AllByRecursion (AsksFor now.asked) sends) (system_is acts)
             done.sends)

@@ -8,4 +8,5 @@ pub mod Replicas
 pub mod Replies
 pub mod ShardServers
 pub mod StoreServers
+pub mod Told
 pub mod Works

@@ -1,19 +1,17 @@
 -- The replica of one more request.
 use Rattle.std.proofs.Common.{◌≡◌, ℕ, ◌<◌, ◌≤◌, List, [], ◌∷◌, ◌++◌, sym, ap, subst, ◌∙◌, arith, append_assoc}
 use Rattle.std.specs.Prelude.{Option, Some, None, max}
-use Rattle.std.specs.List.{AllByRecursion}
 use Rattle.std.specs.BTreeMap.{BTreeMap, get, insert_entry}
 use Rattle.std.specs.Ordering.{nat_cmp}
 use Rattle.sm_store.specs.declared.item.Item.{Item}
-use Rattle.sm_store.specs.Clients.{Automaton, floor_of, last_of, AreNext, ComesNext, reply_in, state_after}
-use Rattle.sm_store.specs.lemmas.Numbers.{floor-append, next-append, unused, reply-append}
-use Rattle.sm_shard.specs.declared.replica.MadeReply.{MadeReply}
+use Rattle.sm_store.specs.Clients.{Automaton, floor_of, last_of, AreNext, ComesNext, state_after}
+use Rattle.sm_store.specs.lemmas.Numbers.{floor-append, next-append}
 use Rattle.sm_shard.specs.declared.replica.Replica.{Replica}
 use Rattle.sm_shard.specs.declared.replica.LastRequest.{LastRequest}
 use Rattle.sm_shard.specs.Bases.{Lasts, kept_from, noted}
-use Rattle.sm_shard.specs.Replicas.{IsReplica, last_number, replies_of}
+use Rattle.sm_shard.specs.Replicas.{IsReplica, last_number}
 use Rattle.sm_shard.proofs.Lasts.{IsLast, found, lasts-append, lasts_are}
-use Rattle.sm_shard.proofs.Replies.{reply_new, state-append}
+use Rattle.sm_shard.proofs.Replies.{state-append}
 
 module _ {M Q R : Type 0} (service : Automaton M Q R) where
   last_is : (items : List (Item Q)) (client : ℕ) (last : Option (LastRequest R))
@@ -80,28 +78,4 @@ module _ {M Q R : Type 0} (service : Automaton M Q R) where
         subst (λ (list : List (Item Q)). IsReplica service list next)
             (append_assoc before front (item ∷ [])) now.0,
         next-append before front (item ∷ []) earlier.1 (now.1, tt),
-      )
-
-  -- the answers to requests that come next are their replies
-  pub answers_are : (before items : List (Item Q)) → AreNext before items
-      → AllByRecursion (λ (answer : MadeReply R). reply_in service service.start
-      (before ++ items) answer.client answer.number ≡ Some answer.reply)
-      (replies_of service (state_after service service.start before) items)
-  answers_are before [] next = tt
-  answers_are before (item ∷ items) next =
-      let whole : (before ++ item ∷ []) ++ items ≡ before ++ (item ∷ items) = append_assoc before (item ∷ []) items in
-      let here : reply_in service service.start (before ++ item ∷ []) item.client item.number
-      ≡ Some (service.reply (state_after service service.start before) item.request) =
-      reply_new service service.start before item (unused item.client item.number before next.0.above) in (
-        subst (λ (list : List (Item Q)). reply_in service service.start list item.client item.number
-            ≡ Some (service.reply (state_after service service.start before) item.request)) whole
-            (reply-append service service.start (before ++ item ∷ []) items item.client item.number
-            (service.reply (state_after service service.start before) item.request) here),
-        subst (λ (list : List (Item Q)). AllByRecursion (λ (answer : MadeReply R). reply_in service service.start list
-            answer.client answer.number ≡ Some answer.reply) (replies_of service
-            (service.after (state_after service service.start before) item.request) items)) whole
-            (subst (λ (state : M). AllByRecursion (λ (answer : MadeReply R). reply_in service service.start
-            ((before ++ item ∷ []) ++ items) answer.client answer.number ≡ Some answer.reply)
-            (replies_of service state items)) (state-append service service.start before item)
-            (answers_are (before ++ item ∷ []) items next.1)),
       )

@@ -19,7 +19,7 @@ use Rattle.sm_shard.specs.declared.base_work.NamedBase.{NamedBase}
 use Rattle.sm_store.specs.declared.compare.Compare.{Compare}
 use Rattle.sm_store.specs.declared.head.Head.{Head}
 use Rattle.sm_store.specs.declared.item.Item.{Item}
-use Rattle.sm_store.specs.Clients.{Automaton, ComesNext, IsOver, floor_of, last_of, reply_in, state_after}
+use Rattle.sm_store.specs.Clients.{AreNext, Automaton, ComesNext, IsOver, floor_of, last_of, reply_in, state_after}
 use Rattle.sm_store.specs.Store.{IsRising, Transaction, all_hold, head_key, made, made_at, record_key, revision_of}
 use Rattle.sm_store.specs.Store.{stored_record}
 use Rattle.sm_store.specs.Deeds.{AreAccepted, Charter, Checking, Executing, MayClear, MayExecute, MayName, MaySend}
@@ -29,11 +29,11 @@ use Rattle.sm_store.specs.System.{Ask, Claim, IsAmong, IsSo, MayClaim, Overtaken
 use Rattle.sm_store.specs.lemmas.Growth.{so_grows, next_split}
 use Rattle.sm_store.specs.lemmas.Heart.{first_held, stood_then}
 use Rattle.sm_store.specs.lemmas.Logs.{all_among, all_map}
-use Rattle.sm_store.specs.lemmas.Numbers.{floor-append, last-append, next-append, next_front}
+use Rattle.sm_store.specs.lemmas.Numbers.{floor-append, last-append, next-append, next_front, reply-append}
+use Rattle.sm_store.specs.lemmas.Numbers.{unused}
 use Rattle.sm_store.specs.lemmas.Views.{log_view}
 use Rattle.sm_shard.specs.declared.shard_limits.ShardLimits.{ShardLimits}
 use Rattle.sm_shard.specs.declared.replica.MadeReply.{MadeReply}
-use Rattle.sm_shard.specs.declared.replica.ReadReply.{ReadReply}
 use Rattle.sm_shard.specs.declared.shard_state.Decision.{Decision}
 use Rattle.sm_shard.specs.declared.shard_state.Decision.TheVariants.{Replied, Passed, Waits, Forwards, Refused}
 use Rattle.sm_shard.specs.declared.shard_state.Decision.TheVariants.{Forgotten, NotRead, TooFar, TooLarge}
@@ -41,14 +41,14 @@ use Rattle.sm_shard.specs.declared.shard_state.Decision.TheVariants.{TooManyClie
 use Rattle.sm_shard.specs.declared.shard_state.ShardState.{ShardState}
 use Rattle.sm_shard.specs.Decisions.{batch_from, batch_length, begins_base, decided_by_number, goes_with, client_number}
 use Rattle.sm_shard.specs.Decisions.{asking_after, is_behind, is_taken, named_by, waiting_after}
-use Rattle.sm_shard.specs.Replicas.{IsReplica, read_of, replies_of}
+use Rattle.sm_shard.specs.Replicas.{IsReplica, ToldRead, read_of, replies_of}
 use Rattle.sm_shard.specs.Steps.{ArePast, bases_of, transactions_of}
 use Rattle.sm_shard.specs.ShardServers.{AreAskedOf, AreRequestsAskedOf, AreWritten, DidHold, HasRead, IsAsked}
 use Rattle.sm_shard.specs.ShardServers.{IsAskedBy, IsButWork, IsDecided, IsFlushed, IsNewBase, IsShardState}
 use Rattle.sm_shard.specs.ShardServers.{IsUnflushed, IsWorkTrue, StoreLog, StoreSystem, WasMade, WereMade, claimed_all}
 use Rattle.sm_shard.specs.ShardServers.{claimed_by, claimed_read, claimed_reads, named_at, named_now, sent_transaction}
 use Rattle.sm_shard.specs.ShardServers.{transaction_for, written_now}
-use Rattle.sm_shard.proofs.Replicas.{answers_are}
+use Rattle.sm_shard.proofs.Replies.{reply_new, state-append}
 use Rattle.sm_shard.proofs.Works.{base_begun, base_later, base_written, bases_may, clear_may, head_found, lt_of}
 use Rattle.sm_shard.proofs.Works.{name_may}
 
@@ -114,11 +114,6 @@ head_by_fields head batches base parts a b c =
     subst (λ (n : ℕ). head ≡ record { batches = batches; base = base; parts = n }) c
     (subst (λ (n : ℕ). head ≡ record { batches = batches; base = n; parts = head.parts }) b
     (subst (λ (n : ℕ). head ≡ record { batches = n; base = head.base; parts = head.parts }) a refl))
-
--- a value, where a test holds
-if_some : {A : Type 0} (b : Bool) (x : A) → IfSome (if b then Some x else None) (λ y. IsTrue b × (y ≡ x))
-if_some true x = (refl, refl)
-if_some false x = tt
 
 -- something is written
 heads_some : {A : Type 0} (x : A) (xs : List A) → x ∷ xs ≢ []
@@ -266,14 +261,14 @@ module _ {M Q R : Type 0} (service : Automaton M Q R) where
       }
 
   -- a reply among the requests that were read is so
-  pub reply_so : (shard : ℕ) (system : StoreSystem Q R) (read : ShardLog Q) (revision client number : ℕ) (answer : R)
-      → WasFound (shard_log shard) (head_key shard) system.log read revision
+  pub reply_so : (shard : ℕ) (system : StoreSystem Q R) (read : ShardLog Q) (revision client number : ℕ) (request : Q)
+      (answer : R) → WasFound (shard_log shard) (head_key shard) system.log read revision
       → reply_in service service.start read.items client number ≡ Some answer
-      → MayClaim service system (Replies shard client number answer)
-  reply_so shard system read revision client number answer found is =
-      subst (λ (list : StoreLog Q R). IsSo service system.asked list (Replies shard client number answer))
+      → MayClaim service system (Replies shard client number request answer)
+  reply_so shard system read revision client number request answer found is =
+      subst (λ (list : StoreLog Q R). IsSo service system.asked list (Replies shard client number request answer))
       (sym found.is)
-      (so_grows service system.asked found.later found.past (Replies shard client number answer)
+      (so_grows service system.asked found.later found.past (Replies shard client number request answer)
       (subst (λ (l : ShardLog Q). reply_in service service.start l.items client number ≡ Some answer)
       (sym found.was) is))
 
@@ -286,36 +281,48 @@ module _ {M Q R : Type 0} (service : Automaton M Q R) where
       (so_grows service system.asked found.later found.past (Overtaken shard client number)
       (subst (λ (l : ShardLog Q). IsOver client number l.items) (sym found.was) is))
 
-  pub answers_so : (shard : ℕ) (system : StoreSystem Q R) (read : ShardLog Q) (revision : ℕ)
-      → WasFound (shard_log shard) (head_key shard) system.log read revision → (answers : List (MadeReply R))
-      → AllByRecursion (λ (answer : MadeReply R). reply_in service service.start read.items answer.client answer.number
-      ≡ Some answer.reply) answers
-      → AllByRecursion (MayClaim service system) (claimed_all shard answers)
-  answers_so shard system read revision found [] all = tt
-  answers_so shard system read revision found (answer ∷ answers) all = (
-    reply_so shard system read revision answer.client answer.number answer.reply found all.0,
-    answers_so shard system read revision found answers all.1,
-  )
+  -- the replies to requests that come next are so
+  answers_so : (shard : ℕ) (system : StoreSystem Q R) (read : ShardLog Q) (revision : ℕ)
+      → WasFound (shard_log shard) (head_key shard) system.log read revision → (before items : List (Item Q))
+      → AreNext before items → before ++ items ≡ read.items
+      → AllByRecursion (MayClaim service system)
+      (claimed_all shard items (replies_of service (state_after service service.start before) items))
+  answers_so shard system read revision found before [] next is = tt
+  answers_so shard system read revision found before (item ∷ items) next is =
+      let state = state_after service service.start before in
+      let unmade = unused item.client item.number before next.0.above in
+      let whole : (before ++ item ∷ []) ++ items ≡ read.items = append_assoc before (item ∷ []) items ∙ is in (
+        reply_so shard system read revision item.client item.number item.request (service.reply state item.request)
+            found
+            (subst (λ (list : List (Item Q)). reply_in service service.start list item.client item.number
+            ≡ Some (service.reply state item.request)) whole
+            (reply-append service service.start (before ++ item ∷ []) items item.client item.number
+            (service.reply state item.request) (reply_new service service.start before item unmade))),
+        subst (λ (s : M). AllByRecursion (MayClaim service system) (claimed_all shard items
+            (replies_of service s items)))
+            (state-append service service.start before item)
+            (answers_so shard system read revision found (before ++ item ∷ []) items next.1 whole),
+      )
 
   pub decided_so : (shard me : ℕ) (system : StoreSystem Q R) (state : Record) (read : ShardLog Q)
-      (revision client number : ℕ)
-      → WasFound (shard_log shard) (head_key shard) system.log read revision → (decision : Decision R)
-      → IsDecided service state me read.items client number decision
-      → AllByRecursion (MayClaim service system) (claimed_by shard client number decision)
-  decided_so shard me system state read revision client number found (Replied answer) is =
-      (reply_so shard system read revision client number answer found is, tt)
-  decided_so shard me system state read revision client number found Passed is =
-      (overtaken_so shard system read revision client number found (inl is), tt)
-  decided_so shard me system state read revision client number found Forgotten is =
-      (overtaken_so shard system read revision client number found (inr is), tt)
-  decided_so shard me system state read revision client number found Waits is = tt
-  decided_so shard me system state read revision client number found (Forwards to hops) is = tt
-  decided_so shard me system state read revision client number found TooFar is = tt
-  decided_so shard me system state read revision client number found Refused is = tt
-  decided_so shard me system state read revision client number found NotRead is = tt
-  decided_so shard me system state read revision client number found TooLarge is = tt
-  decided_so shard me system state read revision client number found TooManyClients is = tt
-  decided_so shard me system state read revision client number found Busy is = tt
+      (revision : ℕ) (item : Item Q) → WasFound (shard_log shard) (head_key shard) system.log read revision
+      → (decision : Decision R)
+      → IsDecided service state me read.items item.client item.number decision
+      → AllByRecursion (MayClaim service system) (claimed_by shard item decision)
+  decided_so shard me system state read revision item found (Replied answer) is =
+      (reply_so shard system read revision item.client item.number item.request answer found is, tt)
+  decided_so shard me system state read revision item found Passed is =
+      (overtaken_so shard system read revision item.client item.number found (inl is), tt)
+  decided_so shard me system state read revision item found Forgotten is =
+      (overtaken_so shard system read revision item.client item.number found (inr is), tt)
+  decided_so shard me system state read revision item found Waits is = tt
+  decided_so shard me system state read revision item found (Forwards to hops) is = tt
+  decided_so shard me system state read revision item found TooFar is = tt
+  decided_so shard me system state read revision item found Refused is = tt
+  decided_so shard me system state read revision item found NotRead is = tt
+  decided_so shard me system state read revision item found TooLarge is = tt
+  decided_so shard me system state read revision item found TooManyClients is = tt
+  decided_so shard me system state read revision item found Busy is = tt
 
   -- what is sent may be sent
   pub may_send : (charter : Charter Q (Part R)) (log : StoreLog Q R) (me shard : ℕ) (ready : ShardState M Q R)
@@ -569,27 +576,42 @@ module _ {M Q R : Type 0} (service : Automaton M Q R) where
       → (knows : HasRead service system.log me shard ready) → ready.sent.items ≢ []
       → WereMade system.log me shard revision ready
       → answers ≡ replies_of service ready.replica.machine ready.sent.items
-      → AllByRecursion (MayClaim service system) (claimed_all shard answers)
+      → AllByRecursion (MayClaim service system) (claimed_all shard ready.sent.items answers)
   told_made system me shard revision ready answers rising knows some were_made is =
-      let items = knows.before ++ ready.sent.items in
       let next = (accepted_front ready.state me knows.before ready.sent.items ready.waiting.items
       knows.is.accepted).next in
       let those : replies_of service (state_after service service.start knows.before) ready.sent.items ≡ answers =
       ap (λ (m : M). replies_of service m ready.sent.items) (sym knows.is.replica.machine) ∙ sym is in
-      answers_so shard system _ revision (made_then system.log me shard revision ready rising knows some were_made)
-      answers
-      (subst (AllByRecursion (λ (answer : MadeReply R). reply_in service service.start items answer.client answer.number
-      ≡ Some answer.reply)) those
-      (answers_are service knows.before ready.sent.items next))
+      subst (λ (list : List (MadeReply R)). AllByRecursion (MayClaim service system)
+      (claimed_all shard ready.sent.items list)) those
+      (answers_so shard system _ revision (made_then system.log me shard revision ready rising knows some were_made)
+      knows.before ready.sent.items next refl)
+
+  -- so it is of a server that has read
+  pub made_told : (system : StoreSystem Q R) (me shard revision : ℕ) (found : Option (ShardState M Q R))
+      (ready : ShardState M Q R) → found ≡ Some ready → (answers : List (MadeReply R))
+      → AllByRecursion (MayClaim service system) (claimed_all shard ready.sent.items answers)
+      → IfSome found (λ r. AllByRecursion (MayClaim service system) (claimed_all shard r.sent.items answers))
+  made_told system me shard revision found ready is answers all =
+      subst (λ (o : Option (ShardState M Q R)). IfSome o (λ r. AllByRecursion (MayClaim service system)
+      (claimed_all shard r.sent.items answers))) (sym is) all
+
+  -- nothing is claimed where nothing was sent
+  pub none_told : (system : StoreSystem Q R) (shard : ℕ) (ready : ShardState M Q R) (answers : List (MadeReply R))
+      → ready.sent.items ≡ []
+      → AllByRecursion (MayClaim service system) (claimed_all shard ready.sent.items answers)
+  none_told system shard ready answers none =
+      subst (λ (list : List (Item Q)). AllByRecursion (MayClaim service system) (claimed_all shard list answers))
+      (sym none) tt
 
   -- a read that was carried may be claimed once its transaction held
   read_may : (system : StoreSystem Q R) (since me shard : ℕ) (ready : ShardState M Q R)
       → HasRead service system.log me shard ready
       → DidHold system.held since (sent_transaction me shard ready)
-      → (item : Item Q) → IsAskedBy system.asked shard since item → (answer : R)
-      → IsTrue (service.reads item.request) × (answer ≡ service.reply ready.replica.machine item.request)
-      → MayClaim service system (Reads shard item.client item.number answer)
-  read_may system since me shard ready knows did item asked answer is =
+      → (item : Item Q) → IsAskedBy system.asked shard since item → IsTrue (service.reads item.request)
+      → MayClaim service system (Reads shard item.client item.number item.request
+      (service.reply ready.replica.machine item.request) (service.text ready.replica.machine item.request))
+  read_may system since me shard ready knows did item asked reads =
       let in_time = asked.3 in
       let sent_after = did.sent_after in
       let those : (sent_transaction me shard ready).compares ≡ did.one.txn.compares =
@@ -597,7 +619,8 @@ module _ {M Q R : Type 0} (service : Automaton M Q R) where
       record {
         ask = asked.0;
         was_asked = asked.1;
-        only_reads = subst (λ (request : Q). IsTrue (service.reads request)) (sym asked.2) is.0;
+        request_is = asked.2;
+        only_reads = reads;
         held = did.one;
         was_held = did.among;
         sent_after = omega arith;
@@ -612,22 +635,22 @@ module _ {M Q R : Type 0} (service : Automaton M Q R) where
         };
         compared = subst (IsAmong (at (head_key shard) ready.logged)) those
             (head_compared R shard me (named_by ready.work) ready.sent.items ready.head ready.stood ready.logged);
-        answer_is = is.1 ∙ ap (λ (m : M). service.reply m item.request) knows.is.replica.machine
-            ∙ ap (service.reply (state_after service service.start knows.before)) (sym asked.2);
+        answer_is = ap (λ (m : M). service.reply m item.request) knows.is.replica.machine;
+        text_is = ap (λ (m : M). service.text m item.request) knows.is.replica.machine;
       }
 
   read_one : (system : StoreSystem Q R) (since me shard : ℕ) (ready : ShardState M Q R)
       → HasRead service system.log me shard ready
       → DidHold system.held since (sent_transaction me shard ready)
-      → (item : Item Q) → IsAskedBy system.asked shard since item → (found : Option R)
-      → IfSome found (λ answer. IsTrue (service.reads item.request)
-      × (answer ≡ service.reply ready.replica.machine item.request))
+      → (item : Item Q) → IsAskedBy system.asked shard since item → (b : Bool) → service.reads item.request ≡ b
       → (others : List (Claim Q R)) → AllByRecursion (MayClaim service system) others
       → AllByRecursion (MayClaim service system)
-      (claimed_read shard (record { client = item.client; number = item.number; reply = found }) found others)
-  read_one system since me shard ready knows did item asked None is others all = all
-  read_one system since me shard ready knows did item asked (Some answer) is others all =
-      (read_may system since me shard ready knows did item asked answer is, all)
+      (claimed_read shard item.request item.client item.number
+      (if b then Some (service.reply ready.replica.machine item.request,
+      service.text ready.replica.machine item.request) else None) others)
+  read_one system since me shard ready knows did item asked false is others all = all
+  read_one system since me shard ready knows did item asked true is others all =
+      (read_may system since me shard ready knows did item asked is, all)
 
   -- what the reads of a transaction claim may be claimed once it held
   pub reads_may : (system : StoreSystem Q R) (since me shard : ℕ) (ready : ShardState M Q R)
@@ -635,13 +658,11 @@ module _ {M Q R : Type 0} (service : Automaton M Q R) where
       → DidHold system.held since (sent_transaction me shard ready)
       → (items : List (Item Q)) → AllByRecursion (IsAskedBy system.asked shard since) items
       → AllByRecursion (MayClaim service system)
-      (claimed_reads shard (map (read_of service ready.replica.machine) items))
+      (claimed_reads shard items (map (read_of service ready.replica.machine) items))
   reads_may system since me shard ready knows did [] asked = tt
   reads_may system since me shard ready knows did (item ∷ items) asked =
-      read_one system since me shard ready knows did item asked.0
-      (if service.reads item.request then Some (service.reply ready.replica.machine item.request) else None)
-      (if_some (service.reads item.request) (service.reply ready.replica.machine item.request))
-      (claimed_reads shard (map (read_of service ready.replica.machine) items))
+      read_one system since me shard ready knows did item asked.0 (service.reads item.request) refl
+      (claimed_reads shard items (map (read_of service ready.replica.machine) items))
       (reads_may system since me shard ready knows did items asked.1)
 
   -- the reads of a server that has read
@@ -651,9 +672,9 @@ module _ {M Q R : Type 0} (service : Automaton M Q R) where
       → IfSome found (λ r. HasRead service system.log me shard r)
       → IfSome found (λ r. AreAskedOf system.asked since shard r)
       → IfSome found (λ r. DidHold system.held since (sent_transaction me shard r))
-      → (items : List (Item Q)) → items ≡ ready.carried.items → (answers : List (ReadReply R))
+      → (items : List (Item Q)) → items ≡ ready.carried.items → (answers : List (ToldRead R))
       → answers ≡ map (read_of service ready.replica.machine) items
-      → AllByRecursion (MayClaim service system) (claimed_reads shard answers)
+      → IfSome found (λ r. AllByRecursion (MayClaim service system) (claimed_reads shard r.carried.items answers))
   reads_told system since me shard found ready is known asked held items items_are answers are =
       let knows = subst (λ (o : Option (ShardState M Q R)). IfSome o (λ r. HasRead service system.log me shard
       r)) is known in
@@ -661,9 +682,12 @@ module _ {M Q R : Type 0} (service : Automaton M Q R) where
       asked in
       let did = subst (λ (o : Option (ShardState M Q R)). IfSome o (λ r. DidHold system.held since
       (sent_transaction me shard r))) is held in
-      subst (λ (list : List (ReadReply R)). AllByRecursion (MayClaim service system) (claimed_reads shard list))
+      subst (λ (o : Option (ShardState M Q R)). IfSome o (λ r. AllByRecursion (MayClaim service system)
+      (claimed_reads shard r.carried.items answers))) (sym is)
+      (subst (λ (list : List (ToldRead R)). AllByRecursion (MayClaim service system)
+      (claimed_reads shard ready.carried.items list))
       (sym (are ∙ ap (map (read_of service ready.replica.machine)) items_are))
-      (reads_may system since me shard ready knows did ready.carried.items were.carried)
+      (reads_may system since me shard ready knows did ready.carried.items were.carried))
 
   -- what waits goes in part, from where nothing was sent
   pub flushed : (limits : ShardLimits) (size : Q → ℕ) (me : ℕ) (before : List (Item Q)) (old new : ShardState M Q R)

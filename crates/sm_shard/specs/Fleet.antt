@@ -47,7 +47,7 @@ fleet_acted fleet (Steps which old input result new) =
         asked = fleet.system.asked;
         sent = map (sent_since (length fleet.system.log)) (step_sends result new) ++ fleet.system.sent;
         held = fleet.system.held;
-        claims = step_claims new.shard input result ++ fleet.system.claims;
+        claims = step_claims old.server input result ++ fleet.system.claims;
       };
       servers = slice_set fleet.servers which (record {
         server = new;
@@ -91,7 +91,7 @@ abbrev pub events_of : {M Q R : Type 0} → List (Act M Q R) → List (Event Q (
 events_of [] = []
 events_of (Starts server ∷ earlier) = events_of earlier
 events_of (Steps which old input result new ∷ earlier) =
-    map Claims (step_claims new.shard input result) ++ (map IsSent (step_sends result new) ++ events_of earlier)
+    map Claims (step_claims old.server input result) ++ (map IsSent (step_sends result new) ++ events_of earlier)
 events_of (Otherwise event ∷ earlier) = event ∷ events_of earlier
 
 -- whoever isn't a server sends only transactions whose requests were asked

@@ -17,7 +17,6 @@ use Rattle.sm_store.specs.Deeds.{AreAccepted, Basing, Checking, Executing, HasRe
 use Rattle.sm_store.specs.Deeds.{shard_log, transaction_of}
 use Rattle.sm_store.specs.System.{Ask, Carried, Claim, IsAmong, Overtaken, Reads, Replies, System, WasAsked}
 use Rattle.sm_shard.specs.declared.replica.MadeReply.{MadeReply}
-use Rattle.sm_shard.specs.declared.replica.ReadReply.{ReadReply}
 use Rattle.sm_shard.specs.declared.shard_server.BatchSending.{BatchSending}
 use Rattle.sm_shard.specs.declared.shard_server.PartsSending.{PartsSending}
 use Rattle.sm_shard.specs.declared.shard_server.ShardServer.{ShardServer}
@@ -27,7 +26,7 @@ use Rattle.sm_shard.specs.declared.shard_state.Decision.TheVariants.{Forgotten}
 use Rattle.sm_shard.specs.declared.shard_state.ShardState.{ShardState}
 use Rattle.sm_shard.specs.declared.shard_limits.ShardLimits.{ShardLimits}
 use Rattle.sm_shard.specs.Decisions.{batch_length, is_written, named_by}
-use Rattle.sm_shard.specs.Replicas.{IsReplica}
+use Rattle.sm_shard.specs.Replicas.{IsReplica, ToldRead}
 
 -- a store of requests
 abbrev pub StoreLog : Type 0 → Type 0 → Type 0
@@ -183,27 +182,32 @@ pub record IsUnflushed {M Q R : Type 0} (old new : ShardState M Q R) : Type 0 wh
   pub asking : new.asking.items ≡ old.asking.items
   pub work : new.work ≡ old.work
 
--- what a decision claims to the client
-abbrev pub claimed_by : {Q R : Type 0} → ℕ → ℕ → ℕ → Decision R → List (Claim Q R)
-claimed_by shard client number (Replied answer) = Replies shard client number answer ∷ []
-claimed_by shard client number Passed = Overtaken shard client number ∷ []
-claimed_by shard client number Forgotten = Overtaken shard client number ∷ []
-claimed_by shard client number _ = []
+-- what a decision on a request claims to its client
+abbrev pub claimed_by : {Q R : Type 0} → ℕ → Item Q → Decision R → List (Claim Q R)
+claimed_by shard item (Replied answer) = Replies shard item.client item.number item.request answer ∷ []
+claimed_by shard item Passed = Overtaken shard item.client item.number ∷ []
+claimed_by shard item Forgotten = Overtaken shard item.client item.number ∷ []
+claimed_by shard item _ = []
 
--- what replies claim to the clients
-abbrev pub claimed_all : {Q R : Type 0} → ℕ → List (MadeReply R) → List (Claim Q R)
-claimed_all shard [] = []
-claimed_all shard (made ∷ others) = Replies shard made.client made.number made.reply ∷ claimed_all shard others
+-- what the replies to requests, in the same order, claim to their clients
+abbrev pub claimed_all : {Q R : Type 0} → ℕ → List (Item Q) → List (MadeReply R) → List (Claim Q R)
+claimed_all shard [] answers = []
+claimed_all shard (item ∷ items) [] = []
+claimed_all shard (item ∷ items) (made ∷ others) =
+    Replies shard made.client made.number item.request made.reply ∷ claimed_all shard items others
 
--- what reads claim to the clients; one that got no reply claims nothing
-abbrev pub claimed_read : {Q R : Type 0} → ℕ → ReadReply R → Option R → List (Claim Q R) → List (Claim Q R)
-claimed_read shard read None others = others
-claimed_read shard read (Some answer) others = Reads shard read.client read.number answer ∷ others
+-- what the answer to a read claims, before these; without an answer it claims nothing
+abbrev pub claimed_read : {Q R : Type 0} → ℕ → Q → ℕ → ℕ → Option (R × List ℕ) → List (Claim Q R) → List (Claim Q R)
+claimed_read shard request client number None others = others
+claimed_read shard request client number (Some (reply, text)) others =
+    Reads shard client number request reply text ∷ others
 
--- what the replies to reads claim
-abbrev pub claimed_reads : {Q R : Type 0} → ℕ → List (ReadReply R) → List (Claim Q R)
-claimed_reads shard [] = []
-claimed_reads shard (read ∷ reads) = claimed_read shard read read.reply (claimed_reads shard reads)
+-- what the answers to reads, in the same order, claim
+abbrev pub claimed_reads : {Q R : Type 0} → ℕ → List (Item Q) → List (ToldRead R) → List (Claim Q R)
+claimed_reads shard [] reads = []
+claimed_reads shard (item ∷ items) [] = []
+claimed_reads shard (item ∷ items) (read ∷ reads) =
+    claimed_read shard item.request read.client read.number read.answer (claimed_reads shard items reads)
 
 -- the transaction where there are no requests: the head comes to name a base, or there are compares alone
 abbrev pub transaction_without : {Q R : Type 0} → ℕ → Option NamedBase → Head → ℕ → ℕ → Transaction Q (Part R)

@@ -26,27 +26,34 @@ use Rattle.sm_shard.specs.declared.steps.ShardOutput.{ShardOutput}
 use Rattle.sm_shard.specs.declared.steps.ShardOutput.TheVariants.{Nothing, Sends, Decided, Answers, Decides, Bases}
 use Rattle.sm_shard.specs.declared.steps.ShardOutput.TheVariants.{Clears}
 use Rattle.sm_shard.specs.Decisions.{server_begins, server_behind, server_decision, server_read_decision, server_sends}
-use Rattle.sm_shard.specs.Replicas.{read_of, replies_of}
+use Rattle.sm_shard.specs.Replicas.{read_of, replies_of, told_read}
 use Rattle.sm_shard.specs.ShardServers.{AreAsked, AreRequestsAsked, AreWritten, DidHold, IsAsked, IsTrueOf, StoreLog}
 use Rattle.sm_shard.specs.ShardServers.{StoreSystem}
 use Rattle.sm_shard.specs.ShardServers.{WereMade, basing_by, claimed_all, claimed_by, claimed_reads, sent_transaction}
 
 -- what a decision on what came claims to its client
 abbrev pub claimed_on : {Q R : Type 0} → ℕ → ShardInput Q R → Decision R → List (Claim Q R)
-claimed_on shard (Request item) decision = claimed_by shard item.client item.number decision
+claimed_on shard (Request item) decision = claimed_by shard item decision
 claimed_on shard input decision = []
 
--- what an output claims to clients
-abbrev pub claimed_to : {Q R : Type 0} → ℕ → ShardInput Q R → ShardOutput Q R → List (Claim Q R)
-claimed_to shard input (Decided decision) = claimed_on shard input decision
-claimed_to shard input (Answers answers) =
-    claimed_all shard answers.made.items ++ claimed_reads shard answers.read.items
-claimed_to shard input _ = []
+-- what answers to what was sent, and to the reads that it carried, claim to clients
+abbrev pub claimed_answers : {M Q R : Type 0} → ℕ → Option (ShardState M Q R) → StoreAnswers R → List (Claim Q R)
+claimed_answers shard None answers = []
+claimed_answers shard (Some ready) answers =
+    claimed_all shard ready.sent.items answers.made.items
+    ++ claimed_reads shard ready.carried.items (map told_read answers.read.items)
 
--- what a step claims
-abbrev pub step_claims : {Q R : Type 0} → ℕ → ShardInput Q R → Result (ShardOutput Q R) ReplayFault → List (Claim Q R)
-step_claims shard input (Ok output) = claimed_to shard input output
-step_claims shard input (Err fault) = []
+-- what an output claims to clients
+abbrev pub claimed_to : {M Q R : Type 0} → ShardServer M Q R → ShardInput Q R → ShardOutput Q R → List (Claim Q R)
+claimed_to old input (Decided decision) = claimed_on old.shard input decision
+claimed_to old input (Answers answers) = claimed_answers old.shard old.ready answers
+claimed_to old input _ = []
+
+-- what a step of a server claims
+abbrev pub step_claims : {M Q R : Type 0} → ShardServer M Q R → ShardInput Q R
+    → Result (ShardOutput Q R) ReplayFault → List (Claim Q R)
+step_claims old input (Ok output) = claimed_to old input output
+step_claims old input (Err fault) = []
 
 -- the transactions that a server is about to send
 abbrev pub transactions_of : {M Q R : Type 0} → ℕ → ℕ → Option (ShardState M Q R) → StoreLog Q R
@@ -104,12 +111,12 @@ ArePast system = AllByRecursion (λ ask. ask.since ≤ length system.log) system
 
 -- after the step the server knows what is so, what it sends may be sent, and what it claims may be claimed
 pub record IsSafe {M Q R : Type 0} (service : Automaton M Q R) (charter : Charter Q (Part R))
-    (system : StoreSystem Q R) (since shard : ℕ) (input : ShardInput Q R)
+    (system : StoreSystem Q R) (since : ℕ) (old : ShardServer M Q R) (input : ShardInput Q R)
     (result : Result (ShardOutput Q R) ReplayFault) (new : ShardServer M Q R) : Type 0 where
   pub known : IsTrueOf service system.log new
   pub asked : AreAsked system.asked (since_after result since (length system.log)) new
   pub may : AllByRecursion (MaySend charter system.log) (step_sends result new)
-  pub claims : AllByRecursion (MayClaim service system) (step_claims shard input result)
+  pub claims : AllByRecursion (MayClaim service system) (step_claims old input result)
 
 -- for every store of so many shards that was right until now, whenever the server last sent
 abbrev pub IsStepOf : {M Q R : Type 0} → Automaton M Q R → ShardServer M Q R → ShardInput Q R
@@ -118,7 +125,7 @@ IsStepOf {Q = Q} {R = R} service old input result new =
     (charter : Charter Q (Part R)) (system : StoreSystem Q R) (since : ℕ) → charter.count ≡ old.count
     → charter.parts ≡ base_of service → AreRight charter system.log → ArePast system
     → IsTrueOf service system.log old → AreAsked system.asked since old → IsInput service system since old input
-    → IsSafe service charter system since old.shard input result new
+    → IsSafe service charter system since old input result new
 
 -- if the input is a request to be made, it was asked
 abbrev pub IsRequestAsked : {Q R : Type 0} → List (Ask Q) → ℕ → ShardInput Q R → Type 0
@@ -144,11 +151,12 @@ AreUndecided ready again =
     (again.sent.items ++ again.waiting.items ≡ ready.sent.items ++ ready.waiting.items)
     × (again.carried.items ++ again.asking.items ≡ ready.carried.items ++ ready.asking.items)
 
--- the answers are those to what was sent, and to the reads that it carried
-abbrev pub AreAnswers : {M Q R : Type 0} → Automaton M Q R → ShardState M Q R → StoreAnswers R → Type 0
-AreAnswers service ready answers =
+-- the answers are those to what was sent, and to the reads that it carried: none before the server has read
+abbrev pub AreAnswers : {M Q R : Type 0} → Automaton M Q R → Option (ShardState M Q R) → StoreAnswers R → Type 0
+AreAnswers service None answers = (answers.made.items ≡ []) × (answers.read.items ≡ [])
+AreAnswers service (Some ready) answers =
     (answers.made.items ≡ replies_of service ready.replica.machine ready.sent.items)
-    × (answers.read.items ≡ map (read_of service ready.replica.machine) ready.carried.items)
+    × (map told_read answers.read.items ≡ map (read_of service ready.replica.machine) ready.carried.items)
 
 -- exactly this comes of the input, by how many bytes each request takes in a batch
 abbrev pub IsOutputOf : {M Q R : Type 0} → Automaton M Q R → (Q → ℕ) → ShardServer M Q R
@@ -163,8 +171,7 @@ IsOutputOf service size server (Question item) output =
 IsOutputOf service size server Flush output =
     output ≡ (if server_sends server.limits size server.ready then Sends else Nothing)
 IsOutputOf {R = R} service size server (Made revision) output =
-    (answers : StoreAnswers R) × (output ≡ Answers answers)
-    × IfSome server.ready (λ ready. AreAnswers service ready answers)
+    (answers : StoreAnswers R) × (output ≡ Answers answers) × AreAnswers service server.ready answers
 IsOutputOf {Q = Q} service size server Lost output =
     (again : Undecided Q) × (output ≡ Decides again) × IfSome server.ready (λ ready. AreUndecided ready again)
 IsOutputOf service size server Base output = output ≡ (if server_begins server.ready then Bases else Nothing)

@@ -11,7 +11,7 @@
 //! assert!(rt; matches!(server.flush(rt.alloc()), Ok(true)));
 //! let told = server.on_made(rt.alloc(), 4).ok().expect(&rt, "answers");
 //! assert!(rt; told.made[0].reply == 5);
-//! assert!(rt; told.read[0].reply == Some(0));
+//! assert!(rt; matches!(&told.read[0].answer, Some(answer) if answer.reply == 0));
 //! ```
 #![tactic(auto)]
 
@@ -35,5 +35,5 @@ pub use shard_limits::ShardLimits;
 pub use shard_server::{BatchSending, PartsSending, ShardServer, StoreAnswers, Undecided};
 pub use shard_state::{Decision, ShardState};
 pub use steps::{ShardInput, ShardOutput, step};
-pub use store_machine::StoreMachine;
+pub use store_machine::{ReadAnswer, StoreMachine};
 pub use store_server::StoreServer;

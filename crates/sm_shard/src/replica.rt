@@ -4,9 +4,9 @@ ghost use Rattle.std.specs.Ordering.{nat_cmp};
 ghost use Rattle.sm_store.specs.declared.item.Item.{Item as ItemValue};
 ghost use Rattle.sm_store.specs.Clients.{floor_of, last_of, AreNext, ComesNext, reply_in, state_after};
 ghost use Rattle.sm_shard.specs.Bases.{kept_from};
-ghost use Rattle.sm_shard.specs.Replicas.{IsReplica, last_number, read_of, replies_of};
+ghost use Rattle.sm_shard.specs.Replicas.{IsReplica, last_number, read_of, replies_of, told_read};
 
-use crate::store_machine::StoreMachine;
+use crate::store_machine::{ReadAnswer, StoreMachine};
 use sm_store::item::Item;
 use std::alloc::{AllocError, AllocFailed, Global};
 use std::collections::BTreeMap;
@@ -60,12 +60,12 @@ pub struct MadeReply<R> {
     pub reply: R,
 }
 
-/// The reply to a client's request that only reads; none where the request changes something.
-#[derive(Clone, Copy, Drop)]
+/// The answer to a client's request that only reads. None if the request changes something.
+#[derive(Drop)]
 pub struct ReadReply<R> {
     pub client: u64,
     pub number: u64,
-    pub reply: Option<R>,
+    pub answer: Option<ReadAnswer<R>>,
 }
 
 impl<T: Drop> From<AllocFailed<T>> for ReplayFault {
@@ -231,15 +231,15 @@ pub fn read_all<Q: Drop, R: Copy + Drop, M: StoreMachine<Q, R>>(
     machine: &M,
     items: &[Item<Q>],
 ) -> Result<Vec<ReadReply<R>>, AllocError>
-    ensures { IfOk result (λ reads. reads.items ≡ map (read_of M.service machine.now) items.now) }
+    ensures { IfOk result (λ reads. map told_read reads.items ≡ map (read_of M.service machine.now) items.now) }
 {
     let mut reads = Vec::new(alloc);
     for item in items {
-        let reply = machine.peek(alloc, &item.request)?;
+        let answer = machine.peek(alloc, &item.request)?;
         reads.push(ReadReply {
             client: item.client,
             number: item.number,
-            reply,
+            answer,
         })?;
     }
     Ok(reads)

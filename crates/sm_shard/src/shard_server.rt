@@ -74,7 +74,7 @@ pub struct PartsSending<'a, R> {
 
 impl<Q: Drop, R: Copy + Drop, M: StoreMachine<Q, R>> ShardServer<M, Q, R> {
     ghost use Rattle.std.specs.Prelude.{◌++◌, ◌+◌, ◌≤◌, List, ◌↔◌, false, IsTrue, IsSome, IfOk, OnErr};
-    ghost use Rattle.std.specs.Prelude.{ℕ, length, map};
+    ghost use Rattle.std.specs.Prelude.{ℕ, [], IfNone, length, map};
     ghost use Rattle.std.specs.List.{AllByRecursion};
     ghost use Rattle.sm_shard.specs.Bases.{Part, base_of, kept_from};
     ghost use Rattle.sm_store.specs.Store.{IsRising, record_key, stored_record};
@@ -83,7 +83,7 @@ impl<Q: Drop, R: Copy + Drop, M: StoreMachine<Q, R>> ShardServer<M, Q, R> {
     ghost use Rattle.sm_shard.specs.Decisions.{server_begins, server_behind, server_decision, server_read_decision};
     ghost use Rattle.sm_shard.specs.Decisions.{clients_kept, server_sends};
     ghost use Rattle.sm_shard.specs.declared.shard_state.Decision.TheVariants.{TooManyClients};
-    ghost use Rattle.sm_shard.specs.Replicas.{read_of, replies_of};
+    ghost use Rattle.sm_shard.specs.Replicas.{read_of, replies_of, told_read};
     ghost use Rattle.sm_shard.specs.ShardServers.{AreAsked, AreRequestsAsked, DidHold, IsAsked, IsTrueOf, StoreLog};
     ghost use Rattle.sm_shard.specs.ShardServers.{StoreSystem};
     ghost use Rattle.sm_shard.specs.ShardServers.{WereMade, claimed_all, claimed_by, claimed_reads};
@@ -179,8 +179,7 @@ impl<Q: Drop, R: Copy + Drop, M: StoreMachine<Q, R>> ShardServer<M, Q, R> {
             self.old.limits.clients ≤ length (kept_from item.forgets ready.replica.lasts.entries))) }
         ensures told { IfOk result (λ decision. (system : StoreSystem Q R)
             → IsTrueOf M.service system.log self.old
-            → AllByRecursion (MayClaim M.service system)
-            (claimed_by self.old.shard item.client item.number decision)) }
+            → AllByRecursion (MayClaim M.service system) (claimed_by self.old.shard item decision)) }
     {
         let (me, limits) = (self.me, self.limits);
         match &mut self.ready {
@@ -275,19 +274,21 @@ impl<Q: Drop, R: Copy + Drop, M: StoreMachine<Q, R>> ShardServer<M, Q, R> {
             → AreRequestsAsked asked self.new }
         ensures made { IfOk result (λ answers. IfSome self.old.ready (λ ready. answers.made.items
             ≡ replies_of M.service ready.replica.machine ready.sent.items)) }
-        ensures answered { IfOk result (λ answers. IfSome self.old.ready (λ ready. answers.read.items
+        ensures answered { IfOk result (λ answers. IfSome self.old.ready (λ ready. map told_read answers.read.items
             ≡ map (read_of M.service ready.replica.machine) ready.carried.items)) }
+        ensures unread { IfOk result (λ answers. IfNone self.old.ready
+            ((answers.made.items ≡ []) × (answers.read.items ≡ []))) }
         ensures told { IfOk result (λ answers. (system : StoreSystem Q R) → IsRising system.log
             → IsTrueOf M.service system.log self.old
             → IfSome self.old.ready (λ ready. WereMade system.log self.old.me self.old.shard revision ready)
-            → AllByRecursion (MayClaim M.service system)
-            (claimed_all self.old.shard answers.made.items)) }
+            → IfSome self.old.ready (λ ready. AllByRecursion (MayClaim M.service system)
+            (claimed_all self.old.shard ready.sent.items answers.made.items))) }
         ensures read { IfOk result (λ answers. (system : StoreSystem Q R) (since : ℕ)
             → IsTrueOf M.service system.log self.old → AreAsked system.asked since self.old
             → IfSome self.old.ready (λ ready. DidHold system.held since
             (sent_transaction self.old.me self.old.shard ready))
-            → AllByRecursion (MayClaim M.service system)
-            (claimed_reads self.old.shard answers.read.items)) }
+            → IfSome self.old.ready (λ ready. AllByRecursion (MayClaim M.service system)
+            (claimed_reads self.old.shard ready.carried.items (map told_read answers.read.items)))) }
     {
         let Some(mut ready) = self.ready.take() else {
             return Ok(StoreAnswers {

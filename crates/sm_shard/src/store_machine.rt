@@ -1,13 +1,22 @@
-ghost use Rattle.std.specs.Prelude.{◌≡◌, ℕ, List, IfOk, OnOk, Some, None, if◌then◌else◌};
+ghost use Rattle.std.specs.Prelude.{◌≡◌, ℕ, List, IfOk, OnOk, Some};
+ghost use Rattle.std.specs.Option.{option_map};
 ghost use Rattle.sm_store.specs.declared.item.Item.{Item as ItemValue};
 ghost use Rattle.sm_store.specs.Clients.{Automaton, ReadsLeave, state_after};
+ghost use Rattle.sm_shard.specs.Replicas.{answer_parts, read_answer};
 
 use std::alloc::{AllocError, Global};
+
+/// The answer to a request that only reads: the reply, and the text that is told beside it.
+#[derive(Drop)]
+pub struct ReadAnswer<R> {
+    pub reply: R,
+    pub text: Vec<u8>,
+}
 
 /// A state that answers requests one at a time.
 pub trait StoreMachine<Q: Drop, R: Copy + Drop>: Drop {
     /// The machine before any request, after a request, its reply to a request, the requests that only read, which are
-    /// answered without being made, and the bytes that stand for the machine.
+    /// answered without being made, the text that they are told, and the bytes that stand for the machine.
     ghost service: { Automaton Self Q R };
 
     /// The bytes that a request takes in a batch.
@@ -21,10 +30,10 @@ pub trait StoreMachine<Q: Drop, R: Copy + Drop>: Drop {
         ensures reply { IfOk result (λ made. made ≡ service.reply self.old request.now) }
         ensures after { OnOk result (self.new ≡ service.after self.old request.now) };
 
-    /// The reply to a request that only reads, and none to any other.
-    fn peek(&self, alloc: Global, request: &Q) -> Result<Option<R>, AllocError>
-        ensures { IfOk result (λ found. found
-            ≡ (if service.reads request.now then Some (service.reply self.now request.now) else None)) };
+    /// Answers a request that only reads: its reply and its text. None for any other request.
+    fn peek(&self, alloc: Global, request: &Q) -> Result<Option<ReadAnswer<R>>, AllocError>
+        ensures { IfOk result (λ found. option_map answer_parts found
+            ≡ read_answer service self.now request.now) };
 
     /// The bytes that the request takes in a batch.
     fn size_of(request: &Q) -> u64

@@ -73,7 +73,7 @@ module _ {Q P R : Type 0} where
       → HasCome earlier op → HasCome (event ∷ earlier) op
   come_later event earlier (Update shard item reply) was =
       asked_later event earlier shard item.client item.number item.request was
-  come_later event earlier (Query shard client number request reply told) was =
+  come_later event earlier (Query shard client number request reply text told) was =
       asked_later event earlier shard client number request was
 
   pub record AllAsked (system : System Q P R) : Type 0 where

@@ -153,7 +153,7 @@ module _ {Q R : Type 0} where
   updates_append [] ys = refl
   updates_append (Update shard item reply ∷ xs) ys =
       ap (λ (rest : List (Item Q)). item ∷ rest) (updates_append xs ys)
-  updates_append (Query shard client number request reply told ∷ xs) ys = updates_append xs ys
+  updates_append (Query shard client number request reply text told ∷ xs) ys = updates_append xs ys
 
 -- what one thread answers
 module _ {S Q R : Type 0} (service : Automaton S Q R) where
@@ -162,8 +162,10 @@ module _ {S Q R : Type 0} (service : Automaton S Q R) where
   AreAnswered state [] = Unit {0}
   AreAnswered state (Update shard item reply ∷ rest) =
       (reply ≡ service.reply state item.request) × AreAnswered (service.after state item.request) rest
-  AreAnswered state (Query shard client number request reply told ∷ rest) =
-      (IsTrue (service.reads request) × (reply ≡ service.reply state request)) × AreAnswered state rest
+  AreAnswered state (Query shard client number request reply text told ∷ rest) =
+      (IsTrue (service.reads request) × (reply ≡ service.reply state request)
+      × (text ≡ service.text state request))
+      × AreAnswered state rest
 
   -- requests of a shard that are made one after another
   abbrev pub makes : ℕ → S → List (Item Q) → List (Operation Q R)
@@ -212,7 +214,7 @@ module _ {S Q R : Type 0} (service : Automaton S Q R) where
   answered_append state [] ys a b = b
   answered_append state (Update shard item reply ∷ xs) ys a b =
       (a.0, answered_append (service.after state item.request) xs ys a.1 b)
-  answered_append state (Query shard client number request reply told ∷ xs) ys a b =
+  answered_append state (Query shard client number request reply text told ∷ xs) ys a b =
       (a.0, answered_append state xs ys a.1 b)
 
   pub after_append : (state : S) (xs ys : List (Item Q)) → state_after service state (xs ++ ys)
@@ -244,7 +246,7 @@ module _ {S Q R : Type 0} (service : Automaton S Q R) where
       found_step (is_from client number item) shard item state client number reply given
       (reply_in service (service.after state item.request) (updates_of order) client number) order refl answered.0
       (found_place (service.after state item.request) order client number reply answered.1) found
-  found_place state (Query shard c n request given told ∷ order) client number reply answered found =
+  found_place state (Query shard c n request given text told ∷ order) client number reply answered found =
       let one = found_place state order client number reply answered.1 found in (one.0, one.1, one.2, inr one.3)
 
   some_none : (b : Bool) (n : ℕ) (given : R) (rest : Option R) (reply : R) → (rest ≡ Some reply → 0 < n)
@@ -264,16 +266,18 @@ module _ {S Q R : Type 0} (service : Automaton S Q R) where
   -- queries of one state
   abbrev pub IsReplyOf : (ℕ → S) → Operation Q R → Type 0
   IsReplyOf states (Update shard item reply) = ⊥
-  IsReplyOf states (Query shard client number request reply told) =
+  IsReplyOf states (Query shard client number request reply text told) =
       IsTrue (service.reads request) × (reply ≡ service.reply (states shard) request)
+      × (text ≡ service.text (states shard) request)
 
   pub queries_answered : (states : ℕ → S) (shard : ℕ) (order : List (Operation Q R))
       → AllByRecursion (λ one. (operation_shard one ≡ shard) × IsReplyOf states one) order
       → AreAnswered (states shard) order
   queries_answered states shard [] all = tt
   queries_answered states shard (Update at item reply ∷ order) all = absurd all.0.1
-  queries_answered states shard (Query at client number request reply told ∷ order) all = (
-    subst (λ (k : ℕ). IsTrue (service.reads request) × (reply ≡ service.reply (states k) request)) all.0.0 all.0.1,
+  queries_answered states shard (Query at client number request reply text told ∷ order) all = (
+    subst (λ (k : ℕ). IsTrue (service.reads request) × (reply ≡ service.reply (states k) request)
+        × (text ≡ service.text (states k) request)) all.0.0 all.0.1,
     queries_answered states shard order all.1,
   )
 
@@ -283,8 +287,8 @@ module _ {S Q R : Type 0} (service : Automaton S Q R) where
   thread leave state [] answered = tt
   thread leave state (Update shard item reply ∷ rest) answered =
       ((tt, answered.0), thread leave (service.after state item.request) rest answered.1)
-  thread leave state (Query shard client number request reply told ∷ rest) answered = (
-    answered.0,
+  thread leave state (Query shard client number request reply text told ∷ rest) answered = (
+    ((answered.0.0, answered.0.2), answered.0.1),
     subst (λ (s : S). IsThread service s rest) (sym (leave state request answered.0.0))
         (thread leave state rest answered.1),
   )

@@ -135,10 +135,10 @@ module _ {Q P R S : Type 0} (service : Automaton S Q R) (charter : Charter Q P) 
       subst IsSoundSystem (sym (cond-false (all_hold system.log sent.txn.compares) made_one system no)) sound)
       (cases_Bool (all_hold system.log sent.txn.compares))
 
-  read_so : (system : System Q P R) (shard client number : ℕ) (answer : R) → IsSoundSystem system
-      → MayRead service system shard client number answer
-      → IsReadSince service system.asked system.log shard client number answer
-  read_so system shard client number answer sound may =
+  read_so : (system : System Q P R) (shard client number : ℕ) (request : Q) (answer : R) (text : List ℕ)
+      → IsSoundSystem system → MayRead service system shard client number request answer text
+      → IsReadSince service system.asked system.log shard client number request answer text
+  read_so system shard client number request answer text sound may =
       let did : DidHold system.log may.held =
       all_among (DidHold system.log) system.held may.held sound.held may.was_held in
       let sent_after = may.sent_after in
@@ -154,6 +154,7 @@ module _ {Q P R S : Type 0} (service : Automaton S Q R) (charter : Charter Q P) 
       record {
         ask = may.ask;
         was_asked = may.was_asked;
+        request_is = may.request_is;
         only_reads = may.only_reads;
         later = did.later;
         past = may.held.moment;
@@ -161,16 +162,19 @@ module _ {Q P R S : Type 0} (service : Automaton S Q R) (charter : Charter Q P) 
         since = omega arith;
         answer_is =
             may.answer_is ∙ ap (λ (items : List (Item Q)). service.reply (state_after service service.start items)
-            may.ask.request) (sym items_are);
+            request) (sym items_are);
+        text_is = may.text_is
+            ∙ ap (λ (items : List (Item Q)). service.text (state_after service service.start items) request)
+            (sym items_are);
       }
 
   claim_so : (system : System Q P R) (claim : Claim Q R) → IsSoundSystem system
       → MayClaim service system claim
       → IsSo service system.asked system.log claim
-  claim_so system (Replies shard client number answer) sound may = may
+  claim_so system (Replies shard client number request answer) sound may = may
   claim_so system (Overtaken shard client number) sound may = may
-  claim_so system (Reads shard client number answer) sound may =
-      read_so system shard client number answer sound may
+  claim_so system (Reads shard client number request answer text) sound may =
+      read_so system shard client number request answer text sound may
 
   pub sound_step : (system : System Q P R) (event : Event Q P R) → IsSoundSystem system
       → May service charter system event → IsSoundSystem (happens system event)
@@ -251,11 +255,11 @@ module _ {Q P R S : Type 0} (service : Automaton S Q R) (charter : Charter Q P) 
   stays_one : (before now : System Q P R) (more : List (Transaction Q P)) → now.log ≡ more ++ before.log
       → AreRight charter now.log → (claim : Claim Q R) → IsSo service before.asked before.log claim
       → StaysOvertaken before now claim
-  stays_one before now more is right (Replies shard client number answer) so = tt
+  stays_one before now more is right (Replies shard client number request answer) so = tt
   stays_one before now more is right (Overtaken shard client number) so =
       ap (λ (log : List (Transaction Q P)). times client number (made shard log)) is
       ∙ overtaken_grows charter shard client number more before.log (subst (AreRight charter) is right) so
-  stays_one before now more is right (Reads shard client number answer) so = tt
+  stays_one before now more is right (Reads shard client number request answer text) so = tt
 
   pub stays_overtaken : (later earlier : List (Event Q P R)) → MightHappen service charter (later ++ earlier)
       → AllByRecursion

@@ -27,28 +27,33 @@ module _ {Q R S : Type 0} (P : Type 0) (service : Automaton S Q R) where
     pub number : ℕ
     pub request : Q
     pub reply : R
+    pub text : List ℕ
     pub told : ℕ
     pub only_reads : IsTrue (service.reads request)
     pub asked : DidAsk (system_after early).asked shard client number request
     pub reply_is : reply ≡ service.reply (state_at early shard) request
+    pub text_is : text ≡ service.text (state_at early shard) request
     pub since : length early ≤ told
 
   abbrev pub InRun : List (Event Q P R) → Told → Type 0
   InRun events one = (late : List (Event Q P R)) × (events ≡ late ++ one.early)
 
   -- it is the read that is claimed
-  pub record IsThat (one : Told) (shard client number : ℕ) (reply : R) (told : ℕ) : Type 0 where
+  pub record IsThat (one : Told) (shard client number : ℕ) (request : Q) (reply : R) (text : List ℕ)
+      (told : ℕ) : Type 0 where
     pub shard_is : one.shard ≡ shard
     pub client_is : one.client ≡ client
     pub number_is : one.number ≡ number
+    pub request_is : one.request ≡ request
     pub reply_is : one.reply ≡ reply
+    pub text_is : one.text ≡ text
     pub told_is : one.told ≡ told
 
   -- it is among these
   abbrev pub HasRead : List Told → ℕ → Claim Q R → Type 0
-  HasRead reads told (Reads shard client number reply) =
-      (one : Told) × IsAmong one reads × IsThat one shard client number reply told
-  HasRead reads told (Replies shard client number reply) = Unit {0}
+  HasRead reads told (Reads shard client number request reply text) =
+      (one : Told) × IsAmong one reads × IsThat one shard client number request reply text told
+  HasRead reads told (Replies shard client number request reply) = Unit {0}
   HasRead reads told (Overtaken shard client number) = Unit {0}
 
   abbrev pub HaveReads : List Told → List (Event Q P R) → Type 0
@@ -60,8 +65,8 @@ module _ {Q R S : Type 0} (P : Type 0) (service : Automaton S Q R) where
 
   read_more : (one : Told) (reads : List Told) (told : ℕ) (claim : Claim Q R) → HasRead reads told claim
       → HasRead (one ∷ reads) told claim
-  read_more one reads told (Reads shard client number reply) has = (has.0, inr has.1, has.2)
-  read_more one reads told (Replies shard client number reply) has = tt
+  read_more one reads told (Reads shard client number request reply text) has = (has.0, inr has.1, has.2)
+  read_more one reads told (Replies shard client number request reply) has = tt
   read_more one reads told (Overtaken shard client number) has = tt
 
   reads_more : (one : Told) (reads : List Told) (moment : List (Event Q P R)) → HaveReads reads moment
@@ -83,10 +88,11 @@ module _ {Q R S : Type 0} (P : Type 0) (service : Automaton S Q R) where
   within_later event events reads all = all_map (InRun events) (InRun (event ∷ events))
       (λ one was. (event ∷ was.0, ap (λ (rest : List (Event Q P R)). event ∷ rest) was.1)) reads all
 
-  told_of : (earlier : List (Event Q P R)) (shard client number : ℕ) (reply : R)
-      → IsReadSince service (system_after earlier).asked (system_after earlier).log shard client number reply
-      → (one : Told) × InRun earlier one × IsThat one shard client number reply (length earlier)
-  told_of earlier shard client number reply read =
+  told_of : (earlier : List (Event Q P R)) (shard client number : ℕ) (request : Q) (reply : R) (text : List ℕ)
+      → IsReadSince service (system_after earlier).asked (system_after earlier).log shard client number request reply
+      text
+      → (one : Told) × InRun earlier one × IsThat one shard client number request reply text (length earlier)
+  told_of earlier shard client number request reply text read =
       let moment = moment_of earlier read.later read.past read.ask read.was_asked.among read.is read.since in
       let long : length earlier ≡ length (moment.late ++ moment.early) = ap length moment.is in (
         record {
@@ -94,8 +100,9 @@ module _ {Q R S : Type 0} (P : Type 0) (service : Automaton S Q R) where
           shard = shard;
           client = client;
           number = number;
-          request = read.ask.request;
+          request = request;
           reply = reply;
+          text = text;
           told = length earlier;
           only_reads = read.only_reads;
           asked = (
@@ -106,15 +113,26 @@ module _ {Q R S : Type 0} (P : Type 0) (service : Automaton S Q R) where
               client_is = read.was_asked.client_is;
               number_is = read.was_asked.number_is;
             },
-            refl,
+            read.request_is,
           );
           reply_is = read.answer_is
-              ∙ ap (λ (log : List (Transaction Q P)). service.reply (state_in service log shard) read.ask.request)
+              ∙ ap (λ (log : List (Transaction Q P)). service.reply (state_in service log shard) request)
+              (sym moment.then_was);
+          text_is = read.text_is
+              ∙ ap (λ (log : List (Transaction Q P)). service.text (state_in service log shard) request)
               (sym moment.then_was);
           since = omega (arith, length-append moment.late moment.early);
         },
         (moment.late, moment.is),
-        record { shard_is = refl; client_is = refl; number_is = refl; reply_is = refl; told_is = refl },
+        record {
+          shard_is = refl;
+          client_is = refl;
+          number_is = refl;
+          request_is = refl;
+          reply_is = refl;
+          text_is = refl;
+          told_is = refl;
+        },
       )
 
   same_reads : (event : Event Q P R) (earlier : List (Event Q P R))
@@ -129,15 +147,15 @@ module _ {Q R S : Type 0} (P : Type 0) (service : Automaton S Q R) where
   with_claim : (earlier : List (Event Q P R)) (claim : Claim Q R)
       → IsSo service (system_after earlier).asked (system_after earlier).log claim → AllReads earlier
       → AllReads (Claims claim ∷ earlier)
-  with_claim earlier (Replies shard client number reply) so all =
-      same_reads (Claims (Replies shard client number reply)) earlier (λ reads have. (tt, have)) all
+  with_claim earlier (Replies shard client number request reply) so all =
+      same_reads (Claims (Replies shard client number request reply)) earlier (λ reads have. (tt, have)) all
   with_claim earlier (Overtaken shard client number) so all =
       same_reads (Claims (Overtaken shard client number)) earlier (λ reads have. (tt, have)) all
-  with_claim earlier (Reads shard client number reply) so all =
-      let new = told_of earlier shard client number reply so in
+  with_claim earlier (Reads shard client number request reply text) so all =
+      let new = told_of earlier shard client number request reply text so in
       record {
         reads = new.0 ∷ all.reads;
-        within = within_later (Claims (Reads shard client number reply)) earlier (new.0 ∷ all.reads)
+        within = within_later (Claims (Reads shard client number request reply text)) earlier (new.0 ∷ all.reads)
             (new.1, all.within);
         have = ((new.0, inl refl, new.2), reads_more new.0 all.reads earlier all.have);
       }

@@ -27,13 +27,13 @@ module _ {Q R : Type 0} where
   -- it is a query
   abbrev IsQuery : Operation Q R → Type 0
   IsQuery (Update shard item reply) = ⊥
-  IsQuery (Query shard client number request reply told) = Unit {0}
+  IsQuery (Query shard client number request reply text told) = Unit {0}
 
   no_updates : (shard : ℕ) (order : List (Operation Q R))
       → AllByRecursion (λ one. (operation_shard one ≡ shard) × IsQuery one) order → updates_of order ≡ []
   no_updates shard [] all = refl
   no_updates shard (Update at item reply ∷ order) all = absurd all.0.1
-  no_updates shard (Query at client number request reply told ∷ order) all = no_updates shard order all.1
+  no_updates shard (Query at client number request reply text told ∷ order) all = no_updates shard order all.1
 
 module _ {Q R S : Type 0} (P : Type 0) (service : Automaton S Q R) where
   abbrev made_at : List (Event Q P R) → ℕ → List (Item Q)
@@ -41,7 +41,7 @@ module _ {Q R S : Type 0} (P : Type 0) (service : Automaton S Q R) where
 
   -- a read, as an operation
   abbrev query : Told P service → Operation Q R
-  query one = Query one.shard one.client one.number one.request one.reply one.told
+  query one = Query one.shard one.client one.number one.request one.reply one.text one.told
 
   -- the reads of the moment that has so many events
   abbrev looks : ℕ → List (Told P service) → List (Operation Q R)
@@ -144,6 +144,8 @@ module _ {Q R S : Type 0} (P : Type 0) (service : Automaton S Q R) where
         one.only_reads,
         one.reply_is ∙ ap (λ (m : List (Event Q P R)). service.reply (state_at P service m one.shard) one.request)
             (at_moment events later moment is one run long),
+        one.text_is ∙ ap (λ (m : List (Event Q P R)). service.text (state_at P service m one.shard) one.request)
+            (at_moment events later moment is one run long),
       )) reads within)))
 
   pub shift : (event : Event Q P R) (events later moment : List (Event Q P R)) → events ≡ later ++ event ∷ moment
@@ -240,16 +242,17 @@ module _ {Q R S : Type 0} (P : Type 0) (service : Automaton S Q R) where
 
   -- what is told is made
   told_made : (charter : Charter Q P) (moment : List (Event Q P R)) → MightHappen service charter moment
-      → (shard client number : ℕ) (reply : R) → IsAmong (Replies shard client number reply) (system_after moment).claims
+      → (shard client number : ℕ) (request : Q) (reply : R)
+      → IsAmong (Replies shard client number request reply) (system_after moment).claims
       → 0 < times client number (made_at moment shard)
-  told_made charter moment might shard client number reply among =
+  told_made charter moment might shard client number request reply among =
       found_made service service.start (made_at moment shard) client number reply
       (all_among (IsSo service (system_after moment).asked (system_after moment).log) (system_after moment).claims
-      (Replies shard client number reply) (sound service charter moment might).claims among)
+      (Replies shard client number request reply) (sound service charter moment might).claims among)
 
   makes_untold : (moment : List (Event Q P R)) (shard : ℕ) (state : S) (items : List (Item Q))
-      → ((client number : ℕ) → 0 < times client number items → (reply : R)
-      → IsAmong (Replies shard client number reply) (system_after moment).claims → ⊥)
+      → ((client number : ℕ) → 0 < times client number items → (request : Q) (reply : R)
+      → IsAmong (Replies shard client number request reply) (system_after moment).claims → ⊥)
       → AllByRecursion (IsUntold moment) (makes service shard state items)
   makes_untold moment shard state [] none = tt
   makes_untold moment shard state (item ∷ items) none = (
@@ -294,10 +297,11 @@ module _ {Q R S : Type 0} (P : Type 0) (service : Automaton S Q R) where
       all_shards (IsUntold moment) (added event old).order
       (λ shard. subst (AllByRecursion (IsUntold moment)) (sym ((added event old).is shard))
       (makes_untold moment shard (state_at P service old shard) (items_of event old shard)
-      (λ client number among reply told.
+      (λ client number among request reply told.
       let new = items_of event old shard in
       let more = made_later later moment shard in
-      let before = told_made charter moment (did_before charter later moment might.1) shard client number reply told in
+      let before = told_made charter moment (did_before charter later moment might.1) shard client number request reply
+      told in
       let once = (lawful service charter now might).once shard client number in
       let all : times client number (made_at now shard)
       ≡ (times client number (made_at moment shard) + times client number more.0) + times client number new =

@@ -1,16 +1,16 @@
 -- A service, and a shard's requests by client: which number comes next, and what each is answered.
-use Rattle.std.specs.Prelude.{ℕ, Bool, IsTrue, Option, Some, None, ◌≡◌, ◌==◌, ◌&&◌, ◌<◌, ◌≤◌, ◌⊎◌, ◌+◌, List, []}
-use Rattle.std.specs.Prelude.{◌∷◌, ◌++◌, if◌then◌else◌}
-use Rattle.std.specs.Prelude.{max}
+use Rattle.std.specs.Prelude.{ℕ, Bool, IsTrue, Option, Some, None, ◌≡◌, ◌==◌, ◌&&◌, ◌<◌, ◌≤◌, ◌⊎◌, ◌+◌}
+use Rattle.std.specs.Prelude.{List, [], ◌∷◌, ◌++◌, if◌then◌else◌, max}
 use Rattle.sm_store.specs.declared.item.Item.{Item}
 
--- a service: the state that it starts from, the state after a request, the reply to it, which requests only read, and
--- the bytes that stand for a state
+-- a service: the state that it starts from, the state after a request, the reply to it, which requests only read, the
+-- text that one that only reads is told beside the reply, and the bytes that stand for a state
 pub record Automaton (S Q R : Type 0) : Type 0 where
   pub start : S
   pub after : S → Q → S
   pub reply : S → Q → R
   pub reads : Q → Bool
+  pub text : S → Q → List ℕ
   pub spelled : S → List ℕ
 
 -- a request that only reads leaves each state as it is

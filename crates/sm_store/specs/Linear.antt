@@ -29,13 +29,13 @@ AreAskedFor (_ ∷ earlier) = AreAskedFor earlier
 pub data Operation (Q R : Type 0) : Type 0 where
   -- the store makes a request of the shard, which has this reply
   Update : (shard : ℕ) (item : Item Q) (reply : R) → Operation Q R
-  -- a request of the shard only reads, and has this reply, which was told when so many events had happened
-  Query : (shard client number : ℕ) (request : Q) (reply : R) (told : ℕ) → Operation Q R
+  -- a request of the shard only reads, and has this reply and this text, told when so many events had happened
+  Query : (shard client number : ℕ) (request : Q) (reply : R) (text : List ℕ) (told : ℕ) → Operation Q R
 
 -- the shard of an operation
 abbrev pub operation_shard : {Q R : Type 0} → Operation Q R → ℕ
 operation_shard (Update shard item reply) = shard
-operation_shard (Query shard client number request reply told) = shard
+operation_shard (Query shard client number request reply text told) = shard
 
 -- the operations of one shard, in the same order
 abbrev pub of_shard : {Q R : Type 0} → ℕ → List (Operation Q R) → List (Operation Q R)
@@ -45,57 +45,68 @@ of_shard shard (one ∷ rest) = if operation_shard one == shard then one ∷ of_
 -- the request of an operation
 abbrev pub operation_request : {Q R : Type 0} → Operation Q R → Q
 operation_request (Update shard item reply) = item.request
-operation_request (Query shard client number request reply told) = request
+operation_request (Query shard client number request reply text told) = request
 
 -- the reply of an operation
 abbrev pub operation_reply : {Q R : Type 0} → Operation Q R → R
 operation_reply (Update shard item reply) = reply
-operation_reply (Query shard client number request reply told) = reply
+operation_reply (Query shard client number request reply text told) = reply
 
--- if the operation is a query, its request only reads
-abbrev pub IsOfItsKind : {S Q R : Type 0} → Automaton S Q R → Operation Q R → Type 0
-IsOfItsKind service (Update shard item reply) = Unit {0}
-IsOfItsKind service (Query shard client number request reply told) = IsTrue (service.reads request)
+-- if the operation is a query, its request only reads, and its text is that of this state
+abbrev pub IsOfItsKind : {S Q R : Type 0} → Automaton S Q R → S → Operation Q R → Type 0
+IsOfItsKind service state (Update shard item reply) = Unit {0}
+IsOfItsKind service state (Query shard client number request reply text told) =
+    IsTrue (service.reads request) × (text ≡ service.text state request)
 
--- one thread, which starts from this state and runs each request, gives these replies
+-- one thread, which starts from this state and runs each request, gives these replies and texts
 abbrev pub IsThread : {S Q R : Type 0} → Automaton S Q R → S → List (Operation Q R) → Type 0
 IsThread service state [] = Unit {0}
 IsThread service state (one ∷ rest) =
-    (IsOfItsKind service one × (operation_reply one ≡ service.reply state (operation_request one)))
+    (IsOfItsKind service state one × (operation_reply one ≡ service.reply state (operation_request one)))
     × IsThread service (service.after state (operation_request one)) rest
 
 -- the requests of the updates, in the same order
 abbrev pub updates_of : {Q R : Type 0} → List (Operation Q R) → List (Item Q)
 updates_of [] = []
 updates_of (Update shard item reply ∷ rest) = item ∷ updates_of rest
-updates_of (Query shard client number request reply told ∷ rest) = updates_of rest
+updates_of (Query shard client number request reply text told ∷ rest) = updates_of rest
 
--- a reply that was told when so many events had happened has its place in the order
-abbrev pub HasPlace : {Q R : Type 0} → List (Operation Q R) → ℕ → Claim Q R → Type 0
-HasPlace order told (Replies shard client number reply) =
-    (item : Item _) × IsTrue (is_from client number item) × IsAmong (Update shard item reply) order
-HasPlace order told (Reads shard client number reply) =
-    (request : _) × IsAmong (Query shard client number request reply told) order
-HasPlace order told (Overtaken shard client number) = Unit {0}
+-- the client asked nothing but this request of the shard under this number
+abbrev pub IsOnlyAsk : {Q : Type 0} → List (Ask Q) → ℕ → ℕ → ℕ → Q → Type 0
+IsOnlyAsk asked shard client number request =
+    (ask : Ask _) → WasAsked asked shard client number ask → ask.request ≡ request
+
+-- a reply that was told when so many events had happened has its place in the order, at the request that it was told
+-- for: a read always, an update if its client asked no other request under its number
+abbrev pub HasPlace : {Q R : Type 0} → List (Ask Q) → List (Operation Q R) → ℕ → Claim Q R → Type 0
+HasPlace asked order told (Replies shard client number request reply) =
+    (item : Item _) × IsTrue (is_from client number item)
+    × (IsOnlyAsk asked shard client number request → item.request ≡ request)
+    × IsAmong (Update shard item reply) order
+HasPlace asked order told (Reads shard client number request reply text) =
+    IsAmong (Query shard client number request reply text told) order
+HasPlace asked order told (Overtaken shard client number) = Unit {0}
 
 -- each reply that was told has its place in the order
-abbrev pub HavePlaces : {Q P R : Type 0} → List (Operation Q R) → List (Event Q P R) → Type 0
-HavePlaces order [] = Unit {0}
-HavePlaces order (Claims claim ∷ earlier) = HasPlace order (length earlier) claim × HavePlaces order earlier
-HavePlaces order (_ ∷ earlier) = HavePlaces order earlier
+abbrev pub HavePlaces : {Q P R : Type 0} → List (Ask Q) → List (Operation Q R) → List (Event Q P R) → Type 0
+HavePlaces asked order [] = Unit {0}
+HavePlaces asked order (Claims claim ∷ earlier) =
+    HasPlace asked order (length earlier) claim × HavePlaces asked order earlier
+HavePlaces asked order (_ ∷ earlier) = HavePlaces asked order earlier
 
 -- the operation's request was asked by this moment
 abbrev pub HasCome : {Q P R : Type 0} → List (Event Q P R) → Operation Q R → Type 0
 HasCome moment (Update shard item reply) =
     DidAsk (system_after moment).asked shard item.client item.number item.request
-HasCome moment (Query shard client number request reply told) =
+HasCome moment (Query shard client number request reply text told) =
     DidAsk (system_after moment).asked shard client number request
 
 -- no client was told of the operation by this moment
 abbrev pub IsUntold : {Q P R : Type 0} → List (Event Q P R) → Operation Q R → Type 0
 IsUntold moment (Update shard item reply) =
-    (any : _) → IsAmong (Replies shard item.client item.number any) (system_after moment).claims → ⊥
-IsUntold moment (Query shard client number request reply told) = length moment ≤ told
+    (request : _) (any : _)
+    → IsAmong (Replies shard item.client item.number request any) (system_after moment).claims → ⊥
+IsUntold moment (Query shard client number request reply text told) = length moment ≤ told
 
 -- at this moment the order has a front, which was asked by then, and a back, which nobody was told of by then
 pub record Cut {Q P R : Type 0} (order : List (Operation Q R)) (moment : List (Event Q P R)) : Type 0 where
@@ -113,7 +124,7 @@ pub record IsLinear {Q P R S : Type 0} (service : Automaton S Q R) (events : Lis
   -- the updates are the requests that the store made, in the order in which it made them
   pub updates : (shard : ℕ) → updates_of (of_shard shard order) ≡ made shard (system_after events).log
   -- each reply that a client was told is in it
-  pub places : HavePlaces order events
+  pub places : HavePlaces (system_after events).asked order events
   -- nothing is in it that nobody asked
   pub came : AllByRecursion (HasCome events) order
   -- at each moment it can be cut in two
@@ -122,8 +133,9 @@ pub record IsLinear {Q P R S : Type 0} (service : Automaton S Q R) (events : Lis
 -- a client was told of the operation by this moment
 abbrev pub IsTold : {Q P R : Type 0} → List (Event Q P R) → Operation Q R → Type 0
 IsTold moment (Update shard item reply) =
-    (any : _) × IsAmong (Replies shard item.client item.number any) (system_after moment).claims
-IsTold moment (Query shard client number request reply told) = told < length moment
+    (request : _) × (any : _)
+    × IsAmong (Replies shard item.client item.number request any) (system_after moment).claims
+IsTold moment (Query shard client number request reply text told) = told < length moment
 
 -- the one stands before the other
 pub record StandsBefore {A : Type 0} (one other : A) (order : List A) : Type 0 where
@@ -140,7 +152,5 @@ AreFresh asked =
 
 -- whatever request the client asked under the operation's number, it is the operation's
 abbrev pub IsOwn : {Q R : Type 0} → List (Ask Q) → Operation Q R → Type 0
-IsOwn asked (Update shard item reply) =
-    (ask : Ask _) → WasAsked asked shard item.client item.number ask → ask.request ≡ item.request
-IsOwn asked (Query shard client number request reply told) =
-    (ask : Ask _) → WasAsked asked shard client number ask → ask.request ≡ request
+IsOwn asked (Update shard item reply) = IsOnlyAsk asked shard item.client item.number item.request
+IsOwn asked (Query shard client number request reply text told) = IsOnlyAsk asked shard client number request

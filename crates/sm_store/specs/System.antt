@@ -22,12 +22,12 @@ pub record Ask (Q : Type 0) : Type 0 where
 
 -- what a process claims to a client
 pub data Claim (Q R : Type 0) : Type 0 where
-  -- the client's request of this number is made, with this reply
-  Replies : (shard client number : ℕ) (reply : R) → Claim Q R
+  -- the client's request of this number is made, with this reply, which is told for this request
+  Replies : (shard client number : ℕ) (request : Q) (reply : R) → Claim Q R
   -- a later one of the client is made, or the client is forgotten, so this one won't be
   Overtaken : (shard client number : ℕ) → Claim Q R
-  -- the client's request of this number, which only reads, has this reply
-  Reads : (shard client number : ℕ) (reply : R) → Claim Q R
+  -- the client's request of this number, which is this one and only reads, has this reply and this text
+  Reads : (shard client number : ℕ) (request : Q) (reply : R) (text : List ℕ) → Claim Q R
 
 -- a transaction that was sent, and the length of the log then
 pub record SentTransaction (Q P : Type 0) : Type 0 where
@@ -91,34 +91,38 @@ pub record WasAsked {Q : Type 0} (asked : List (Ask Q)) (shard client number : �
   pub client_is : ask.client ≡ client
   pub number_is : ask.number ≡ number
 
--- the request only reads, and the reply is that of a moment after it came
+-- the request was asked and only reads, and the reply and the text are those of a moment after it came
 pub record IsReadSince {Q P R S : Type 0} (service : Automaton S Q R) (asked : List (Ask Q))
-    (log : List (Transaction Q P)) (shard client number : ℕ) (answer : R) : Type 0 where
+    (log : List (Transaction Q P)) (shard client number : ℕ) (request : Q) (answer : R)
+    (text : List ℕ) : Type 0 where
   pub ask : Ask Q
   pub was_asked : WasAsked asked shard client number ask
-  pub only_reads : IsTrue (service.reads ask.request)
+  pub request_is : ask.request ≡ request
+  pub only_reads : IsTrue (service.reads request)
   pub later : List (Transaction Q P)
   pub past : List (Transaction Q P)
   pub is : log ≡ later ++ past
   pub since : ask.since ≤ length past
-  pub answer_is : answer ≡ service.reply (state_after service service.start (made shard past)) ask.request
+  pub answer_is : answer ≡ service.reply (state_after service service.start (made shard past)) request
+  pub text_is : text ≡ service.text (state_after service service.start (made shard past)) request
 
 -- it is so: the reply is that of one thread's run over the requests that are made, in order; what won't be made is over
 abbrev pub IsSo : {Q P R S : Type 0} → Automaton S Q R → List (Ask Q) → List (Transaction Q P)
     → Claim Q R → Type 0
-IsSo service asked log (Replies shard client number answer) =
+IsSo service asked log (Replies shard client number request answer) =
     reply_in service service.start (made shard log) client number ≡ Some answer
 IsSo service asked log (Overtaken shard client number) = IsOver client number (made shard log)
-IsSo service asked log (Reads shard client number answer) =
-    IsReadSince service asked log shard client number answer
+IsSo service asked log (Reads shard client number request answer text) =
+    IsReadSince service asked log shard client number request answer text
 
--- the request only reads, and after it came a process sent a transaction that compares the revision of the requests
--- that the process has read, which held
+-- the request was asked and only reads, and after it came a process sent a transaction that compares the revision of
+-- the requests that the process has read, which held
 pub record MayRead {Q P R S : Type 0} (service : Automaton S Q R) (system : System Q P R)
-    (shard client number : ℕ) (answer : R) : Type 0 where
+    (shard client number : ℕ) (request : Q) (answer : R) (text : List ℕ) : Type 0 where
   pub ask : Ask Q
   pub was_asked : WasAsked system.asked shard client number ask
-  pub only_reads : IsTrue (service.reads ask.request)
+  pub request_is : ask.request ≡ request
+  pub only_reads : IsTrue (service.reads request)
   pub held : Carried Q P
   pub was_held : IsAmong held system.held
   pub sent_after : ask.since ≤ held.since
@@ -126,11 +130,13 @@ pub record MayRead {Q P R S : Type 0} (service : Automaton S Q R) (system : Syst
   pub revision : ℕ
   pub items_were : WasFound (made shard) (head_key shard) system.log items revision
   pub compared : IsAmong (at (head_key shard) revision) held.txn.compares
-  pub answer_is : answer ≡ service.reply (state_after service service.start items) ask.request
+  pub answer_is : answer ≡ service.reply (state_after service service.start items) request
+  pub text_is : text ≡ service.text (state_after service service.start items) request
 
 -- what a process may claim: what is so in the store that it has read, and a read by `MayRead`
 abbrev pub MayClaim : {Q P R S : Type 0} → Automaton S Q R → System Q P R → Claim Q R → Type 0
-MayClaim service system (Reads shard client number answer) = MayRead service system shard client number answer
+MayClaim service system (Reads shard client number request answer text) =
+    MayRead service system shard client number request answer text
 MayClaim service system claim = IsSo service system.asked system.log claim
 
 -- what may happen: a process sends what it may, and claims what it knows; the store's revision rises, by one or by more

@@ -8,7 +8,7 @@ use Rattle.sm_map.specs.KeyMap.{KeyPair, KeyValue, Text, Count, text_of}
 use Rattle.std.specs.Global.{Vec}
 use Rattle.sm_store.specs.Clients.{Automaton}
 use Rattle.sm_texts.specs.declared.text_reply.TextReply.{TextReply}
-use Rattle.sm_texts.specs.Texts.{is_read, request_in, texts_after, texts_reply}
+use Rattle.sm_texts.specs.Texts.{is_read, parts_in, request_in, text_for, texts_after, texts_reply}
 
 -- the kind of a value
 abbrev pub value_kind : KeyValue → ℕ
@@ -72,5 +72,6 @@ texts_service =
       after = λ pairs request. texts_after pairs (request_in request.items);
       reply = λ pairs request. texts_reply pairs (request_in request.items);
       reads = λ request. is_read request.items;
+      text = λ pairs request. text_for pairs (parts_in request.items);
       spelled = spelled_pairs;
     }

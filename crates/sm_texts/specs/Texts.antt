@@ -2,7 +2,7 @@
 use Rattle.std.specs.Prelude.{ℕ, Bool, false, ◌==◌, ◌||◌, nat_lt, if◌then◌else◌, List, [], ◌∷◌, length, take, drop}
 use Rattle.std.specs.Prelude.{Option, Some, None}
 use Rattle.std.specs.Int.{w64, from_be_bytes, cast_signed, cast_unsigned}
-use Rattle.sm_map.specs.KeyMap.{KeyPair}
+use Rattle.sm_map.specs.KeyMap.{KeyPair, held_at, text_of}
 use Rattle.sm_service.specs.declared.reply.Reply.{Reply}
 use Rattle.sm_service.specs.declared.reply.Reply.TheVariants.{Nothing, Done, Text, Count, Pairs}
 use Rattle.sm_service.specs.declared.reply.Reply.TheVariants.{WrongKind, Overflow, TooLong}
@@ -62,6 +62,11 @@ texts_reply pairs (Some request) = reply_parts (service_reply pairs request)
 abbrev pub texts_after : List KeyPair → Option Request → List KeyPair
 texts_after pairs None = pairs
 texts_after pairs (Some request) = service_after pairs request
+
+-- the text that the request asks for, if its key holds one
+abbrev pub text_for : List KeyPair → Option (ℕ × List ℕ × List ℕ) → List ℕ
+text_for pairs None = []
+text_for pairs (Some (kind, key, rest)) = text_of (held_at pairs key)
 
 -- it only reads
 abbrev pub is_read : List ℕ → Bool

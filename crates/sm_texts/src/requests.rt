@@ -2,6 +2,7 @@
 ghost use Rattle.std.specs.Prelude.{◌≡◌, ◌<◌, IfOk, OnOk, IfSome, length};
 ghost use Rattle.std.specs.Int.{w64, from_be_bytes};
 ghost use Rattle.std.specs.Option.{option_map};
+ghost use Rattle.sm_map.specs.KeyMap.{held_at, text_of};
 ghost use Rattle.sm_service.specs.Service.{reply, after, sum_of};
 ghost use Rattle.sm_service.specs.declared.request.Request.TheVariants.{Get, Put, Append, Inc, Del};
 ghost use Rattle.sm_texts.specs.Saves.{wide_number_in};
@@ -11,7 +12,8 @@ use crate::text_reply::TextReply;
 use sm_map::arena_map::ArenaMap;
 use sm_map::val::Val;
 use sm_service::counter_text::MAX_TEXT;
-use std::alloc::AllocError;
+use sm_shard::ReadAnswer;
+use std::alloc::{AllocError, Global};
 
 /// The kind, the key and the rest of a request.
 pub fn parts_of(bytes: &[u8]) -> Option<(u8, &[u8], &[u8])>
@@ -79,6 +81,31 @@ pub(crate) fn get(map: &ArenaMap, key: &[u8]) -> TextReply
         None => TextReply::new(0, 0),
         Some(Val::Text(text)) => TextReply::new(2, text.len() as u64),
         Some(Val::Count(count)) => TextReply::new(3, count.cast_unsigned()),
+    }
+}
+
+/// Reads what the key holds: the reply to a request for it, and its text.
+pub(crate) fn read(
+    alloc: Global,
+    map: &ArenaMap,
+    key: &[u8],
+) -> Result<ReadAnswer<TextReply>, AllocError>
+    ensures reply { IfOk result (λ answer. answer.reply ≡ reply_parts (reply map.now.pairs (Get key.now))) }
+    ensures text { IfOk result (λ answer. answer.text.items ≡ text_of (held_at map.now.pairs key.now)) }
+{
+    match map.get(key) {
+        None => Ok(ReadAnswer {
+            reply: TextReply::new(0, 0),
+            text: Vec::new(alloc),
+        }),
+        Some(Val::Text(text)) => Ok(ReadAnswer {
+            reply: TextReply::new(2, text.len() as u64),
+            text: Vec::from_slice(alloc, text)?,
+        }),
+        Some(Val::Count(count)) => Ok(ReadAnswer {
+            reply: TextReply::new(3, count.cast_unsigned()),
+            text: Vec::new(alloc),
+        }),
     }
 }
 

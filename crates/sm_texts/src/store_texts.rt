@@ -1,13 +1,13 @@
 ghost use Rattle.std.specs.Prelude.{◌≡◌};
 ghost use Rattle.sm_texts.specs.Texts.{is_read};
 
-use crate::requests::{answer_to, get, parts_of};
+use crate::requests::{answer_to, parts_of, read};
 use crate::saves::{load, save};
 use crate::text_reply::TextReply;
 use sm_map::arena_map::ArenaMap;
 use sm_map::val::Val;
 use sm_service::counter_text::MAX_DEAD;
-use sm_shard::StoreMachine;
+use sm_shard::{ReadAnswer, StoreMachine};
 use std::alloc::{AllocError, Global};
 use std::marker::Model;
 
@@ -56,13 +56,20 @@ impl StoreMachine<Vec<u8>, TextReply> for StoreTexts {
         }
     }
 
-    fn peek(&self, _: Global, request: &Vec<u8>) -> Result<Option<TextReply>, AllocError> {
+    fn peek(
+        &self,
+        alloc: Global,
+        request: &Vec<u8>,
+    ) -> Result<Option<ReadAnswer<TextReply>>, AllocError> {
         if !is_read(request) {
             return Ok(None);
         }
         match parts_of(request) {
-            Some((_, key, _)) => Ok(Some(get(&self.map, key))),
-            None => Ok(Some(TextReply::new(8, 0))),
+            Some((_, key, _)) => Ok(Some(read(alloc, &self.map, key)?)),
+            None => Ok(Some(ReadAnswer {
+                reply: TextReply::new(8, 0),
+                text: Vec::new(alloc),
+            })),
         }
     }
 

@@ -2,7 +2,7 @@ ghost use Rattle.std.specs.Prelude.{◌+◌, ◌%◌, ◌^◌, ◌==◌, if◌th
 ghost use Rattle.std.specs.Int.{to_be_bytes, w64};
 ghost use Rattle.std.proofs.lemmas.Bool.{cond-true};
 
-use sm_shard::StoreMachine;
+use sm_shard::{ReadAnswer, StoreMachine};
 use std::alloc::{AllocError, Global};
 
 /// A sum, to which each request adds.
@@ -17,6 +17,7 @@ impl StoreMachine<u64, u64> for Sum {
       after = λ sum amount. if amount == 0 then sum else record { total = (sum.total + amount) % 2 ^ 64 };
       reply = λ sum amount. (sum.total + amount) % 2 ^ 64;
       reads = λ amount. amount == 0;
+      text = λ sum amount. to_be_bytes w64 sum.total;
       spelled = λ sum. to_be_bytes w64 sum.total;
     } };
 
@@ -34,12 +35,14 @@ impl StoreMachine<u64, u64> for Sum {
         Ok(total)
     }
 
-    fn peek(&self, _: Global, request: &u64) -> Result<Option<u64>, AllocError> {
-        Ok(if *request == 0 {
-            Some(self.total.wrapping_add(*request))
-        } else {
-            None
-        })
+    fn peek(&self, alloc: Global, request: &u64) -> Result<Option<ReadAnswer<u64>>, AllocError> {
+        if *request != 0 {
+            return Ok(None);
+        }
+        Ok(Some(ReadAnswer {
+            reply: self.total.wrapping_add(*request),
+            text: Vec::from_slice(alloc, &self.total.to_be_bytes())?,
+        }))
     }
 
     fn size_of(_: &u64) -> u64 {

@@ -23,7 +23,7 @@ fn looks_at_no_change(rt: HostRuntime) {
     let texts = StoreTexts::new(rt.alloc());
     let get = Vec::from_slice(rt.alloc(), b"\x01\x01a").expect(&rt, "memory");
     let put = Vec::from_slice(rt.alloc(), b"\x02\x01avalue").expect(&rt, "memory");
-    assert!(rt; matches!(texts.peek(rt.alloc(), &get), Ok(Some(reply)) if reply.kind == 0));
+    assert!(rt; matches!(texts.peek(rt.alloc(), &get), Ok(Some(answer)) if answer.reply.kind == 0));
     assert!(rt; matches!(texts.peek(rt.alloc(), &put), Ok(None)));
 }
 

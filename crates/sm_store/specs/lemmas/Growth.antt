@@ -175,36 +175,40 @@ module _ {Q P R S : Type 0} (service : Automaton S Q R) where
   -- what is so stays so as the store goes on
   pub so_grows : (asked : List (Ask Q)) (more log : List (Transaction Q P)) (claim : Claim Q R)
       → IsSo service asked log claim → IsSo service asked (more ++ log) claim
-  so_grows asked more log (Replies shard client number answer) so =
+  so_grows asked more log (Replies shard client number request answer) so =
       let grown = made_grows shard more log in
       ap (λ (items : List (Item Q)). reply_in service service.start items client number) grown.1
       ∙ reply-append service service.start (made shard log) grown.0 client number answer so
   so_grows asked more log (Overtaken shard client number) so =
       let grown = made_grows shard more log in
       over_grows client number (made shard log) grown.0 (made shard (more ++ log)) grown.1 so
-  so_grows asked more log (Reads shard client number answer) so = record {
+  so_grows asked more log (Reads shard client number request answer text) so = record {
     ask = so.ask;
     was_asked = so.was_asked;
+    request_is = so.request_is;
     only_reads = so.only_reads;
     later = more ++ so.later;
     past = so.past;
     is = ap (λ (rest : List (Transaction Q P)). more ++ rest) so.is ∙ sym (append_assoc more so.later so.past);
     since = so.since;
     answer_is = so.answer_is;
+    text_is = so.text_is;
   }
 
   -- and as more is asked
   pub so_asked : (new : Ask Q) (asked : List (Ask Q)) (log : List (Transaction Q P)) (claim : Claim Q R)
       → IsSo service asked log claim → IsSo service (new ∷ asked) log claim
-  so_asked new asked log (Replies shard client number answer) so = so
+  so_asked new asked log (Replies shard client number request answer) so = so
   so_asked new asked log (Overtaken shard client number) so = so
-  so_asked new asked log (Reads shard client number answer) so = record {
+  so_asked new asked log (Reads shard client number request answer text) so = record {
     ask = so.ask;
     was_asked = asked_grows new asked shard client number so.ask so.was_asked;
+    request_is = so.request_is;
     only_reads = so.only_reads;
     later = so.later;
     past = so.past;
     is = so.is;
     since = so.since;
     answer_is = so.answer_is;
+    text_is = so.text_is;
   }

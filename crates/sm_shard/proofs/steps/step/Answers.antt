@@ -1,6 +1,5 @@
-use Rattle.std.proofs.Common.{rules, Ok, ◌≡◌, ◌<◌, ◌≢◌, ◌∷◌, ◌++◌, [], map, refl, sym, subst}
+use Rattle.std.proofs.Common.{rules, Ok, ◌≡◌, ◌<◌, ◌≢◌, ◌∷◌, ◌++◌, [], refl, sym, subst}
 use Rattle.std.specs.List.{AllByRecursion}
-use Rattle.sm_shard.specs.Replicas.{read_of, replies_of}
 use Rattle.sm_store.specs.Deeds.{Clearing}
 use Rattle.sm_store.specs.System.{MayClaim}
 use Rattle.sm_store.specs.lemmas.Views.{rising_of_right}
@@ -9,9 +8,10 @@ use Rattle.sm_shard.specs.declared.steps.ShardOutput.{ShardOutput}
 use Rattle.sm_shard.specs.declared.steps.ShardOutput.TheVariants.{Nothing, Answers, Sends, Bases, Clears, Decides}
 use Rattle.sm_shard.specs.Steps.{IsInput, IsOutputOf, step_claims}
 use Rattle.sm_shard.specs.declared.shard_state.ShardState.{ShardState}
-use Rattle.sm_shard.specs.ShardServers.{DidHold, WereMade, claimed_all, claimed_reads, sent_transaction}
+use Rattle.sm_shard.specs.ShardServers.{DidHold, WereMade, sent_transaction}
+use Rattle.sm_shard.proofs.Told.{answers_are, answers_may}
 use Rattle.sm_shard.proofs.Asks.{bases_ask, transactions_ask}
-use Rattle.sm_shard.proofs.ShardServers.{all-append, both_of, both_so, parts_may, transactions_may}
+use Rattle.sm_shard.proofs.ShardServers.{both_of, both_so, parts_may, transactions_may}
 use Rattle.sm_shard.proofs.steps.step.Goals as goal
 
 pub returns-then-branch-clause-call : goal.returns-then-branch-clause-call
@@ -29,7 +29,7 @@ returns-then-branch-clause-call g c = λ charter system since count parts right 
       claims = let out : ShardOutput g.row.Q.Denot g.row.R.Denot = Sends in
           subst (λ (i : ShardInput g.row.Q.Denot g.row.R.Denot). AllByRecursion
           (MayClaim g.M.StoreMachine.service system)
-          (step_claims c.args.server.now.shard i (Ok out))) (sym c.in-Flush.is) tt;
+          (step_claims c.args.server.now i (Ok out))) (sym c.in-Flush.is) tt;
     }
 
 pub returns-in_ok-on_made-in-Made-clause-call : goal.returns-in_ok-on_made-in-Made-clause-call
@@ -51,9 +51,8 @@ returns-in_ok-on_made-in-Made-clause-call g c = λ charter system since count pa
       may = tt;
       claims = subst (λ (i : ShardInput g.row.Q.Denot g.row.R.Denot). AllByRecursion
           (MayClaim g.M.StoreMachine.service system)
-          (step_claims shard i (Ok (Answers answers)))) (sym c.in-Made.is)
-          (all-append (MayClaim g.M.StoreMachine.service system)
-          (claimed_all shard answers.made.items) (claimed_reads shard answers.read.items)
+          (step_claims c.args.server.now i (Ok (Answers answers)))) (sym c.in-Made.is)
+          (answers_may (MayClaim g.M.StoreMachine.service system) shard c.args.server.now.ready answers
           (done.told system rising known both.1) (done.read system since known asked both.0));
     }
 
@@ -85,7 +84,7 @@ returns-in_ok-on_read-in-Read-clause-call g c = λ charter system since count pa
       may = tt;
       claims = subst (λ (i : ShardInput g.row.Q.Denot g.row.R.Denot). AllByRecursion
           (MayClaim g.M.StoreMachine.service system)
-          (step_claims c.args.server.now.shard i (Ok out))) (sym c.in-Read.is) tt;
+          (step_claims c.args.server.now i (Ok out))) (sym c.in-Read.is) tt;
     }
 
 pub returns-in_err-on_read-in-Read-clause-call : goal.returns-in_err-on_read-in-Read-clause-call
@@ -111,7 +110,7 @@ returns-then-branch-2-clause-call g c = λ charter system since count parts righ
       claims = let out : ShardOutput g.row.Q.Denot g.row.R.Denot = Bases in
           subst (λ (i : ShardInput g.row.Q.Denot g.row.R.Denot). AllByRecursion
           (MayClaim g.M.StoreMachine.service system)
-          (step_claims c.args.server.now.shard i (Ok out))) (sym c.in-Base.is) tt;
+          (step_claims c.args.server.now i (Ok out))) (sym c.in-Base.is) tt;
     }
 
 pub returns-then-is_behind-clause-call : goal.returns-then-is_behind-clause-call
@@ -130,7 +129,7 @@ returns-then-is_behind-clause-call g c = λ charter system since count parts rig
       claims = let out : ShardOutput g.row.Q.Denot g.row.R.Denot = Clears c.in-Clear.key in
           subst (λ (i : ShardInput g.row.Q.Denot g.row.R.Denot). AllByRecursion
           (MayClaim g.M.StoreMachine.service system)
-          (step_claims c.args.server.now.shard i (Ok out))) (sym c.in-Clear.is) tt;
+          (step_claims c.args.server.now i (Ok out))) (sym c.in-Clear.is) tt;
     }
 
 pub returns-in-PartsMade-clause-call : goal.returns-in-PartsMade-clause-call
@@ -145,7 +144,7 @@ returns-in-PartsMade-clause-call g c = λ charter system since count parts right
       may = tt;
       claims = subst (λ (i : ShardInput g.row.Q.Denot g.row.R.Denot). AllByRecursion
           (MayClaim g.M.StoreMachine.service system)
-          (step_claims c.args.server.now.shard i (Ok out))) (sym c.in-PartsMade.is) tt;
+          (step_claims c.args.server.now i (Ok out))) (sym c.in-PartsMade.is) tt;
     }
 
 pub returns-in-Record-clause-exact : goal.returns-in-Record-clause-exact
@@ -186,12 +185,7 @@ returns-in_ok-on_made-in-Made-clause-exact g c =
     g.M.StoreMachine.size c.args.server.now i (Answers answers)) (sym c.in-Made.is) (
       answers,
       refl,
-      both_so c.args.server.now.ready
-          (λ (ready : ShardState g.row.M.Denot g.row.Q.Denot g.row.R.Denot).
-          answers.made.items ≡ replies_of g.M.StoreMachine.service ready.replica.machine ready.sent.items)
-          (λ (ready : ShardState g.row.M.Denot g.row.Q.Denot g.row.R.Denot). answers.read.items
-          ≡ map (read_of g.M.StoreMachine.service ready.replica.machine) ready.carried.items)
-          done.made done.answered,
+      answers_are g.M.StoreMachine.service c.args.server.now.ready answers done.unread done.made done.answered,
     )
 
 pub returns-then-branch-clause-asked_for : goal.returns-then-branch-clause-asked_for

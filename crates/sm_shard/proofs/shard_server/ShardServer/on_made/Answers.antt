@@ -1,8 +1,9 @@
-use Rattle.std.proofs.Common.{rules, ◌≡◌, ◌≢◌, ◌+◌, [], Some, sym, subst, ◌∙◌}
+use Rattle.std.proofs.Common.{rules, ◌≡◌, ◌≢◌, ◌+◌, [], Some, map, sym, subst, ◌∙◌}
 use Rattle.sm_shard.specs.declared.shard_state.ShardState.{ShardState}
+use Rattle.sm_shard.specs.Replicas.{told_read}
 use Rattle.sm_shard.specs.ShardServers.{AreAskedOf, AreRequestsAskedOf, HasRead, WereMade}
 use Rattle.sm_shard.proofs.ShardServers.{asked_named, head_by_fields, knows_made, knows_settled, none_by_length}
-use Rattle.sm_shard.proofs.ShardServers.{none_made, requests_named}
+use Rattle.sm_shard.proofs.ShardServers.{made_told, none_made, none_told, requests_named}
 use Rattle.sm_shard.proofs.ShardServers.{reads_told, some_by_length, some_of, told_made}
 use Rattle.sm_shard.proofs.shard_server.ShardServer.on_made.Goals as goal
 
@@ -10,13 +11,13 @@ pub returns-then-is_empty-clause-read : goal.returns-then-is_empty-clause-read
 returns-then-is_empty-clause-read g c = λ system since known asked held.
     reads_told g.M.StoreMachine.service system since c.args.self.now.me
     c.args.self.now.shard c.args.self.now.ready c.in-Some.ready (sym c.take.ensures.value ∙ c.in-Some.is) known asked
-    held c.deref.result.now c.deref.ensures.value c.in_ok-read.read.items c.in_ok-read.ensures
+    held c.deref.result.now c.deref.ensures.value (map told_read c.in_ok-read.read.items) c.in_ok-read.ensures
 
 pub returns-clause-read : goal.returns-clause-read
 returns-clause-read g c = λ system since known asked held.
     reads_told g.M.StoreMachine.service system since c.args.self.now.me
     c.args.self.now.shard c.args.self.now.ready c.in-Some.ready (sym c.take.ensures.value ∙ c.in-Some.is) known asked
-    held c.deref.result.now c.deref.ensures.value c.in_ok-read.read.items c.in_ok-read.ensures
+    held c.deref.result.now c.deref.ensures.value (map told_read c.in_ok-read.read.items) c.in_ok-read.ensures
 
 pub returns-clause-known : goal.returns-clause-known
 returns-clause-known g c = λ log rising known made.
@@ -50,8 +51,18 @@ returns-clause-told g c = λ system rising known made.
     c.args.revision r) c.args.self.now.ready old is made in
     let some : old.sent.items ≢ [] = some_by_length old.sent.items old.sent.len old.sent.ok.0
     (sym c.is_empty.ensures ∙ c.if-is_empty.false) in
-    told_made service system me shard c.args.revision old c.in_ok-made.made.items rising knows some were_made
-    c.in_ok-made.ensures.answers
+    made_told service system me shard c.args.revision c.args.self.now.ready old is c.in_ok-made.made.items
+    (told_made service system me shard c.args.revision old c.in_ok-made.made.items rising knows some were_made
+    c.in_ok-made.ensures.answers)
+
+pub returns-then-is_empty-clause-told : goal.returns-then-is_empty-clause-told
+returns-then-is_empty-clause-told g c = λ system rising known made.
+    let service = g.M.StoreMachine.service in
+    let old = c.in-Some.ready in
+    let none : old.sent.items ≡ [] = none_by_length old.sent.items old.sent.len old.sent.ok.0
+    (sym c.is_empty.ensures ∙ c.if-is_empty.true) in
+    made_told service system c.args.self.now.me c.args.self.now.shard c.args.revision c.args.self.now.ready old
+    (sym c.take.ensures.value ∙ c.in-Some.is) _ (none_told service system c.args.self.now.shard old _ none)
 
 pub returns-then-is_empty-clause-made : goal.returns-then-is_empty-clause-made
 returns-then-is_empty-clause-made g c =

@@ -25,14 +25,14 @@ returns-in-Some-clause-told g c =
     → IsShardState service me before ready → IsDecided service ready.state me before
     c.args.item.client c.args.item.number decision)
     (λ (decision : Decision g.row.R.Denot). (system : StoreSystem g.row.Q.Denot g.row.R.Denot)
-    → IsTrueOf service system.log c.args.self.now → AllByRecursion (MayClaim service system)
-    (claimed_by shard c.args.item.client c.args.item.number decision))
+    → IsTrueOf service system.log c.args.self.now
+    → AllByRecursion (MayClaim service system) (claimed_by shard c.args.item decision))
     c.take.result
     (λ decision decided system known.
     let knows = some_of (λ (r : ShardState g.row.M.Denot g.row.Q.Denot g.row.R.Denot). HasRead service
     system.log me shard r) c.args.self.now.ready ready c.in-Some.is known in
     decided_so service shard me system ready.state (record { head = ready.head; items = knows.before })
-    ready.logged c.args.item.client c.args.item.number knows.logged decision (decided knows.before knows.is))
+    ready.logged c.args.item knows.logged decision (decided knows.before knows.is))
     c.take.ensures.decided
 
 pub returns-in-Some-clause-known : goal.returns-in-Some-clause-known
