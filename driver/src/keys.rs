@@ -6,6 +6,7 @@
 //! | `process` | how many processes have begun here |
 //! | `leader` | the process that sends commands, under its lease where there are several |
 //! | `server/SERVER` | a process that runs this server, under its lease: where it is, and how far it follows records |
+//! | `ack/SHARD/SERVER` | the generation up to which that process let go of the shard, or is prepared for it |
 //! | `lowest/SERVER` | the process that ran it last, and the first of the numbers by which it still has requests |
 //! | `commands` | the process that sent the latest command |
 //! | `state/SERVER` | how far a server's restart has come |
@@ -32,6 +33,8 @@ pub const COMMANDS: &[u8] = b"commands";
 pub const RECORDS: &[u8] = b"record/";
 /// What the keys of servers that are there begin with.
 pub(crate) const SERVERS: &[u8] = b"server/";
+/// What the keys begin with that tell up to which generation of a shard's record processes have let go.
+pub(crate) const ACKS: &[u8] = b"ack/";
 /// What the keys begin with that tell the first numbers by which processes still have requests.
 pub(crate) const LOWESTS: &[u8] = b"lowest/";
 /// What all states of servers begin with.
@@ -69,6 +72,13 @@ pub(crate) fn server_of(key: &[u8]) -> Option<u16> {
     number_behind(key, SERVERS)
 }
 
+/// The shard and the server of this key, where it is that of an ack.
+pub(crate) fn shard_and_server_of_ack(key: &[u8]) -> Option<(u16, u16)> {
+    let numbers = std::str::from_utf8(key.strip_prefix(ACKS)?).ok()?;
+    let (shard, server) = numbers.split_once('/')?;
+    Some((shard.parse().ok()?, server.parse().ok()?))
+}
+
 /// The server of this key, where it tells the first number by which its process still has requests.
 pub(crate) fn server_of_lowest(key: &[u8]) -> Option<u16> {
     number_behind(key, LOWESTS)
@@ -99,6 +109,21 @@ pub(crate) fn server(server: u16) -> Vec<u8> {
     format!("server/{server:05}").into_bytes()
 }
 
+/// The key of what a server acks of a shard.
+pub(crate) fn ack(shard: u16, server: u16) -> Vec<u8> {
+    format!("ack/{shard:05}/{server:05}").into_bytes()
+}
+
+/// What lies there: a version and a generation.
+pub(crate) fn ack_of(generation: u64) -> Vec<u8> {
+    versioned(generation)
+}
+
+/// The generation that these bytes at an ack's key tell.
+pub(crate) fn generation_of_ack(bytes: &[u8]) -> Option<u64> {
+    number_of_version(bytes)
+}
+
 /// The key of the first number by which the server's process still has requests.
 pub(crate) fn lowest(server: u16) -> Vec<u8> {
     format!("lowest/{server:05}").into_bytes()
@@ -121,21 +146,37 @@ pub(crate) fn home(shard: u16) -> Vec<u8> {
 
 /// What lies at the leader's key for this process.
 pub(crate) fn leader_of(process: u64) -> Vec<u8> {
-    [&[1][..], &process.to_be_bytes()].concat()
+    versioned(process)
 }
 
 /// The process that these bytes at the leader's key tell.
 pub(crate) fn process_of(bytes: &[u8]) -> Option<u64> {
+    number_of_version(bytes)
+}
+
+/// The version of these bytes, and a number.
+fn versioned(number: u64) -> Vec<u8> {
+    [&[1][..], &number.to_be_bytes()].concat()
+}
+
+/// The number that these bytes tell behind their version.
+fn number_of_version(bytes: &[u8]) -> Option<u64> {
     let (version, number) = bytes.split_first()?;
     (*version == 1).then(|| number.try_into().ok().map(u64::from_be_bytes))?
+}
+
+/// The state that these bytes tell, if this version knows its number. A state that was never written is `Up`.
+pub(crate) fn state_of(state: &[u8]) -> Option<ServerState> {
+    let number = state.get(1..9).and_then(|it| it.try_into().ok());
+    number.map_or(Some(ServerState::Up), |it| {
+        ServerState::of_number(u64::from_be_bytes(it))
+    })
 }
 
 /// Whether requests reach a server of which these bytes are the state: it is neither stopped nor failed. None reach one
 /// whose state has a number that this version doesn't know.
 pub(crate) fn is_reached(state: &[u8]) -> bool {
-    let number = state.get(1..9).and_then(|it| it.try_into().ok());
-    let number = number.map(u64::from_be_bytes);
-    number.is_none_or(|it| ServerState::of_number(it).is_some_and(ServerState::is_reached))
+    state_of(state).is_some_and(ServerState::is_reached)
 }
 
 /// The head of the shard's log.

@@ -1,10 +1,10 @@
 use crate::lease_clock::{LeaseClock, Moment};
 use crate::lowest::Lowest;
-use crate::{keys, process, Addresses, JoinFault, Live, Members, OpenFault};
+use crate::{keys, process, Addresses, JoinFault, KeptLease, Live, Members, OpenFault};
 use durkenzo_store::{
     LeaseError, LeaseId, Outcome, Revision, Seen, Store, Transaction, Watch, WriteError,
 };
-use std::collections::BTreeMap;
+use std::collections::{BTreeMap, BTreeSet};
 use std::fmt;
 use std::sync::atomic::{AtomicBool, Ordering};
 use std::sync::mpsc::{sync_channel, RecvTimeoutError};
@@ -22,6 +22,8 @@ const PAUSE: Duration = Duration::from_millis(50);
 const TAKEN_PAUSE: Duration = Duration::from_secs(1);
 /// How long it isn't told how far the server follows, where nothing waits for that: each telling is seen by all.
 const LAG: Duration = Duration::from_millis(500);
+/// How many acks one transaction tells at most, beside the server's key: etcd takes 128 writes by itself.
+const MOST_ACKS: usize = 100;
 /// How many other processes begin before one that goes on takes another number: its shards keep the last requests of
 /// all that began since the first number by which any has requests.
 const BEGUN: u64 = 8;
@@ -59,6 +61,11 @@ struct OwnKey {
     kept: Moment,
     /// The revision of the key as it was written last.
     written: Revision,
+    /// The revision that created the key under this lease.
+    joined: Revision,
+    /// What is acked, by shard, and of which shards that isn't told under this lease.
+    acks: BTreeMap<u16, u64>,
+    untold: BTreeSet<u16>,
     /// The revision that it tells, and the one that it is to tell: when it is due.
     told: Revision,
     followed: Revision,
@@ -73,12 +80,46 @@ impl OwnKey {
             lease: None,
             kept: now,
             written: Revision::NEVER,
+            joined: Revision::NEVER,
+            acks: BTreeMap::new(),
+            untold: BTreeSet::new(),
             told: Revision::NEVER,
             followed: Revision::NEVER,
             due: None,
             is_over: false,
         }
     }
+
+    /// Returns the acks that are told next, as many as one transaction may have.
+    fn acks_due(&self) -> Vec<(u16, u64)> {
+        let due = self.untold.iter().take(MOST_ACKS);
+        due.filter_map(|shard| Some((*shard, *self.acks.get(shard)?)))
+            .collect()
+    }
+
+    /// Notes that these acks were told. Later ones of the same shards, and those that had no room, are due.
+    fn have_told(&mut self, acks: &[(u16, u64)]) {
+        for (shard, generation) in acks {
+            if self.acks.get(shard) == Some(generation) {
+                self.untold.remove(shard);
+            }
+        }
+        if !self.untold.is_empty() {
+            self.due = Some(Instant::now());
+        }
+    }
+}
+
+/// A server's key as it lies in the store.
+struct Lying {
+    revision: Revision,
+    created: Revision,
+}
+
+/// Why a server's key wasn't written: where the process is that has it, and if that is this process, how the key lies.
+struct Taken {
+    by: String,
+    own: Option<Lying>,
 }
 
 /// What was seen of all servers' keys, and of the leader's.
@@ -92,6 +133,8 @@ struct SeenKeys {
     /// The first of the numbers by which any that is there still has requests; 0 before that was seen.
     lowest: u64,
     leader: Option<(u64, Revision)>,
+    /// The generation that each ack tells, by shard and server.
+    acks: BTreeMap<(u16, u16), u64>,
     /// The revision at which the leader's key changed last.
     led: Revision,
     changes: u64,
@@ -177,7 +220,7 @@ impl Member {
         });
         inner.begin()?;
         let was_away = inner.is_away()?;
-        let prefixes = [keys::SERVERS, keys::LEADER, keys::LOWESTS];
+        let prefixes = [keys::SERVERS, keys::LEADER, keys::LOWESTS, keys::ACKS];
         let watches = prefixes.map(|it| inner.watch(it));
         let watches = watches.into_iter().collect::<Result<_, _>>()?;
         Ok(Member {
@@ -249,6 +292,51 @@ impl Member {
     pub fn lease(&self) -> Option<LeaseId> {
         let state = self.inner.state();
         state.lease.filter(|_| state.written > Revision::NEVER)
+    }
+
+    /// Returns how much time has passed by the clock that judges the lease, since some beginning. That clock goes on
+    /// while the machine is suspended.
+    pub fn time(&self) -> Duration {
+        self.now().since_beginning()
+    }
+
+    /// Returns the lease of this process as it was kept last. Returns none while the server's key isn't known to lie
+    /// under it.
+    pub fn kept_lease(&self) -> Option<KeptLease> {
+        let state = self.inner.state();
+        let is_there = state.lease.is_some() && state.joined > Revision::NEVER && !state.is_over;
+        is_there.then(|| KeptLease {
+            joined: state.joined,
+            asked: state.kept.since_beginning(),
+            length: self.inner.length,
+        })
+    }
+
+    /// Returns the revision at which this process joined: the one that created its key under its lease. It is
+    /// [`Revision::NEVER`] while the key isn't known to be there.
+    ///
+    /// An earlier process of the server's name joined at another revision, so what is handed over can say by whom.
+    pub fn joined(&self) -> Revision {
+        self.inner.state().joined
+    }
+
+    /// Acks the shard's records up to this generation: this process executes by none of them any more, or is prepared
+    /// for the latest. It is told as soon as the store takes it, and again under each later lease of this process.
+    ///
+    /// The caller must have read the record of that generation, and must not execute by it or by an earlier one.
+    pub fn ack(&self, shard: u16, generation: u64) {
+        let mut state = self.inner.state();
+        if state.acks.get(&shard).is_none_or(|it| *it < generation) {
+            state.acks.insert(shard, generation);
+            state.untold.insert(shard);
+            state.due = Some(Instant::now());
+            self.inner.wakes.notify_all();
+        }
+    }
+
+    /// Returns the generation up to which the server was seen to ack the shard's records, if its ack is there.
+    pub fn acked(&self, shard: u16, server: u16) -> Option<u64> {
+        self.inner.seen().acks.get(&(shard, server)).copied()
     }
 
     /// Whether another process has the server's name, as far as it was seen.
@@ -332,17 +420,18 @@ impl MemberInner {
         let end = Instant::now() + self.length + LATE;
         loop {
             let live = self.live(Revision::NEVER);
-            match self.write(lease, &live, Revision::NEVER, self.length + LATE) {
-                Ok(Ok(revision)) => {
+            match self.write(lease, &live, &[], Revision::NEVER, self.length + LATE) {
+                Ok(Ok(lying)) => {
                     let mut state = self.state();
-                    (state.lease, state.written) = (Some(lease), revision);
+                    state.lease = Some(lease);
+                    (state.written, state.joined) = (lying.revision, lying.created);
                     state.kept = kept;
                     return Ok(());
                 }
-                Ok(Err((other, _))) if Instant::now() >= end => {
+                Ok(Err(taken)) if Instant::now() >= end => {
                     // Its own lease holds nothing.
                     let _ = self.store.revoke(lease);
-                    return Err(JoinFault::Running(self.server, other));
+                    return Err(JoinFault::Running(self.server, taken.by));
                 }
                 // Whether it was made is found when it is tried again.
                 Ok(Err(_)) | Err(JoinFault::Write(WriteError::Unknown(_))) => thread::sleep(PAUSE),
@@ -363,6 +452,7 @@ impl MemberInner {
         Live {
             process: self.process,
             followed,
+            joined: Revision::NEVER,
             addresses: self.addresses.clone(),
         }
     }
@@ -381,38 +471,58 @@ impl MemberInner {
         })
     }
 
-    /// Writes the server's key that was written at this revision, with this patience; or says where the process is that
-    /// has it, and where that isn't another one, by which revision it may be written.
+    /// Writes the server's key that was written at this revision, and acks with it, with this patience.
     fn write(
         &self,
         lease: LeaseId,
         live: &Live,
+        acks: &[(u16, u64)],
         before: Revision,
         patience: Duration,
-    ) -> Result<Result<Revision, (String, Option<Revision>)>, JoinFault> {
+    ) -> Result<Result<Lying, Taken>, JoinFault> {
         let key = keys::server(self.server);
-        let transaction = Transaction::new()
+        let mut transaction = Transaction::new()
             .compare(key.clone(), before)
             .put_under(key.clone(), live.bytes(), Some(lease))
             .with_kept_room()
             .or_read(key.clone());
+        for (shard, generation) in acks {
+            let ack = keys::ack(*shard, self.server);
+            transaction = transaction.put_under(ack, keys::ack_of(*generation), Some(lease));
+        }
         let found = match self.make(transaction, patience)? {
-            Outcome::Made(revision) => return Ok(Ok(revision)),
+            Outcome::Made(revision) => {
+                let is_new = before == Revision::NEVER;
+                let created = if is_new {
+                    revision
+                } else {
+                    self.state().joined
+                };
+                return Ok(Ok(Lying { revision, created }));
+            }
             Outcome::Lost(reading) => reading,
         };
         let Some(pair) = found.get(&key) else {
-            let why = "an address that it doesn't tell".to_owned();
-            return Ok(Err((why, Some(Revision::NEVER))));
+            let (revision, created) = (Revision::NEVER, Revision::NEVER);
+            return Ok(Err(Taken {
+                by: "an address that it doesn't tell".to_owned(),
+                own: Some(Lying { revision, created }),
+            }));
         };
-        match Live::of(&pair.value) {
-            // What became of it wasn't known.
-            Some(found) if found == *live => Ok(Ok(pair.revision)),
-            Some(found) if found.process == self.process => {
-                Ok(Err((found.addresses.servers, Some(pair.revision))))
+        let lying = Lying {
+            revision: pair.revision,
+            created: pair.created,
+        };
+        let (by, own) = match Live::of(&pair.value, live.joined) {
+            // What became of it wasn't known. Which acks were told with it isn't known either.
+            Some(found) if found == *live && acks.is_empty() => return Ok(Ok(lying)),
+            Some(found) => {
+                let is_own = found.process == self.process;
+                (found.addresses.servers, is_own.then_some(lying))
             }
-            Some(found) => Ok(Err((found.addresses.servers, None))),
-            None => Ok(Err(("an address that can't be read".to_owned(), None))),
-        }
+            None => ("an address that can't be read".to_owned(), None),
+        };
+        Ok(Err(Taken { by, own }))
     }
 
     /// Has its thread come to its end.
@@ -484,36 +594,42 @@ impl MemberInner {
         let granted = self.store.grant(self.length).ok();
         let mut state = self.state();
         (state.lease, state.kept, state.told) = (granted, kept, Revision::NEVER);
-        // The key went with the lease before.
-        state.written = Revision::NEVER;
+        // The key went with the lease before, as did its acks.
+        (state.written, state.joined) = (Revision::NEVER, Revision::NEVER);
+        state.untold = state.acks.keys().copied().collect();
         granted
     }
 
     /// Writes the key where it has more to tell; whether that was done.
     fn tell(&self, lease: LeaseId) -> bool {
-        let (followed, before) = {
+        let (followed, before, acks) = {
             let mut state = self.state();
             state.due = None;
             let is_told = state.written > Revision::NEVER && state.followed <= state.told;
-            if is_told || state.is_over {
+            if is_told && state.untold.is_empty() || state.is_over {
                 return true;
             }
-            (state.followed, state.written)
+            (state.followed, state.written, state.acks_due())
         };
         // A store that hangs doesn't keep the lease from being kept. What it makes late is found at the next write.
-        let written = self.write(lease, &self.live(followed), before, self.length / PARTS);
+        let (live, patience) = (self.live(followed), self.length / PARTS);
+        let written = self.write(lease, &live, &acks, before, patience);
         let mut state = self.state();
         match written {
-            Ok(Ok(revision)) => {
-                (state.written, state.told) = (revision, followed);
+            Ok(Ok(lying)) => {
+                (state.written, state.joined) = (lying.revision, lying.created);
+                state.told = followed;
+                state.have_told(&acks);
                 return true;
             }
             Err(JoinFault::Write(WriteError::LeaseEnded)) => state.lease = None,
             // The key went with the lease, so it is tried anew. Or an earlier write was made, or not, of which that
             // wasn't known: it goes on from what lies there.
-            Ok(Err((_, Some(lies)))) => state.written = lies,
-            Ok(Err((_, None))) => {
-                state.written = Revision::NEVER;
+            Ok(Err(Taken { own: Some(it), .. })) => {
+                (state.written, state.joined) = (it.revision, it.created);
+            }
+            Ok(Err(Taken { own: None, .. })) => {
+                (state.written, state.joined) = (Revision::NEVER, Revision::NEVER);
                 state.due = Some(Instant::now() + TAKEN_PAUSE);
                 return false;
             }
@@ -541,15 +657,16 @@ impl MemberInner {
                 match prefix {
                     keys::LEADER => (keys.leader, keys.led) = (None, reading.revision),
                     keys::LOWESTS => keys.lowests = BTreeMap::new(),
+                    keys::ACKS => keys.acks = BTreeMap::new(),
                     _ => keys.members = Arc::default(),
                 }
-                for pair in reading.pairs {
-                    keys.note(&pair.key, Some(&pair.value), pair.revision);
+                for pair in &reading.pairs {
+                    keys.note(&pair.key, Some(&pair.value), pair.revision, pair.created);
                 }
             }
             Seen::Changes(_, changes) => {
                 for it in changes {
-                    keys.note(&it.key, it.value.as_deref(), it.revision);
+                    keys.note(&it.key, it.value.as_deref(), it.revision, it.created);
                 }
             }
         }
@@ -581,7 +698,7 @@ impl SeenKeys {
     }
 
     /// Notes what lies at a key, or that nothing does any more.
-    fn note(&mut self, key: &[u8], value: Option<&[u8]>, revision: Revision) {
+    fn note(&mut self, key: &[u8], value: Option<&[u8]>, revision: Revision, created: Revision) {
         if key == keys::LEADER {
             self.leader = value.and_then(keys::process_of).map(|it| (it, revision));
             self.led = revision;
@@ -592,16 +709,16 @@ impl SeenKeys {
                 None => drop(self.lowests.remove(&server)),
             }
         }
-        let Some(server) = keys::server_of(key) else {
-            return;
-        };
-        let members = Arc::make_mut(&mut self.members);
-        match value.and_then(Live::of) {
-            Some(live) => {
-                self.newest = self.newest.max(live.process);
-                members.insert(server, live);
+        if let Some(of) = keys::shard_and_server_of_ack(key) {
+            match value.and_then(keys::generation_of_ack) {
+                Some(generation) => drop(self.acks.insert(of, generation)),
+                None => drop(self.acks.remove(&of)),
             }
-            None => drop(members.remove(&server)),
+        }
+        if let Some(server) = keys::server_of(key) {
+            let live = value.and_then(|it| Live::of(it, created));
+            self.newest = self.newest.max(live.as_ref().map_or(0, |it| it.process));
+            Arc::make_mut(&mut self.members).note(server, live);
         }
     }
 }
@@ -682,5 +799,66 @@ mod tests {
         assert!(member.is_kept_since(since));
         machine.go_on(LENGTH);
         assert!(is_over_until_kept(&member, since));
+    }
+
+    /// Waits until that holds, as what is written is seen by another thread.
+    fn until(holds: impl Fn() -> bool) {
+        let end = Instant::now() + Duration::from_secs(20);
+        while !holds() {
+            assert!(Instant::now() < end, "it never held");
+            thread::sleep(Duration::from_millis(2));
+        }
+    }
+
+    #[test]
+    fn others_see_what_a_server_acks_until_it_leaves() {
+        let store: Arc<dyn Store> = Arc::new(Embedded::in_memory());
+        let join = |server| {
+            let (addresses, on_change) = (Addresses::default(), Box::new(|| {}));
+            Member::join(store.clone(), server, addresses, LENGTH, on_change).unwrap()
+        };
+        let (one, two) = (join(1), join(2));
+        assert!(Revision::NEVER < one.joined() && one.joined() < two.joined());
+        until(|| two.members().joined_of(1) == Some(one.joined()));
+        assert_eq!(two.members().joined_of(3), None);
+
+        // More than one transaction may tell, and a late one that is older.
+        let shards = MOST_ACKS as u16 + 7;
+        (0..shards).for_each(|shard| one.ack(shard, 5));
+        one.ack(3, 9);
+        one.ack(3, 4);
+        until(|| (0..shards).all(|shard| two.acked(shard, 1).is_some()));
+        until(|| two.acked(3, 1) == Some(9));
+        assert_eq!((two.acked(4, 1), two.acked(4, 2)), (Some(5), None));
+        // The key was written over, and not made anew.
+        assert_eq!(two.members().joined_of(1), Some(one.joined()));
+
+        let joined = one.joined();
+        one.leave();
+        until(|| two.acked(3, 1).is_none() && two.acked(shards - 1, 1).is_none());
+        let again = join(1);
+        assert!(again.joined() > joined);
+        assert_eq!(two.acked(3, 1), None);
+    }
+
+    #[test]
+    fn acks_are_told_again_under_a_later_lease() {
+        let store: Arc<dyn Store> = Arc::new(Embedded::in_memory());
+        let join = |server| {
+            let passed = || Duration::ZERO;
+            Member::join_without_thread(store.clone(), server, Addresses::default(), LENGTH, passed)
+        };
+        let (one, two) = (join(1).unwrap(), join(2).unwrap());
+        one.ack(17, 2);
+        one.tell_followed();
+        until(|| two.acked(17, 1) == Some(2));
+        let joined = one.joined();
+        store.revoke(one.lease().unwrap()).unwrap();
+        until(|| two.acked(17, 1).is_none());
+        one.keep_lease();
+        assert_eq!(one.joined(), Revision::NEVER);
+        one.tell_followed();
+        assert!(one.joined() > joined);
+        until(|| two.acked(17, 1) == Some(2));
     }
 }

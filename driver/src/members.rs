@@ -1,6 +1,7 @@
 use crate::Addresses;
 use durkenzo_store::Revision;
 use std::collections::BTreeMap;
+use std::ops::Deref;
 
 /// A server that is there: what lies at its key.
 #[derive(Clone, Debug, PartialEq, Eq)]
@@ -9,12 +10,45 @@ pub struct Live {
     pub process: u64,
     /// The revision up to which it follows the records.
     pub followed: Revision,
+    /// The revision at which it joined: that of its key under the lease by which it is there.
+    pub joined: Revision,
     /// Where it is reached.
     pub addresses: Addresses,
 }
 
 /// The servers that are there.
-pub type Members = BTreeMap<u16, Live>;
+#[derive(Clone, Debug, Default, PartialEq, Eq)]
+pub struct Members(BTreeMap<u16, Live>);
+
+impl Members {
+    /// Returns the revision at which the server joined, if it is there. Another process of its name, or the same one
+    /// under another lease, joined at another revision.
+    pub fn joined_of(&self, server: u16) -> Option<Revision> {
+        self.0.get(&server).map(|it| it.joined)
+    }
+
+    /// Notes that the server is there, or isn't any more.
+    pub(crate) fn note(&mut self, server: u16, live: Option<Live>) {
+        match live {
+            Some(live) => drop(self.0.insert(server, live)),
+            None => drop(self.0.remove(&server)),
+        }
+    }
+}
+
+impl Deref for Members {
+    type Target = BTreeMap<u16, Live>;
+
+    fn deref(&self) -> &BTreeMap<u16, Live> {
+        &self.0
+    }
+}
+
+impl<const N: usize> From<[(u16, Live); N]> for Members {
+    fn from(members: [(u16, Live); N]) -> Members {
+        Members(BTreeMap::from(members))
+    }
+}
 
 /// The version of what lies at a server's key.
 const VERSION: u8 = 1;
@@ -33,8 +67,8 @@ impl Live {
         bytes
     }
 
-    /// What these bytes say, where they are a server's.
-    pub(crate) fn of(bytes: &[u8]) -> Option<Live> {
+    /// What these bytes say, where they are a server's, which lie at a key that was created at this revision.
+    pub(crate) fn of(bytes: &[u8], created: Revision) -> Option<Live> {
         let (version, rest) = bytes.split_first()?;
         let (process, rest) = rest.split_first_chunk()?;
         let (followed, rest) = rest.split_first_chunk()?;
@@ -43,6 +77,7 @@ impl Live {
         (*version == VERSION && rest.is_empty()).then(|| Live {
             process: u64::from_be_bytes(*process),
             followed: Revision(u64::from_be_bytes(*followed)),
+            joined: created,
             addresses: Addresses { servers, clients },
         })
     }
@@ -63,14 +98,15 @@ mod tests {
         let live = Live {
             process: 7,
             followed: Revision(1 << 40),
+            joined: Revision(5),
             addresses: Addresses {
                 servers: "[::1]:7000".to_owned(),
                 clients: String::new(),
             },
         };
-        let bytes = live.bytes();
-        assert_eq!(Live::of(&bytes), Some(live));
-        assert_eq!(Live::of(&bytes[1..]), None);
-        assert_eq!(Live::of(&[&bytes[..], b"x"].concat()), None);
+        let (bytes, joined) = (live.bytes(), live.joined);
+        assert_eq!(Live::of(&bytes, joined), Some(live));
+        assert_eq!(Live::of(&bytes[1..], joined), None);
+        assert_eq!(Live::of(&[&bytes[..], b"x"].concat(), joined), None);
     }
 }

@@ -123,6 +123,7 @@ def passed(room):
     yield workspace.ran("the server's unit tests", "test", "--release", *workspace.of([PACKAGE]))
     # What drives proved servers of a store, over stores that don't tell all, and what leads them.
     yield workspace.ran("tests below the server", "test", *workspace.of(["durkenzo-driver", "durkenzo-control"]))
+    yield workspace.ran("tests of fleets", "test", *workspace.of(["durkenzo-fleet"]))
     if shutil.which("cargo-clippy"):
         yield workspace.ran("clippy of the workspace", *workspace.clippy("--workspace"))
     told = subprocess.run([sources.TOP / "sm", "serve", "--help"], capture_output=True, text=True).stdout

@@ -10,7 +10,8 @@ from testing import workspace
 from testing.library import is_there
 from testing.program import tool
 
-BINDINGS, SIMULATION = ("-p", "durkenzo-store-sys"), ("-p", "simulation", "--release")
+BINDINGS = ("-p", "durkenzo-store-sys", "--features", "permits")
+SIMULATION = ("-p", "simulation", "--release")
 # New schedules for three processor minutes, though they take longer on a busy machine.
 LIMITS = ("--schedules", "1000000000", "--processor-seconds", "180", "--seconds", "900")
 # Patches of simulation/plants that are found within seconds.

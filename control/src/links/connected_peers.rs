@@ -125,6 +125,7 @@ mod tests {
         let live = |process| Live {
             process,
             followed: Revision::NEVER,
+            joined: Revision::NEVER,
             addresses: Addresses::default(),
         };
         Members::from(processes.map(|it| (it.0, live(it.1))))

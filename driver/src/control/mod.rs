@@ -188,7 +188,8 @@ impl DurableControl {
         let pairs = reading.pairs.iter();
         let there = pairs.filter_map(|it| {
             // If its bytes can't be read the server is there all the same, and nothing waits for what it has read.
-            let followed = Live::of(&it.value).map_or(reading.revision, |live| live.followed);
+            let followed =
+                Live::of(&it.value, it.created).map_or(reading.revision, |live| live.followed);
             Some((keys::server_of(&it.key)?, followed))
         });
         let known = there.filter(|it| (1..=self.servers).contains(&it.0));

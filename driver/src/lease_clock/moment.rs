@@ -9,4 +9,9 @@ impl Moment {
     pub(crate) fn since(self, earlier: Moment) -> Duration {
         self.0.saturating_sub(earlier.0)
     }
+
+    /// Returns how much time has passed since the clock's beginning.
+    pub(crate) fn since_beginning(self) -> Duration {
+        self.0
+    }
 }

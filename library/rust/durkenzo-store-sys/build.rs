@@ -1,9 +1,14 @@
-//! Links the libraries of a store's servers and of its control.
+//! Links the libraries of a store's servers, of its control and of permits.
 #[path = "../durkenzo/static_libraries.rs"]
 mod static_libraries;
 
 fn main() {
-    let is_with_control = std::env::var_os("CARGO_FEATURE_CONTROL").is_some();
-    let libraries = ["sm_driver", "sm_director"];
-    static_libraries::link(&libraries[..1 + usize::from(is_with_control)]);
+    let has = |feature: &str| std::env::var_os(format!("CARGO_FEATURE_{feature}")).is_some();
+    let of_features = [("CONTROL", "sm_director"), ("PERMITS", "sm_permit_c")];
+    let others = of_features
+        .into_iter()
+        .filter(|it| has(it.0))
+        .map(|it| it.1);
+    let libraries: Vec<&str> = ["sm_driver"].into_iter().chain(others).collect();
+    static_libraries::link(&libraries);
 }

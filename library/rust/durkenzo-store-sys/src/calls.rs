@@ -1,4 +1,5 @@
-//! The calls themselves, as C declares them: what each promises stands in `durkenzo_store.h` and `durkenzo_control.h`.
+//! The calls themselves, as C declares them: what each promises stands in `durkenzo_store.h`, `durkenzo_control.h`
+//! and `durkenzo_permit.h`.
 #![allow(missing_docs)]
 
 /// What keeps a proved value.
@@ -281,4 +282,57 @@ extern "C" {
     ) -> u32;
     pub fn durkenzo_director_state_of(director: *mut Handle, server: u16, state: *mut u8) -> u32;
     pub fn durkenzo_director_close(director: *mut Handle);
+}
+
+/// What a process read of a shard, all at one revision of the store.
+#[cfg(feature = "permits")]
+#[repr(C)]
+#[derive(Clone, Copy, Default, Debug, PartialEq, Eq)]
+pub struct ReadingNumbers {
+    pub revision: u64,
+    pub word: u64,
+    pub owner_joined: u64,
+    pub failed: bool,
+    pub owner_failed: bool,
+}
+
+/// What a process knows of a shard.
+#[cfg(feature = "permits")]
+#[repr(C)]
+#[derive(Clone, Copy, Default, Debug, PartialEq, Eq)]
+pub struct ViewNumbers {
+    pub joined: u64,
+    pub until: u64,
+    pub let_go: u64,
+    pub reading: ReadingNumbers,
+    pub server: u16,
+    pub freed: bool,
+}
+
+/// What handed-over bytes name.
+#[cfg(feature = "permits")]
+#[repr(C)]
+#[derive(Clone, Copy, Default, Debug, PartialEq, Eq)]
+pub struct HandOverNumbers {
+    pub joined: u64,
+    pub generation: u64,
+    pub server: u16,
+}
+
+#[cfg(feature = "permits")]
+extern "C" {
+    pub fn durkenzo_permit_new(server: u16, joined: u64, until: u64, view: *mut ViewNumbers)
+        -> u32;
+    pub fn durkenzo_permit_may_execute(
+        view: *const ViewNumbers,
+        from: u16,
+        time: u64,
+        may: *mut bool,
+    ) -> u32;
+    pub fn durkenzo_permit_may_ack(view: *const ViewNumbers, may: *mut bool) -> u32;
+    pub fn durkenzo_permit_kept(view: *mut ViewNumbers, until: u64) -> u32;
+    pub fn durkenzo_permit_read(view: *mut ViewNumbers, reading: *const ReadingNumbers) -> u32;
+    pub fn durkenzo_permit_acked(view: *mut ViewNumbers, server: u16, generation: u64) -> u32;
+    pub fn durkenzo_permit_handed(view: *mut ViewNumbers, hand: *const HandOverNumbers) -> u32;
+    pub fn durkenzo_permit_let_go(view: *mut ViewNumbers) -> u32;
 }

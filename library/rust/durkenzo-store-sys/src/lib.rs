@@ -1,5 +1,5 @@
-//! The proved servers and the proved control of a shared store: their calls, as `durkenzo_store.h` and
-//! `durkenzo_control.h` declare them, and two values that call them safely.
+//! The proved servers and the proved control of a shared store, and permits: their calls, as `durkenzo_store.h`,
+//! `durkenzo_control.h` and `durkenzo_permit.h` declare them, and values that call them safely.
 //!
 //! ```
 //! use durkenzo_store_sys::{Decision, Limits, Server};
@@ -29,6 +29,9 @@ mod code;
 #[allow(unsafe_code)]
 mod director;
 mod limits;
+#[cfg(feature = "permits")]
+#[allow(unsafe_code)]
+mod permit;
 #[allow(unsafe_code)]
 mod server;
 
@@ -36,4 +39,6 @@ pub use calls::{Head, Reply};
 pub use code::Code;
 #[cfg(feature = "control")]
 pub use director::{CommandTransaction, Director, DirectorStep};
+#[cfg(feature = "permits")]
+pub use permit::{HandOver, ShardReading, ShardView};
 pub use server::{Base, Decision, Limits, Passing, Server, ServerRequest, ServerTransaction, Told};

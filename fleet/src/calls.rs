@@ -1,0 +1,170 @@
+//! A call's way through a server: it is executed, goes on to another server, or waits.
+use crate::connections::{is_open, NotAnswered};
+use crate::fleet::FleetInner;
+use crate::frame::{CallFrame, Request, Response, MOST};
+use crate::queue::Turn;
+use crate::{Destination, Enter, Mode, Permit, Service};
+use durkenzo::MOST_HOPS;
+use std::net::TcpStream;
+use std::sync::atomic::Ordering;
+use std::time::{Duration, Instant};
+
+/// How long a call waits until it is sent again to a server that isn't reached.
+const PAUSE: Duration = Duration::from_millis(5);
+
+/// What became of a look.
+enum Step {
+    /// The response is written.
+    Done,
+    /// Nothing was done yet, for this reason.
+    Waits(String),
+}
+
+impl<S: Service> FleetInner<S> {
+    /// Executes the call, or has another server do so, and writes the response. The client is at this connection.
+    pub(crate) fn call(&self, call: &CallFrame<'_>, client: &TcpStream, out: &mut Vec<u8>) {
+        let began = Instant::now();
+        let budget = Duration::from_millis(u64::from(call.budget));
+        let (end, waits) = (began + budget, began + budget.min(self.options.patience()));
+        let Some(place) = self.places.get(usize::from(call.shard)) else {
+            return Response::Again("there is no such shard").write(out);
+        };
+        if self.closing.load(Ordering::Acquire) {
+            return Response::Again("this process leaves, and others have its shards").write(out);
+        }
+        // Who comes later waits behind those who wait.
+        let mut turn = None;
+        if !place.queue.is_empty() {
+            turn = place.queue.enter(self.options.waiting);
+            if turn.is_none() {
+                return Response::Again("as many calls wait for the shard as may").write(out);
+            }
+        }
+        let mut why = "calls that came before wait for the shard".to_owned();
+        loop {
+            if turn.as_ref().is_none_or(Turn::is_first) {
+                match self.look(call, client, end, &mut turn, out) {
+                    Step::Done => return,
+                    Step::Waits(reason) => why = reason,
+                }
+            }
+            if Instant::now() >= waits || self.is_stopping() {
+                return Response::Again(&why).write(out);
+            }
+            match &turn {
+                Some(turn) => turn.wait(waits),
+                None => turn = place.queue.enter(self.options.waiting),
+            }
+            if turn.is_none() {
+                return Response::Again("as many calls wait for the shard as may").write(out);
+            }
+        }
+    }
+
+    /// Looks once what becomes of the call. Those behind it may look once it is decided.
+    fn look<'a>(
+        &'a self,
+        call: &CallFrame<'_>,
+        client: &TcpStream,
+        end: Instant,
+        turn: &mut Option<Turn<'a>>,
+        out: &mut Vec<u8>,
+    ) -> Step {
+        let place = &self.places[usize::from(call.shard)];
+        if place.known().stood < call.revision {
+            return Step::Waits("the record by which it was sent isn't read yet".to_owned());
+        }
+        let mode = if call.from == 0 {
+            Mode::Direct
+        } else {
+            Mode::Forwarded(call.from)
+        };
+        let (to, from) = match self.enter(call.shard, mode) {
+            Enter::Here(permit) => {
+                drop(turn.take());
+                execute(permit, call, out);
+                return Step::Done;
+            }
+            Enter::Forward(to) => (to, self.server()),
+            Enter::Elsewhere(to) => (to, 0),
+            Enter::Wait(why) => return Step::Waits(why.to_owned()),
+            Enter::Refused(why) => {
+                Response::Again(&why.to_string()).write(out);
+                return Step::Done;
+            }
+        };
+        if call.hops >= MOST_HOPS {
+            return Step::Waits("it was forwarded as often as it may be".to_owned());
+        }
+        // What lay here for long, as this process was paused, is no more to be done if nobody waits for it.
+        if !is_open(client) {
+            return Step::Done;
+        }
+        drop(turn.take());
+        self.send_on(call, (&to, from), end, out)
+    }
+
+    /// Sends the call on, with what is left of its budget.
+    fn send_on(
+        &self,
+        call: &CallFrame<'_>,
+        (to, from): (&Destination, u16),
+        end: Instant,
+        out: &mut Vec<u8>,
+    ) -> Step {
+        let left = end.saturating_duration_since(Instant::now());
+        let budget = left.as_millis() as u32;
+        let Some(address) = to.address.as_deref().filter(|_| budget > 0) else {
+            std::thread::sleep(PAUSE.min(left));
+            return Step::Waits(format!("server {} isn't there", to.server));
+        };
+        let onward = CallFrame {
+            from,
+            hops: call.hops + 1,
+            revision: to.revision,
+            budget,
+            ..*call
+        };
+        match self.connections.ask(address, &Request::Call(onward), left) {
+            Ok(bytes) => returned(&bytes, out),
+            Err(error @ NotAnswered::Lost(..)) => {
+                Response::Unsure(&error.to_string()).write(out);
+                Step::Done
+            }
+            Err(error @ NotAnswered::Unreached(..)) => {
+                std::thread::sleep(PAUSE.min(left));
+                Step::Waits(error.to_string())
+            }
+        }
+    }
+}
+
+/// Executes the call, and writes the answer, if the permit holds still.
+fn execute<S: Service>(mut permit: Permit<'_, S>, call: &CallFrame<'_>, out: &mut Vec<u8>) {
+    let answer = permit.answer(call.request);
+    if answer.len() > MOST {
+        let why = "the call was made, and its answer is too large to be sent";
+        return Response::Unsure(why).write(out);
+    }
+    if !permit.holds() {
+        let why = "the server's lease may have ended before it answered";
+        return Response::Unsure(why).write(out);
+    }
+    let answered = Response::Answered {
+        server: permit.fleet.server(),
+        hops: call.hops,
+        fence: permit.fence(),
+        answer: &answer,
+    };
+    answered.write(out);
+}
+
+/// Writes what another server has answered, unless nothing was done there.
+fn returned(bytes: &[u8], out: &mut Vec<u8>) -> Step {
+    match Response::read(bytes) {
+        Ok(Response::Again(why)) => return Step::Waits(why.to_owned()),
+        Ok(response) => response.write(out),
+        Err(error) => Response::Unsure(&error.to_string()).write(out),
+    }
+    Step::Done
+}

@@ -1,0 +1,393 @@
+use crate::connections::Connections;
+use crate::follower::{self, Notices};
+use crate::leading;
+use crate::listener::Listener;
+use crate::permit::BodyGuard;
+use crate::place::{Known, Place};
+use crate::{
+    settings, Destination, Enter, JoinError, Mode, Options, Permit, Refused, Service, Shard,
+    Sharding,
+};
+use durkenzo::word;
+use durkenzo_control::control::Asked;
+use durkenzo_control::links::checksum;
+use durkenzo_driver::{Addresses, Durable, Member, NotDone, Own, Tuning};
+use durkenzo_store::Store;
+use durkenzo_store_sys::ShardView;
+use std::fmt;
+use std::io;
+use std::net::SocketAddr;
+use std::sync::atomic::{AtomicBool, Ordering};
+use std::sync::mpsc::Sender;
+use std::sync::{Arc, Mutex, PoisonError};
+use std::thread;
+use std::time::{Duration, Instant};
+use tokio::runtime;
+use tokio::signal::unix::{signal, SignalKind};
+use tokio::sync::Notify;
+
+/// How often it is looked whether the control has stopped this server.
+const LOOK: Duration = Duration::from_millis(20);
+/// How long a server that was stopped forwards what still comes.
+const LINGER: Duration = Duration::from_millis(500);
+
+/// A process of a fleet. It follows records, holds bodies, and answers clients and other processes, until it leaves.
+pub struct Fleet<S: Service> {
+    pub(crate) inner: Arc<FleetInner<S>>,
+    listener: Listener,
+    address: SocketAddr,
+}
+
+pub(crate) struct FleetInner<S: Service> {
+    pub(crate) service: S,
+    pub(crate) options: Options,
+    pub(crate) sharding: Sharding,
+    pub(crate) settings: String,
+    pub(crate) member: Arc<Member>,
+    pub(crate) durable: Arc<Durable>,
+    pub(crate) places: Box<[Place<S::Body>]>,
+    pub(crate) connections: Arc<Connections>,
+    /// The control of this process; none once it has left.
+    pub(crate) control: Mutex<Option<Sender<Asked>>>,
+    pub(crate) stopping: Arc<AtomicBool>,
+    /// Whether no call is taken any more.
+    pub(crate) closing: AtomicBool,
+    left: Notify,
+}
+
+impl<S: Service> Fleet<S> {
+    /// Has this process be a server of the fleet that these options name, and begins to answer.
+    ///
+    /// # Errors
+    ///
+    /// As [`JoinError`] says: one is that another process has the server's name.
+    pub fn join(service: S, options: Options) -> Result<Fleet<S>, JoinError> {
+        let store = options.store()?;
+        Fleet::join_over(service, options, store)
+    }
+
+    /// Joins as [`Fleet::join`] does, over this store.
+    ///
+    /// # Errors
+    ///
+    /// As of [`Fleet::join`].
+    pub fn join_over(
+        service: S,
+        options: Options,
+        store: Arc<dyn Store>,
+    ) -> Result<Fleet<S>, JoinError> {
+        let sharding = options.sharding()?;
+        if !options.listen.ip().is_loopback() && !options.open {
+            return Err(JoinError::Open(options.listen));
+        }
+        let (listener, address) = Listener::bind(options.listen)?;
+        let at = options
+            .advertise
+            .clone()
+            .unwrap_or_else(|| address.to_string());
+        let (notices, noticed) = Notices::new();
+        let inner = FleetInner::joined((service, options, sharding), at, store, &notices)?;
+        let inner = Arc::new(inner);
+        follower::begin(&inner, noticed)?;
+        leading::begin(&inner)?;
+        listener.begin(&inner)?;
+        Ok(Fleet {
+            inner,
+            listener,
+            address,
+        })
+    }
+
+    /// Serves until this process leaves the fleet. SIGTERM has it [stop](Fleet::stop), within `--grace`.
+    ///
+    /// # Errors
+    ///
+    /// The system doesn't let signals be waited for.
+    pub fn serve(&self) -> io::Result<()> {
+        let runtime = runtime::Builder::new_current_thread().enable_io().build()?;
+        let is_asked = runtime.block_on(async {
+            let mut asked = signal(SignalKind::terminate())?;
+            let is_asked = tokio::select! {
+                _ = asked.recv() => true,
+                () = self.inner.left.notified() => false,
+            };
+            Ok::<_, io::Error>(is_asked)
+        })?;
+        if is_asked {
+            self.stop(Duration::from_secs(self.inner.options.grace));
+        }
+        Ok(())
+    }
+
+    /// Returns whether this process may execute a call that came so, or where the call goes on. A process that has
+    /// frames of its own asks this for each call; [`Fleet::serve`] does for its own.
+    pub fn enter(&self, shard: u16, mode: Mode) -> Enter<'_, S> {
+        self.inner.enter(shard, mode)
+    }
+
+    /// Returns how keys go to shards.
+    pub fn sharding(&self) -> &Sharding {
+        &self.inner.sharding
+    }
+
+    /// Returns the server that this process is.
+    pub fn server(&self) -> u16 {
+        self.inner.member.server()
+    }
+
+    /// Returns where this process listens.
+    pub fn address(&self) -> SocketAddr {
+        self.address
+    }
+
+    /// Gives the control a command, as `["MIGRATE", "3", "2"]`, and waits for its answer, in lines.
+    ///
+    /// # Errors
+    ///
+    /// What the control refuses, and what to do.
+    pub fn command(&self, words: &[&str]) -> Result<Vec<String>, String> {
+        self.inner.command(words)
+    }
+
+    /// Asks that this server be stopped, which has its shards go to others, waits until they have or for so long, and
+    /// leaves. No call is refused meanwhile, if others have room.
+    pub fn stop(&self, grace: Duration) {
+        let end = Instant::now() + grace;
+        let (server, asking) = (self.server(), self.inner.clone());
+        // It is answered only once the process was begun again.
+        thread::spawn(move || asking.command(&["RESTART", &server.to_string()]));
+        while !self.inner.durable.is_away(server) && Instant::now() < end {
+            thread::sleep(LOOK);
+        }
+        // Clients whose maps are old have it forward a little longer. Who still comes then is told to ask elsewhere, so
+        // that no call is under way as connections end.
+        let linger = || thread::sleep(LINGER.min(end.saturating_duration_since(Instant::now())));
+        linger();
+        self.inner.closing.store(true, Ordering::Release);
+        linger();
+        self.leave();
+    }
+
+    /// Leaves at once. Others take this server's shards over, and what it kept of them in memory is lost.
+    pub fn leave(&self) {
+        let inner = &self.inner;
+        inner.stopping.store(true, Ordering::Release);
+        for place in &inner.places {
+            // Calls under way find that they hold no permit any more.
+            let mut known = place.known();
+            if let Ok(ended) = known.view.kept(0) {
+                known.view = ended;
+            }
+        }
+        *inner.control.lock().unwrap_or_else(PoisonError::into_inner) = None;
+        inner.member.leave();
+        self.listener.end(self.address);
+        inner.left.notify_one();
+    }
+}
+
+impl<S: Service> Drop for Fleet<S> {
+    fn drop(&mut self) {
+        if !self.inner.is_stopping() {
+            self.leave();
+        }
+    }
+}
+
+impl<S: Service> fmt::Debug for Fleet<S> {
+    fn fmt(&self, f: &mut fmt::Formatter<'_>) -> fmt::Result {
+        f.debug_struct("Fleet")
+            .field("server", &self.server())
+            .field("address", &self.address)
+            .finish_non_exhaustive()
+    }
+}
+
+impl<S: Service> FleetInner<S> {
+    /// Joins as the server of these options, which others reach at that address.
+    fn joined(
+        (service, options, sharding): (S, Options, Sharding),
+        at: String,
+        store: Arc<dyn Store>,
+        notices: &Notices,
+    ) -> Result<FleetInner<S>, JoinError> {
+        let settings = sharding.settings(options.servers);
+        settings::agree(&*store, &settings)?;
+        let (addresses, lease) = (
+            Addresses {
+                servers: at.clone(),
+                clients: at,
+            },
+            Duration::from_secs(options.lease),
+        );
+        let member = Member::join(
+            store.clone(),
+            options.name,
+            addresses,
+            lease,
+            notices.teller(),
+        )?;
+        let member = Arc::new(member);
+        let own = Own {
+            member: member.clone(),
+            // No request of such a service goes through a log.
+            elsewhere: Box::new(|_, steps| {
+                steps
+                    .into_iter()
+                    .for_each(|it| it.work.end(Err(NotDone::Busy)));
+            }),
+        };
+        let (shards, tuning) = (sharding.shards(), Tuning::default());
+        let durable = Durable::open_one(store, shards, tuning, own, notices.teller())?;
+        let unread = ShardView::new(options.name, 0, 0);
+        let unread = unread.map_err(|it| JoinError::Options(it.to_string()))?;
+        Ok(FleetInner {
+            service,
+            places: (0..shards).map(|_| Place::new(unread)).collect(),
+            connections: Arc::new(Connections::new(checksum(settings.as_bytes()))),
+            member,
+            durable: Arc::new(durable),
+            options,
+            sharding,
+            settings,
+            control: Mutex::default(),
+            stopping: Arc::default(),
+            closing: AtomicBool::new(false),
+            left: Notify::new(),
+        })
+    }
+
+    pub(crate) fn server(&self) -> u16 {
+        self.member.server()
+    }
+
+    pub(crate) fn is_stopping(&self) -> bool {
+        self.stopping.load(Ordering::Acquire)
+    }
+
+    /// This moment, in nanoseconds of the clock that judges the lease.
+    fn now(&self) -> u64 {
+        #[cfg(test)]
+        if self.options.plant == Some(crate::plant::Plant::NoLease) {
+            return 0;
+        }
+        nanoseconds(self.member.time())
+    }
+
+    pub(crate) fn enter(&self, shard: u16, mode: Mode) -> Enter<'_, S> {
+        let Some(place) = self.places.get(usize::from(shard)) else {
+            return Enter::Refused(Refused::UnknownShard);
+        };
+        let from = match mode {
+            Mode::Direct => 0,
+            Mode::Forwarded(server) if (1..=durkenzo::MAX_SERVER).contains(&server) => server,
+            Mode::Forwarded(_) => return Enter::Refused(Refused::UnknownServer),
+        };
+        let known = place.known();
+        if !self.may_execute(&known, from) {
+            return self.onward(&known, from);
+        }
+        drop(known);
+        // The call before this one is over by then, and time has passed.
+        let body = place.body();
+        let known = place.known();
+        if !self.may_execute(&known, from) {
+            return self.onward(&known, from);
+        }
+        match BodyGuard::new(body) {
+            Some(body) => Enter::Here(Permit {
+                fleet: self,
+                body,
+                view: known.view,
+                from,
+                shard: Shard::new(shard, known.record().generation),
+            }),
+            None => Enter::Wait("what the previous owner kept of the shard is on its way"),
+        }
+    }
+
+    fn may_execute(&self, known: &Known, from: u16) -> bool {
+        #[cfg(test)]
+        if self.is_planted_in(known, from) {
+            return true;
+        }
+        known.may_execute(from, self.now())
+    }
+
+    /// Where a call goes on that this process doesn't execute.
+    fn onward(&self, known: &Known, from: u16) -> Enter<'_, S> {
+        let (own, record) = (self.server(), known.record());
+        if let Some(next) = word::forward(known.word, own) {
+            return match self.has_let_go(known, record) {
+                true => Enter::Forward(self.destination(next, known.stood)),
+                false => Enter::Wait("the shard goes to its next owner"),
+            };
+        }
+        match record.owner() {
+            Some(owner) if owner != own && from == 0 => {
+                Enter::Elsewhere(self.destination(owner, known.stood))
+            }
+            Some(owner) if owner != own => Enter::Wait("another server executes for the shard"),
+            Some(_) if word::executor(known.word).is_none() => Enter::Wait("the shard is paused"),
+            Some(_) => Enter::Wait("this process isn't sure of its lease, or has read nothing yet"),
+            None => Enter::Wait("nobody owns the shard yet"),
+        }
+    }
+
+    /// Whether the next owner has what this process handed over, or is the owner already.
+    fn has_let_go(&self, known: &Known, record: durkenzo::Record) -> bool {
+        #[cfg(test)]
+        if self.options.plant == Some(crate::plant::Plant::NextBeginsAnew) {
+            return true;
+        }
+        record.owner() != Some(self.server()) || known.handed >= record.generation
+    }
+
+    fn destination(&self, server: u16, revision: u64) -> Destination {
+        Destination {
+            server,
+            address: self.address_of(server),
+            revision,
+        }
+    }
+
+    pub(crate) fn address_of(&self, server: u16) -> Option<String> {
+        let members = self.member.members();
+        members.get(&server).map(|it| it.addresses.servers.clone())
+    }
+
+    /// Whether the permit holds still, by what was known as it was given and the lease as it was kept since.
+    pub(crate) fn still_holds(&self, permit: &Permit<'_, S>) -> bool {
+        let latest = self.places[usize::from(permit.shard.number())].known().view;
+        let view = match latest.joined() == permit.view.joined() {
+            true => permit.view.kept(latest.until()),
+            false => Ok(permit.view),
+        };
+        #[cfg(test)]
+        if self.options.plant == Some(crate::plant::Plant::OwnerExecutesOn) {
+            return true;
+        }
+        view.and_then(|it| it.may_execute(permit.from, self.now()))
+            .unwrap_or(false)
+    }
+
+    /// Whether a wrong rule has this call executed.
+    #[cfg(test)]
+    fn is_planted_in(&self, known: &Known, from: u16) -> bool {
+        use crate::plant::Plant;
+        let (own, stand) = (self.server(), known.record().stand);
+        match (self.options.plant, stand) {
+            (Some(Plant::OwnerExecutesOn), durkenzo::Stand::Forwarding { owner, .. }) => {
+                owner == own
+            }
+            (Some(Plant::NextBeginsAnew), durkenzo::Stand::Forwarding { owner, next }) => {
+                next == own && from == owner
+            }
+            _ => false,
+        }
+    }
+}
+
+pub(crate) fn nanoseconds(time: Duration) -> u64 {
+    u64::try_from(time.as_nanos()).unwrap_or(u64::MAX)
+}

@@ -1,0 +1,371 @@
+//! What clients and servers of a fleet send each other: frames with a length, a kind and fields, the greatest byte first.
+use durkenzo_control::links::{Fields, WireFault};
+use durkenzo_store_sys::HandOver;
+use std::io::{self, Read};
+
+/// What a connection begins with, before the checksum of the fleet's settings.
+pub(crate) const MAGIC: [u8; 4] = *b"DKF1";
+/// How many bytes of a body one frame carries at most. One frame of a body is under way at a time.
+pub(crate) const CHUNK: usize = 256 << 10;
+/// How many bytes a request and an answer have at most.
+pub(crate) const MOST: usize = 1 << 20;
+/// How long a frame is at most: it has fields beside its payload.
+pub(crate) const LONGEST: usize = MOST + 64;
+/// How many words a command has at most.
+const WORDS: u32 = 64;
+
+/// What is asked.
+#[derive(Clone, Copy, Debug, PartialEq, Eq)]
+pub(crate) enum Request<'a> {
+    /// A client's call, or one that another server sends on.
+    Call(CallFrame<'a>),
+    /// The next owner asks for a piece of a first copy, by the record of this generation.
+    Copy {
+        shard: u16,
+        generation: u64,
+        at: u64,
+    },
+    /// The owner hands over a piece of what the next owner needs.
+    Hand(HandFrame<'a>),
+    /// A command for the control. One that another server passed on goes no further.
+    Command { is_passed_on: bool, words: &'a [u8] },
+    /// A client asks which server owns each shard, and where servers are.
+    Routes,
+}
+
+/// A call on its way.
+#[derive(Clone, Copy, Debug, PartialEq, Eq)]
+pub(crate) struct CallFrame<'a> {
+    pub(crate) shard: u16,
+    /// The server that forwarded it as the shard's owner or previous owner, or 0.
+    pub(crate) from: u16,
+    pub(crate) hops: u8,
+    /// The revision of the shard's record by which it was sent here.
+    pub(crate) revision: u64,
+    /// How many milliseconds are left of its budget.
+    pub(crate) budget: u32,
+    pub(crate) request: &'a [u8],
+}
+
+/// A piece of what is handed over, and what it names.
+#[derive(Clone, Copy, Debug, PartialEq, Eq)]
+pub(crate) struct HandFrame<'a> {
+    pub(crate) shard: u16,
+    pub(crate) hand: HandOver,
+    /// Whether it is what has changed since the first copy.
+    pub(crate) is_changes: bool,
+    pub(crate) at: u64,
+    pub(crate) total: u64,
+    pub(crate) bytes: &'a [u8],
+}
+
+/// What is answered.
+#[derive(Clone, Copy, Debug, PartialEq, Eq)]
+pub(crate) enum Response<'a> {
+    /// The call was made.
+    Answered {
+        server: u16,
+        hops: u8,
+        fence: u64,
+        answer: &'a [u8],
+    },
+    /// Nothing was done: it may be asked again.
+    Again(&'a str),
+    /// It may have been done.
+    Unsure(&'a str),
+    /// A piece of so many bytes.
+    Piece { total: u64, bytes: &'a [u8] },
+    /// It was taken.
+    Taken,
+    /// What the control answers, or a map of routes.
+    Text(&'a [u8]),
+}
+
+impl CallFrame<'_> {
+    fn write(&self, out: &mut Vec<u8>) {
+        out.push(1);
+        out.extend(self.shard.to_be_bytes());
+        out.extend(self.from.to_be_bytes());
+        out.push(self.hops);
+        out.extend(self.revision.to_be_bytes());
+        out.extend(self.budget.to_be_bytes());
+        out.extend(self.request);
+    }
+}
+
+impl HandFrame<'_> {
+    fn write(&self, out: &mut Vec<u8>) {
+        out.push(3);
+        out.extend(self.shard.to_be_bytes());
+        out.extend(self.hand.server.to_be_bytes());
+        out.extend(self.hand.joined.to_be_bytes());
+        out.extend(self.hand.generation.to_be_bytes());
+        out.push(u8::from(self.is_changes));
+        out.extend(self.at.to_be_bytes());
+        out.extend(self.total.to_be_bytes());
+        out.extend(self.bytes);
+    }
+}
+
+impl<'a> Request<'a> {
+    pub(crate) fn write(&self, out: &mut Vec<u8>) {
+        framed(out, |out| match self {
+            Request::Call(call) => call.write(out),
+            Request::Copy {
+                shard,
+                generation,
+                at,
+            } => {
+                out.push(2);
+                out.extend(shard.to_be_bytes());
+                out.extend(generation.to_be_bytes());
+                out.extend(at.to_be_bytes());
+            }
+            Request::Hand(hand) => hand.write(out),
+            Request::Command {
+                is_passed_on,
+                words,
+            } => {
+                out.push(4);
+                out.push(u8::from(*is_passed_on));
+                out.extend(*words);
+            }
+            Request::Routes => out.push(5),
+        });
+    }
+
+    pub(crate) fn read(bytes: &'a [u8]) -> Result<Request<'a>, WireFault> {
+        let mut fields = Fields::new(bytes);
+        Ok(match fields.byte()? {
+            1 => Request::Call(CallFrame {
+                shard: fields.short()?,
+                from: fields.short()?,
+                hops: fields.byte()?,
+                revision: fields.long()?,
+                budget: fields.word()?,
+                request: fields.rest(),
+            }),
+            2 => Request::Copy {
+                shard: fields.short()?,
+                generation: fields.long()?,
+                at: fields.long()?,
+            },
+            3 => Request::Hand(HandFrame {
+                shard: fields.short()?,
+                hand: HandOver {
+                    server: fields.short()?,
+                    joined: fields.long()?,
+                    generation: fields.long()?,
+                },
+                is_changes: fields.byte()? != 0,
+                at: fields.long()?,
+                total: fields.long()?,
+                bytes: fields.rest(),
+            }),
+            4 => Request::Command {
+                is_passed_on: fields.byte()? != 0,
+                words: fields.rest(),
+            },
+            5 => Request::Routes,
+            kind => return Err(WireFault::Kind(kind)),
+        })
+    }
+}
+
+impl<'a> Response<'a> {
+    pub(crate) fn write(&self, out: &mut Vec<u8>) {
+        framed(out, |out| match self {
+            Response::Answered {
+                server,
+                hops,
+                fence,
+                answer,
+            } => {
+                out.push(1);
+                out.extend(server.to_be_bytes());
+                out.push(*hops);
+                out.extend(fence.to_be_bytes());
+                out.extend(*answer);
+            }
+            Response::Again(why) => {
+                out.push(2);
+                out.extend(why.as_bytes());
+            }
+            Response::Unsure(why) => {
+                out.push(3);
+                out.extend(why.as_bytes());
+            }
+            Response::Piece { total, bytes } => {
+                out.push(4);
+                out.extend(total.to_be_bytes());
+                out.extend(*bytes);
+            }
+            Response::Taken => out.push(5),
+            Response::Text(bytes) => {
+                out.push(6);
+                out.extend(*bytes);
+            }
+        });
+    }
+
+    pub(crate) fn read(bytes: &'a [u8]) -> Result<Response<'a>, WireFault> {
+        let mut fields = Fields::new(bytes);
+        Ok(match fields.byte()? {
+            1 => Response::Answered {
+                server: fields.short()?,
+                hops: fields.byte()?,
+                fence: fields.long()?,
+                answer: fields.rest(),
+            },
+            2 => Response::Again(text(fields.rest())?),
+            3 => Response::Unsure(text(fields.rest())?),
+            4 => Response::Piece {
+                total: fields.long()?,
+                bytes: fields.rest(),
+            },
+            5 => Response::Taken,
+            6 => Response::Text(fields.rest()),
+            kind => return Err(WireFault::Answer(kind)),
+        })
+    }
+}
+
+fn text(bytes: &[u8]) -> Result<&str, WireFault> {
+    std::str::from_utf8(bytes).map_err(|_| WireFault::Text)
+}
+
+/// Writes a frame whose fields this writes.
+fn framed(out: &mut Vec<u8>, write: impl FnOnce(&mut Vec<u8>)) {
+    let begin = out.len();
+    out.extend([0; 4]);
+    write(out);
+    // What is longer than a frame may be is refused before it is written.
+    let length = (out.len() - begin - 4) as u32;
+    out[begin..begin + 4].copy_from_slice(&length.to_be_bytes());
+}
+
+/// Writes the words of a command.
+pub(crate) fn spelled<'a>(words: impl IntoIterator<Item = &'a [u8]>) -> Vec<u8> {
+    let mut out = Vec::new();
+    for word in words {
+        out.extend((word.len() as u32).to_be_bytes());
+        out.extend(word);
+    }
+    out
+}
+
+/// Reads the words of a command.
+pub(crate) fn words(bytes: &[u8]) -> Result<Vec<&[u8]>, WireFault> {
+    let (mut fields, mut words, mut left) = (Fields::new(bytes), Vec::new(), bytes.len());
+    while left > 0 {
+        let word = fields.bytes(left)?;
+        left -= 4 + word.len();
+        words.push(word);
+        if words.len() > WORDS as usize {
+            return Err(WireFault::Words);
+        }
+    }
+    Ok(words)
+}
+
+/// Reads a frame into the room. One that is longer than [`LONGEST`] is refused before there is room for it.
+pub(crate) fn receive(from: &mut impl Read, room: &mut Vec<u8>) -> io::Result<()> {
+    let mut length = [0; 4];
+    from.read_exact(&mut length)?;
+    let length = u32::from_be_bytes(length) as usize;
+    if length > LONGEST {
+        return Err(io::Error::new(
+            io::ErrorKind::InvalidData,
+            WireFault::TooLong,
+        ));
+    }
+    room.clear();
+    room.resize(length, 0);
+    from.read_exact(room)
+}
+
+#[cfg(test)]
+mod tests {
+    use super::*;
+
+    #[test]
+    fn requests_are_read_as_they_were_written() {
+        let hand = HandOver {
+            joined: 7,
+            generation: 9,
+            server: 2,
+        };
+        for request in [
+            Request::Call(CallFrame {
+                shard: 3,
+                from: 1,
+                hops: 2,
+                revision: 1 << 40,
+                budget: 500,
+                request: b"hit",
+            }),
+            Request::Copy {
+                shard: 3,
+                generation: 8,
+                at: 1 << 33,
+            },
+            Request::Hand(HandFrame {
+                shard: 3,
+                hand,
+                is_changes: true,
+                at: 4,
+                total: 7,
+                bytes: b"abc",
+            }),
+            Request::Command {
+                is_passed_on: true,
+                words: b"x",
+            },
+            Request::Routes,
+        ] {
+            let mut out = Vec::new();
+            request.write(&mut out);
+            let mut room = Vec::new();
+            receive(&mut &out[..], &mut room).unwrap();
+            assert_eq!(Request::read(&room), Ok(request));
+        }
+    }
+
+    #[test]
+    fn responses_are_read_as_they_were_written() {
+        for response in [
+            Response::Answered {
+                server: 2,
+                hops: 1,
+                fence: 77,
+                answer: b"7",
+            },
+            Response::Again("paused"),
+            Response::Unsure("late"),
+            Response::Piece {
+                total: 9,
+                bytes: b"piece",
+            },
+            Response::Taken,
+            Response::Text(b"lines"),
+        ] {
+            let mut out = Vec::new();
+            response.write(&mut out);
+            assert_eq!(Response::read(&out[4..]), Ok(response));
+        }
+    }
+
+    #[test]
+    fn frames_that_are_none_are_refused() {
+        let mut room = Vec::new();
+        let endless = receive(&mut &[0xff; 8][..], &mut room);
+        assert_eq!(endless.unwrap_err().kind(), io::ErrorKind::InvalidData);
+        assert_eq!(room.capacity(), 0);
+        assert_eq!(Request::read(&[9]), Err(WireFault::Kind(9)));
+        assert_eq!(Request::read(&[1, 0]), Err(WireFault::TooShort));
+        assert_eq!(Response::read(&[2, 0xff]), Err(WireFault::Text));
+        let command = spelled([&b"SM"[..], b"MIGRATE", b""]);
+        assert_eq!(words(&command), Ok(vec![&b"SM"[..], b"MIGRATE", b""]));
+        assert!(words(&command[..5]).is_err() && words(&[0, 0, 0, 9, 1]).is_err());
+    }
+}

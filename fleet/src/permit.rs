@@ -1,0 +1,95 @@
+use crate::fleet::FleetInner;
+use crate::{Call, Service, Shard};
+use durkenzo_store_sys::ShardView;
+use std::fmt;
+use std::ops::{Deref, DerefMut};
+use std::sync::MutexGuard;
+
+/// The right to execute a call of a shard, and the shard's body. No other call uses the body meanwhile.
+pub struct Permit<'a, S: Service> {
+    pub(crate) fleet: &'a FleetInner<S>,
+    pub(crate) body: BodyGuard<'a, S::Body>,
+    /// What this process knew as the call began. It lets go of nothing while the body is in use.
+    pub(crate) view: ShardView,
+    pub(crate) from: u16,
+    pub(crate) shard: Shard,
+}
+
+/// A body that is there, in use.
+pub(crate) struct BodyGuard<'a, B>(MutexGuard<'a, Option<B>>);
+
+impl<'a, B> BodyGuard<'a, B> {
+    /// Returns the guard, if there is a body.
+    pub(crate) fn new(guard: MutexGuard<'a, Option<B>>) -> Option<BodyGuard<'a, B>> {
+        guard.is_some().then_some(BodyGuard(guard))
+    }
+}
+
+impl<B> Deref for BodyGuard<'_, B> {
+    type Target = B;
+
+    fn deref(&self) -> &B {
+        self.0
+            .as_ref()
+            .expect("a guard is made only if there is a body")
+    }
+}
+
+impl<B> DerefMut for BodyGuard<'_, B> {
+    fn deref_mut(&mut self) -> &mut B {
+        self.0
+            .as_mut()
+            .expect("a guard is made only if there is a body")
+    }
+}
+
+impl<S: Service> Permit<'_, S> {
+    /// Returns the shard, with its fencing token.
+    pub fn shard(&self) -> Shard {
+        self.shard
+    }
+
+    /// Returns the fencing token, as [`Shard::fence`] has it.
+    pub fn fence(&self) -> u64 {
+        self.shard.fence()
+    }
+
+    /// Returns the body.
+    pub fn body(&mut self) -> &mut S::Body {
+        &mut self.body
+    }
+
+    /// Has the service answer the request.
+    pub fn answer(&mut self, request: &[u8]) -> Vec<u8> {
+        let call = Call::new(self.shard, request);
+        self.fleet.service.answer(&mut self.body, call)
+    }
+
+    /// Looks again whether this process may still execute. If it may not, as its lease may have ended, another process
+    /// may have the shard by now: tell the caller that the call may have been made, and nothing else.
+    pub fn holds(&self) -> bool {
+        self.fleet.still_holds(self)
+    }
+}
+
+impl<S: Service> Deref for Permit<'_, S> {
+    type Target = S::Body;
+
+    fn deref(&self) -> &S::Body {
+        &self.body
+    }
+}
+
+impl<S: Service> DerefMut for Permit<'_, S> {
+    fn deref_mut(&mut self) -> &mut S::Body {
+        &mut self.body
+    }
+}
+
+impl<S: Service> fmt::Debug for Permit<'_, S> {
+    fn fmt(&self, f: &mut fmt::Formatter<'_>) -> fmt::Result {
+        f.debug_struct("Permit")
+            .field("shard", &self.shard)
+            .finish_non_exhaustive()
+    }
+}

@@ -1,0 +1,140 @@
+use crate::arriving::Arriving;
+use crate::queue::Queue;
+use durkenzo::{word, Record};
+use durkenzo_driver::ShardReading;
+use durkenzo_store::Revision;
+use durkenzo_store_sys::{Code, HandOver, ShardView};
+use std::sync::{Arc, Mutex, MutexGuard, PoisonError};
+
+/// A shard in this process: what is known of it, its body, and who waits for it.
+///
+/// Whoever locks both locks the body first. A call holds the body while it is executed, and what is known only for a
+/// look. So what was read is taken at once, and to let go waits for the call that is under way.
+pub(crate) struct Place<B> {
+    known: Mutex<Known>,
+    body: Mutex<Option<B>>,
+    pub(crate) queue: Queue,
+}
+
+/// What this process knows of a shard.
+pub(crate) struct Known {
+    /// By this it is judged who executes.
+    pub(crate) view: ShardView,
+    /// The word of the record that was read last, and the revision at which that was written.
+    pub(crate) word: u64,
+    pub(crate) stood: u64,
+    /// What had been seen when it was read.
+    pub(crate) basis: Option<Basis>,
+    /// What was handed over to this process.
+    pub(crate) hand: Option<HandOver>,
+    /// The generation by which the next owner has what this process handed over.
+    pub(crate) handed: u64,
+    /// The greatest generation up to which this process has let go, under whatever lease.
+    pub(crate) let_go: u64,
+    /// What is copied to the next owner.
+    pub(crate) copy: Option<FirstCopy>,
+    /// What comes from the owner.
+    pub(crate) arriving: Arriving,
+    /// Whether a thread does what the record asks for.
+    pub(crate) settles: bool,
+    /// The word by which that was done, and whether the owner before had let go.
+    pub(crate) settled: Option<(u64, bool)>,
+}
+
+/// What is seen of a shard without a reading. If it changes, the shard is read again.
+#[derive(Clone, Copy, Debug, PartialEq, Eq)]
+pub(crate) struct Basis {
+    pub(crate) stood: Revision,
+    pub(crate) joined: Revision,
+    pub(crate) is_away: bool,
+    pub(crate) owner_joined: Option<Revision>,
+    pub(crate) owner_is_away: bool,
+}
+
+/// A first copy of a body.
+pub(crate) struct FirstCopy {
+    /// The generation of the record by which it is made.
+    pub(crate) generation: u64,
+    pub(crate) bytes: Arc<Vec<u8>>,
+    /// Whether the next owner has all of it.
+    pub(crate) is_whole: bool,
+}
+
+impl<B> Place<B> {
+    pub(crate) fn new(view: ShardView) -> Place<B> {
+        let known = Known {
+            view,
+            word: 0,
+            stood: 0,
+            basis: None,
+            hand: None,
+            handed: 0,
+            let_go: 0,
+            copy: None,
+            arriving: Arriving::default(),
+            settles: false,
+            settled: None,
+        };
+        Place {
+            known: Mutex::new(known),
+            body: Mutex::new(None),
+            queue: Queue::default(),
+        }
+    }
+
+    pub(crate) fn known(&self) -> MutexGuard<'_, Known> {
+        self.known.lock().unwrap_or_else(PoisonError::into_inner)
+    }
+
+    /// Locks the body, once the call that is under way is over.
+    pub(crate) fn body(&self) -> MutexGuard<'_, Option<B>> {
+        self.body.lock().unwrap_or_else(PoisonError::into_inner)
+    }
+}
+
+impl Known {
+    /// Returns the record that was read last.
+    pub(crate) fn record(&self) -> Record {
+        // A word is kept only if a record has it.
+        word::record(self.word)
+            .unwrap_or_else(|| word::record(0).expect("the word of a vacant shard"))
+    }
+
+    /// Returns whether the process may execute a call that came so, at this time.
+    pub(crate) fn may_execute(&self, from: u16, time: u64) -> bool {
+        self.view.may_execute(from, time).unwrap_or(false)
+    }
+
+    /// Takes what was read. What was handed over, and what was let go, is told again to the view.
+    pub(crate) fn take(&mut self, reading: &ShardReading, basis: Basis) -> Result<(), Code> {
+        let word = reading.stored.bytes().get(1..9);
+        let word = word
+            .and_then(|it| it.try_into().ok())
+            .map_or(0, u64::from_be_bytes);
+        let read = durkenzo_store_sys::ShardReading {
+            revision: reading.revision.0,
+            word,
+            owner_joined: reading.owner_joined.0,
+            failed: reading.failed,
+            owner_failed: reading.owner_failed,
+        };
+        let mut view = self.view.read(&read)?;
+        (self.word, self.stood) = (word, reading.stored.revision().0);
+        if let Some(hand) = &self.hand {
+            // It counts only by the record of its generation, and only if it is of the process that was read.
+            view = view.handed(hand)?;
+        }
+        if self.let_go >= self.record().generation {
+            view = view.let_go()?;
+        }
+        (self.view, self.basis) = (view, Some(basis));
+        Ok(())
+    }
+
+    /// Lets go of the record.
+    pub(crate) fn let_go(&mut self) -> Result<(), Code> {
+        self.view = self.view.let_go()?;
+        self.let_go = self.let_go.max(self.record().generation);
+        Ok(())
+    }
+}

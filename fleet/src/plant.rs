@@ -1,0 +1,12 @@
+/// A wrong rule that a test plants, to see that the trial finds it.
+#[derive(Clone, Copy, Debug, PartialEq, Eq)]
+pub(crate) enum Plant {
+    /// The next owner begins anew rather than wait for the body.
+    NextBeginsAnew,
+    /// The owner executes once it has handed over.
+    OwnerExecutesOn,
+    /// A process goes by its records without a lease.
+    NoLease,
+    /// The owner acks before the next owner has the body.
+    EarlyAck,
+}

@@ -1,0 +1,308 @@
+use crate::connections::{Connections, NotAnswered};
+use crate::frame::{spelled, CallFrame, Request, Response, MOST};
+use crate::{commands, CallError, JoinError, Retry, Sharding};
+use durkenzo_control::links::checksum;
+use durkenzo_driver::{keys, RouteMap};
+use durkenzo_store::Store;
+use std::collections::BTreeMap;
+use std::fmt;
+use std::io;
+use std::sync::{Mutex, MutexGuard, PoisonError};
+use std::time::{Duration, Instant};
+
+/// How long a call waits until it is sent again.
+const PAUSE: Duration = Duration::from_millis(5);
+/// How long servers aren't asked for their map again.
+const AGAIN: Duration = Duration::from_millis(20);
+/// How long a server may take to tell its map.
+const MAP: Duration = Duration::from_secs(5);
+
+/// A client of a fleet, for any threads. Its map never goes back, and an old map costs a call one hop.
+pub struct Router {
+    sharding: Sharding,
+    connections: Connections,
+    source: Source,
+}
+
+/// Where the map comes from.
+enum Source {
+    /// A watch of the store.
+    Store(RouteMap),
+    /// Servers, which are asked again if a call isn't made.
+    Servers(Mutex<Told>),
+}
+
+/// What servers have told.
+struct Told {
+    /// Where servers are that can be asked.
+    addresses: Vec<String>,
+    /// The revision of each shard's record, and where its owner is.
+    routes: BTreeMap<u16, (u64, String)>,
+    /// When they were asked last.
+    asked: Option<Instant>,
+}
+
+/// What a service answered.
+#[derive(Clone, Debug, PartialEq, Eq)]
+pub struct Answer {
+    /// The bytes of [`Service::answer`](crate::Service::answer).
+    pub bytes: Vec<u8>,
+    /// The server that executed the call.
+    pub server: u16,
+    /// The fencing token by which it did.
+    pub fence: u64,
+    /// How often the call was forwarded.
+    pub hops: u8,
+}
+
+impl Router {
+    /// Watches the map of the fleet in this store.
+    ///
+    /// # Errors
+    ///
+    /// The store has no fleet, or isn't read.
+    pub fn watch(store: &dyn Store) -> Result<Router, JoinError> {
+        let found = store.read(&[keys::SETTINGS])?;
+        let settings = found.get(keys::SETTINGS).map_or(&[][..], |it| &it.value);
+        let settings = String::from_utf8_lossy(settings);
+        let map = RouteMap::watch(store)?;
+        Router::new(&settings, Source::Store(map))
+    }
+
+    /// Asks any server of the fleet for the map, as `127.0.0.1:7380` or `http://127.0.0.1:7380`.
+    ///
+    /// # Errors
+    ///
+    /// The server isn't reached.
+    pub fn of(url: &str) -> Result<Router, JoinError> {
+        let address = url
+            .strip_prefix("http://")
+            .unwrap_or(url)
+            .trim_end_matches('/');
+        let text = map_of(&Connections::new(0), address);
+        let text =
+            text.map_err(|error| JoinError::Address(address.to_owned(), io::Error::other(error)))?;
+        let mut told = Told {
+            addresses: vec![address.to_owned()],
+            routes: BTreeMap::new(),
+            asked: None,
+        };
+        told.note(&text);
+        let end = text
+            .match_indices('\n')
+            .nth(1)
+            .map_or(text.len(), |it| it.0);
+        Router::new(&text[..end], Source::Servers(Mutex::new(told)))
+    }
+
+    fn new(settings: &str, source: Source) -> Result<Router, JoinError> {
+        let sharding = Sharding::written(settings)
+            .ok_or_else(|| JoinError::Options("there is no fleet".to_owned()))?;
+        Ok(Router {
+            sharding: sharding?,
+            connections: Connections::new(checksum(settings.as_bytes())),
+            source,
+        })
+    }
+
+    /// Returns how keys go to shards.
+    pub fn sharding(&self) -> &Sharding {
+        &self.sharding
+    }
+
+    /// Has the service answer the request, at the shard of the key.
+    ///
+    /// # Errors
+    ///
+    /// [`CallError::NotMade`] if nothing is done of it, in the time that `retry` gives. [`CallError::Unsure`] if it may
+    /// have been made, or may be made still: such a call is never sent again.
+    pub fn call(&self, key: &[u8], request: &[u8], retry: Retry) -> Result<Answer, CallError> {
+        if request.len() > MOST {
+            return Err(CallError::NotMade(format!(
+                "a request has at most {MOST} bytes"
+            )));
+        }
+        let (shard, end) = (self.sharding.shard_of(key), Instant::now() + retry.budget());
+        loop {
+            let why = match self.call_once(shard, request, end) {
+                Ok(answer) => {
+                    // A call that was forwarded went by an old map.
+                    if answer.hops > 0 {
+                        self.refresh();
+                    }
+                    return Ok(answer);
+                }
+                Err(unsure @ CallError::Unsure(_)) => return Err(unsure),
+                Err(CallError::NotMade(why)) => why,
+            };
+            let left = end.saturating_duration_since(Instant::now());
+            if left.is_zero() || matches!(retry, Retry::Once(_)) {
+                return Err(CallError::NotMade(why));
+            }
+            std::thread::sleep(PAUSE.min(left));
+            self.refresh();
+        }
+    }
+
+    fn call_once(&self, shard: u16, request: &[u8], end: Instant) -> Result<Answer, CallError> {
+        let not_made = |why: &str| CallError::NotMade(why.to_owned());
+        let Some((address, revision)) = self.route(shard) else {
+            return Err(not_made("the shard has no owner that is there"));
+        };
+        let left = end.saturating_duration_since(Instant::now());
+        let budget = u32::try_from(left.as_millis()).unwrap_or(u32::MAX);
+        if budget == 0 {
+            return Err(not_made("its time is over"));
+        }
+        let call = CallFrame {
+            shard,
+            from: 0,
+            hops: 0,
+            revision,
+            budget,
+            request,
+        };
+        let bytes = match self.connections.ask(&address, &Request::Call(call), left) {
+            Ok(bytes) => bytes,
+            Err(error @ NotAnswered::Unreached(..)) => {
+                return Err(CallError::NotMade(error.to_string()))
+            }
+            Err(error @ NotAnswered::Lost(..)) => return Err(CallError::Unsure(error.to_string())),
+        };
+        answer_of(&bytes)
+    }
+
+    /// Gives the control of the fleet a command, as `["MIGRATE", "3", "2"]`, by way of the owner of the first shard, and
+    /// waits so long for its answer, in lines.
+    ///
+    /// # Errors
+    ///
+    /// What the control refuses, or why it isn't reached.
+    pub fn command(&self, words: &[&str], within: Duration) -> Result<Vec<String>, String> {
+        let routes = (0..self.sharding.shards()).filter_map(|it| self.route(it));
+        let (address, _) = routes.take(1).next().ok_or("no server is there")?;
+        let words = spelled(
+            std::iter::once("SM")
+                .chain(words.iter().copied())
+                .map(str::as_bytes),
+        );
+        let request = Request::Command {
+            is_passed_on: false,
+            words: &words,
+        };
+        let bytes = self
+            .connections
+            .ask(&address, &request, within)
+            .map_err(|it| it.to_string())?;
+        match Response::read(&bytes) {
+            Ok(Response::Text(answer)) => commands::lines(answer),
+            Ok(Response::Again(why) | Response::Unsure(why)) => Err(why.to_owned()),
+            Ok(_) => Err("the server answers something else".to_owned()),
+            Err(error) => Err(error.to_string()),
+        }
+    }
+
+    /// Returns where the shard's owner is, and the revision of the record that says so.
+    fn route(&self, shard: u16) -> Option<(String, u64)> {
+        match &self.source {
+            Source::Store(map) => {
+                let route = map.route(shard)?;
+                Some((route.addresses.clients, route.revision.0))
+            }
+            Source::Servers(told) => {
+                let told = locked(told);
+                let (revision, address) = told.routes.get(&shard)?;
+                Some((address.clone(), *revision))
+            }
+        }
+    }
+
+    /// Asks servers for the map again, if none tells of its changes.
+    fn refresh(&self) {
+        let Source::Servers(told) = &self.source else {
+            return;
+        };
+        let addresses = {
+            let mut told = locked(told);
+            if told.asked.is_some_and(|it| it.elapsed() < AGAIN) {
+                return;
+            }
+            told.asked = Some(Instant::now());
+            told.addresses.clone()
+        };
+        let answered = addresses
+            .iter()
+            .find_map(|it| map_of(&self.connections, it).ok());
+        if let Some(text) = answered {
+            locked(told).note(&text);
+        }
+    }
+}
+
+/// What a server has answered to a call.
+fn answer_of(bytes: &[u8]) -> Result<Answer, CallError> {
+    match Response::read(bytes) {
+        Ok(Response::Answered {
+            server,
+            hops,
+            fence,
+            answer,
+        }) => Ok(Answer {
+            bytes: answer.to_vec(),
+            server,
+            fence,
+            hops,
+        }),
+        Ok(Response::Again(why)) => Err(CallError::NotMade(why.to_owned())),
+        Ok(Response::Unsure(why)) => Err(CallError::Unsure(why.to_owned())),
+        Ok(Response::Piece { .. } | Response::Taken | Response::Text(_)) => {
+            let why = "the server answers something else";
+            Err(CallError::Unsure(why.to_owned()))
+        }
+        Err(error) => Err(CallError::Unsure(error.to_string())),
+    }
+}
+
+/// The map that the server there tells.
+fn map_of(connections: &Connections, address: &str) -> Result<String, String> {
+    let bytes = connections
+        .ask(address, &Request::Routes, MAP)
+        .map_err(|it| it.to_string())?;
+    match Response::read(&bytes) {
+        Ok(Response::Text(text)) => Ok(String::from_utf8_lossy(text).into_owned()),
+        _ => Err("the server answers something else".to_owned()),
+    }
+}
+
+impl Told {
+    /// Notes later routes. A route never goes back.
+    fn note(&mut self, text: &str) {
+        for line in text.lines().skip(2) {
+            let parts: Vec<&str> = line.split(' ').collect();
+            let [shard, revision, _, address] = parts[..] else {
+                continue;
+            };
+            let (Ok(shard), Ok(revision)) = (shard.parse(), revision.parse()) else {
+                continue;
+            };
+            if self.routes.get(&shard).is_none_or(|it| it.0 <= revision) {
+                self.routes.insert(shard, (revision, address.to_owned()));
+            }
+            if !self.addresses.iter().any(|it| it == address) {
+                self.addresses.push(address.to_owned());
+            }
+        }
+    }
+}
+
+impl fmt::Debug for Router {
+    fn fmt(&self, f: &mut fmt::Formatter<'_>) -> fmt::Result {
+        f.debug_struct("Router")
+            .field("sharding", &self.sharding)
+            .finish_non_exhaustive()
+    }
+}
+
+fn locked(told: &Mutex<Told>) -> MutexGuard<'_, Told> {
+    told.lock().unwrap_or_else(PoisonError::into_inner)
+}

@@ -1,0 +1,94 @@
+use crate::Shard;
+use std::error::Error;
+
+/// Why a shard isn't added: it is tried again.
+pub type Fault = Box<dyn Error + Send + Sync>;
+
+/// What a user writes. Each process of a fleet has one value of it, which all threads share.
+pub trait Service: Send + Sync + 'static {
+    /// What the service keeps of a shard. One call at a time uses it.
+    type Body: Send + 'static;
+
+    /// Returns what is kept of a shard that comes to this process.
+    ///
+    /// # Errors
+    ///
+    /// The shard's calls wait, and this is called again a little later.
+    fn add(&self, shard: Shard, came: Came<'_>) -> Result<Self::Body, Fault>;
+
+    /// Answers a call.
+    fn answer(&self, body: &mut Self::Body, call: Call<'_>) -> Vec<u8>;
+
+    /// Returns all that the next owner needs. No call is answered by this body from here on, unless the next owner fails
+    /// before it is the owner: then calls go on by the body as it is.
+    fn hand_over(&self, body: &mut Self::Body) -> Vec<u8>;
+
+    /// Prepares for a shard that will come from that server. Its owner answers calls meanwhile.
+    fn prepare_add(&self, _shard: Shard, _from: Option<u16>) {}
+
+    /// Drops what was kept of a shard that is another server's now.
+    fn dropped(&self, _shard: Shard, body: Self::Body) {
+        drop(body);
+    }
+
+    /// Returns how the service copies a body while it changes, if it can. A body that is large then moves without a
+    /// stop.
+    fn changes(&self) -> Option<&dyn Changes<Self::Body>> {
+        None
+    }
+}
+
+/// A service that can tell what has changed of a body since a first copy of it.
+pub trait Changes<B> {
+    /// Returns a first copy of the body, and begins to note what changes from here on. An earlier copy is forgotten.
+    fn first_copy(&self, body: &mut B) -> Vec<u8>;
+
+    /// Returns what has changed since the first copy. The rule of [`Service::hand_over`] holds from here on.
+    fn changed(&self, body: &mut B) -> Vec<u8>;
+}
+
+/// How a shard comes to a process.
+#[derive(Clone, Copy, Debug, PartialEq, Eq)]
+pub enum Came<'a> {
+    /// Nobody had it before.
+    New,
+    /// The previous owner handed this over by [`Service::hand_over`].
+    Handed(&'a [u8]),
+    /// The previous owner made a first copy, and then told what had changed since, as [`Changes`] says.
+    Changed {
+        /// The first copy.
+        first: &'a [u8],
+        /// What has changed since.
+        since: &'a [u8],
+    },
+    /// The previous owner has failed, and what it kept in memory is lost. A service with a database reads it there.
+    Lost,
+}
+
+/// A call of a client.
+#[derive(Clone, Copy, Debug)]
+pub struct Call<'a> {
+    shard: Shard,
+    request: &'a [u8],
+}
+
+impl<'a> Call<'a> {
+    pub(crate) fn new(shard: Shard, request: &'a [u8]) -> Call<'a> {
+        Call { shard, request }
+    }
+
+    /// Returns the shard of the call's key.
+    pub fn shard(&self) -> Shard {
+        self.shard
+    }
+
+    /// Returns the fencing token, as [`Shard::fence`] has it.
+    pub fn fence(&self) -> u64 {
+        self.shard.fence()
+    }
+
+    /// Returns what the client asks.
+    pub fn request(&self) -> &'a [u8] {
+        self.request
+    }
+}

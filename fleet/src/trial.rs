@@ -1,0 +1,582 @@
+//! Several processes of a service that counts, in one process of a test. Its clients know which count comes next, so a
+//! count that is lost or made twice is found, and so is each wrong rule that is planted.
+use crate::connections::Connections;
+use crate::frame::{HandFrame, Request, Response};
+use crate::plant::Plant;
+use crate::{
+    Call, CallError, Came, Changes, Enter, Fault, Fleet, Mode, Options, Refused, Retry, Router,
+    Service, Shard,
+};
+use durkenzo_control::links::checksum;
+use durkenzo_store::{
+    CompactError, Done, Embedded, LeaseError, LeaseId, ReadError, Reading, Seen, Store,
+    Transaction, Watch, Watcher, WriteError,
+};
+use durkenzo_store_sys::HandOver;
+use std::collections::{HashMap, HashSet};
+use std::sync::atomic::{AtomicBool, Ordering};
+use std::sync::{Arc, Mutex};
+use std::thread::{self, JoinHandle};
+use std::time::{Duration, Instant};
+
+const SERVERS: u16 = 3;
+const SHARDS: u16 = 6;
+const CLIENTS: usize = 6;
+/// How long a client waits for an answer.
+const PATIENCE: Duration = Duration::from_secs(20);
+/// How long the test waits for what comes.
+const SOON: Duration = Duration::from_secs(30);
+
+/// Counts by key.
+#[derive(Default)]
+struct Counts {
+    counts: HashMap<Vec<u8>, u64>,
+    /// The keys that were counted since the first copy.
+    changed: Option<HashSet<Vec<u8>>>,
+}
+
+struct Counter {
+    keeps_changes: bool,
+    /// How a body came, each time.
+    came: Arc<Mutex<Vec<&'static str>>>,
+}
+
+impl Counts {
+    fn read(&mut self, mut bytes: &[u8]) -> Option<()> {
+        while let Some((length, rest)) = bytes.split_first() {
+            let (key, rest) = rest.split_at_checked(usize::from(*length))?;
+            let (count, rest) = rest.split_first_chunk()?;
+            self.counts.insert(key.to_vec(), u64::from_be_bytes(*count));
+            bytes = rest;
+        }
+        Some(())
+    }
+
+    fn write<'a>(&self, keys: impl Iterator<Item = &'a Vec<u8>>) -> Vec<u8> {
+        let mut out = Vec::new();
+        for key in keys {
+            out.push(key.len() as u8);
+            out.extend(key);
+            out.extend(self.counts[key].to_be_bytes());
+        }
+        out
+    }
+}
+
+impl Service for Counter {
+    type Body = Counts;
+
+    fn add(&self, _: Shard, came: Came<'_>) -> Result<Counts, Fault> {
+        let mut counts = Counts::default();
+        let (name, parts) = match came {
+            Came::New => ("new", vec![]),
+            Came::Lost => ("lost", vec![]),
+            Came::Handed(bytes) => ("handed", vec![bytes]),
+            Came::Changed { first, since } => ("changed", vec![first, since]),
+        };
+        self.came.lock().unwrap().push(name);
+        for part in parts {
+            counts.read(part).ok_or("it ends too early")?;
+        }
+        Ok(counts)
+    }
+
+    fn answer(&self, body: &mut Counts, call: Call<'_>) -> Vec<u8> {
+        let key = call.request().to_vec();
+        if let Some(changed) = &mut body.changed {
+            changed.insert(key.clone());
+        }
+        let count = body.counts.entry(key).or_default();
+        *count += 1;
+        count.to_be_bytes().to_vec()
+    }
+
+    fn hand_over(&self, body: &mut Counts) -> Vec<u8> {
+        body.write(body.counts.keys())
+    }
+
+    fn changes(&self) -> Option<&dyn Changes<Counts>> {
+        self.keeps_changes.then_some(self as _)
+    }
+}
+
+impl Changes<Counts> for Counter {
+    fn first_copy(&self, body: &mut Counts) -> Vec<u8> {
+        body.changed = Some(HashSet::new());
+        body.write(body.counts.keys())
+    }
+
+    fn changed(&self, body: &mut Counts) -> Vec<u8> {
+        let changed = body.changed.take().unwrap_or_default();
+        body.write(changed.iter())
+    }
+}
+
+/// A store that a process can be cut from. What it would have seen it sees once it isn't cut any more.
+struct Cuttable {
+    store: Arc<dyn Store>,
+    cut: Arc<Cut>,
+}
+
+#[derive(Default)]
+struct Cut {
+    is_cut: AtomicBool,
+    held: Mutex<Vec<Box<dyn FnOnce() + Send>>>,
+}
+
+impl Cut {
+    fn set(&self, is_cut: bool) {
+        let mut held = self.held.lock().unwrap();
+        self.is_cut.store(is_cut, Ordering::SeqCst);
+        if !is_cut {
+            held.drain(..).for_each(|it| it());
+        }
+    }
+
+    fn is_cut(&self) -> bool {
+        self.is_cut.load(Ordering::SeqCst)
+    }
+}
+
+impl Store for Cuttable {
+    fn submit(&self, transaction: Transaction, done: Done) {
+        match self.cut.is_cut() {
+            true => {
+                thread::spawn(|| done(Err(WriteError::Unreachable("cut".to_owned()))));
+            }
+            false => self.store.submit(transaction, done),
+        }
+    }
+
+    fn read(&self, keys: &[&[u8]]) -> Result<Reading, ReadError> {
+        match self.cut.is_cut() {
+            true => Err(ReadError::Unavailable("cut".to_owned())),
+            false => self.store.read(keys),
+        }
+    }
+
+    fn read_all(&self, prefix: &[u8]) -> Result<Reading, ReadError> {
+        self.store.read_all(prefix)
+    }
+
+    fn read_range(&self, from: &[u8], end: &[u8], most: usize) -> Result<Reading, ReadError> {
+        self.store.read_range(from, end, most)
+    }
+
+    fn watch(&self, prefix: &[u8], watcher: Watcher) -> Result<Watch, ReadError> {
+        let (cut, watcher) = (self.cut.clone(), Arc::new(Mutex::new(watcher)));
+        let tell = move |seen: Seen| {
+            let mut held = cut.held.lock().unwrap();
+            let watcher = watcher.clone();
+            match cut.is_cut() {
+                true => held.push(Box::new(move || (watcher.lock().unwrap())(seen))),
+                false => {
+                    drop(held);
+                    (watcher.lock().unwrap())(seen);
+                }
+            }
+        };
+        self.store.watch(prefix, Box::new(tell))
+    }
+
+    fn grant(&self, length: Duration) -> Result<LeaseId, LeaseError> {
+        match self.cut.is_cut() {
+            true => Err(LeaseError::Unavailable("cut".to_owned())),
+            false => self.store.grant(length),
+        }
+    }
+
+    fn keep(&self, lease: LeaseId) -> Result<(), LeaseError> {
+        match self.cut.is_cut() {
+            true => Err(LeaseError::Unavailable("cut".to_owned())),
+            false => self.store.keep(lease),
+        }
+    }
+
+    fn revoke(&self, lease: LeaseId) -> Result<(), LeaseError> {
+        self.store.revoke(lease)
+    }
+
+    fn compact(&self) -> Result<(), CompactError> {
+        self.store.compact()
+    }
+}
+
+/// What clients saw.
+#[derive(Debug, Default)]
+struct Tally {
+    answered: u64,
+    forwarded: u64,
+    unsure: u64,
+    not_made: Vec<String>,
+    /// Counts that began anew, and counts that were neither that nor the next one.
+    lost: u64,
+    wrong: u64,
+}
+
+impl Tally {
+    fn add(&mut self, other: Tally) {
+        self.answered += other.answered;
+        self.forwarded += other.forwarded;
+        self.unsure += other.unsure;
+        self.not_made.extend(other.not_made);
+        self.lost += other.lost;
+        self.wrong += other.wrong;
+    }
+
+    /// Whether each call was made once, and nothing was lost.
+    fn is_clean(&self) -> bool {
+        self.unsure == 0 && self.not_made.is_empty() && self.lost == 0 && self.wrong == 0
+    }
+}
+
+/// A fleet, and clients that call it all the time.
+struct Trial {
+    store: Arc<dyn Store>,
+    fleets: Vec<Fleet<Counter>>,
+    cuts: Vec<Arc<Cut>>,
+    came: Arc<Mutex<Vec<&'static str>>>,
+    stops: Arc<AtomicBool>,
+    clients: Vec<JoinHandle<Tally>>,
+}
+
+fn options(server: u16, lease: u64, plant: Option<Plant>) -> Options {
+    let words = ["fleet", "--margin", "100"];
+    let mut options = <Options as clap::Parser>::parse_from(words);
+    (options.name, options.servers, options.shards) = (server, SERVERS, SHARDS);
+    (options.lease, options.plant) = (lease, plant);
+    options
+}
+
+impl Trial {
+    /// Begins a fleet with leases of so many seconds, each process of which has this wrong rule planted.
+    fn new(lease: u64, keeps_changes: bool, plant: Option<Plant>) -> Trial {
+        let store: Arc<dyn Store> = Arc::new(Embedded::in_memory());
+        let came = Arc::<Mutex<Vec<_>>>::default();
+        let cuts: Vec<Arc<Cut>> = (0..SERVERS).map(|_| Arc::default()).collect();
+        let fleets = (1..=SERVERS).zip(&cuts).map(|(server, cut)| {
+            let seen = Arc::new(Cuttable {
+                store: store.clone(),
+                cut: cut.clone(),
+            });
+            let counter = Counter {
+                keeps_changes,
+                came: came.clone(),
+            };
+            Fleet::join_over(counter, options(server, lease, plant), seen).unwrap()
+        });
+        let fleets = fleets.collect();
+        let (stops, clients) = Default::default();
+        let trial = Trial {
+            store,
+            fleets,
+            cuts,
+            came,
+            stops,
+            clients,
+        };
+        trial.wait_until("all shards have owners", || {
+            (0..SHARDS).all(|it| trial.owner(it).is_some())
+        });
+        trial
+    }
+
+    fn wait_until(&self, what: &str, holds: impl Fn() -> bool) {
+        let end = Instant::now() + SOON;
+        while !holds() {
+            assert!(Instant::now() < end, "it never was that {what}");
+            thread::sleep(Duration::from_millis(5));
+        }
+    }
+
+    fn owner(&self, shard: u16) -> Option<u16> {
+        let record = self.fleets[0].inner.durable.standing(shard)?.record()?;
+        record.other().is_none().then(|| record.owner()).flatten()
+    }
+
+    /// Begins clients. Each calls by a map that is of the store, or of a server's process.
+    fn begin(&mut self) {
+        for number in 0..CLIENTS {
+            let seen = Cuttable {
+                store: self.store.clone(),
+                cut: self.cuts[number % 2].clone(),
+            };
+            let (router, stops) = (Router::watch(&*self.store).unwrap(), self.stops.clone());
+            let old = Router::watch(&seen).unwrap();
+            self.clients.push(thread::spawn(move || {
+                client(number, &[router, old], &stops)
+            }));
+        }
+    }
+
+    fn end(self) -> Tally {
+        self.stops.store(true, Ordering::SeqCst);
+        let mut all = Tally::default();
+        self.clients
+            .into_iter()
+            .for_each(|it| all.add(it.join().unwrap()));
+        self.fleets.iter().for_each(Fleet::leave);
+        all
+    }
+
+    /// Has the shard go to the server, step by step, each once the server that it waits for has acked.
+    fn migrate(&self, shard: u16, server: u16) {
+        let (member, durable) = (&self.fleets[0].inner.member, &self.fleets[0].inner.durable);
+        let owner = self.owner(shard).unwrap();
+        let generation = || {
+            durable
+                .standing(shard)
+                .unwrap()
+                .record()
+                .unwrap()
+                .generation
+        };
+        let before = generation();
+        let (named, to) = (shard.to_string(), server.to_string());
+        let steps = [
+            (&["PREPARE_ADD", &named, &to][..], Some(server)),
+            (&["PREPARE_DROP", &named], Some(owner)),
+            (&["ADD", &named], None),
+            (&["DROP", &named], None),
+        ];
+        for (step, (words, acks)) in (1..).zip(steps) {
+            self.command(words);
+            self.wait_until("the record is seen", || generation() >= before + step);
+            let has_acked = |by| member.acked(shard, by) >= Some(before + step);
+            self.wait_until("it is acked", || acks.is_none_or(has_acked));
+        }
+    }
+
+    /// Gives the control a command, again while a process hasn't read what it has to.
+    fn command(&self, words: &[&str]) {
+        loop {
+            match self.fleets[0].command(words) {
+                Err(refusal) if refusal.contains("NotNow") => {
+                    thread::sleep(Duration::from_millis(5))
+                }
+                told => return assert_eq!(told, Ok(vec![]), "{words:?}"),
+            }
+        }
+    }
+
+    /// Has each shard go from server to server for so long. Returns how many migrations there were.
+    fn migrate_for(&self, time: Duration) -> usize {
+        let (end, mut count) = (Instant::now() + time, 0);
+        while Instant::now() < end {
+            let shard = (count % usize::from(SHARDS)) as u16;
+            let owner = self.owner(shard).unwrap();
+            self.migrate(shard, owner % SERVERS + 1);
+            count += 1;
+        }
+        count
+    }
+}
+
+/// Calls in turn by these maps, with keys of its own.
+fn client(number: usize, routers: &[Router; 2], stops: &AtomicBool) -> Tally {
+    let (mut tally, mut last) = (Tally::default(), HashMap::<Vec<u8>, Option<u64>>::new());
+    for turn in 0.. {
+        if stops.load(Ordering::SeqCst) {
+            break;
+        }
+        let key = format!("{number}-{}", turn / 2 % 12).into_bytes();
+        match routers[turn % 2].call(&key, &key, Retry::Until(PATIENCE)) {
+            Ok(answer) => {
+                let count = u64::from_be_bytes(answer.bytes.try_into().unwrap());
+                let before = last.insert(key, Some(count)).unwrap_or(Some(0));
+                match before {
+                    // What is next isn't known after a call that may have been made.
+                    None => {}
+                    Some(before) if count == before + 1 => {}
+                    Some(_) if count == 1 => tally.lost += 1,
+                    Some(_) => tally.wrong += 1,
+                }
+                tally.answered += 1;
+                tally.forwarded += u64::from(answer.hops > 0);
+            }
+            Err(CallError::Unsure(_)) => {
+                tally.unsure += 1;
+                last.insert(key, None);
+            }
+            Err(CallError::NotMade(why)) => tally.not_made.push(why),
+        }
+        thread::sleep(Duration::from_micros(200));
+    }
+    tally
+}
+
+#[test]
+fn migrations_under_load_refuse_no_call_and_lose_nothing() {
+    let mut trial = Trial::new(30, false, None);
+    trial.begin();
+    let migrations = trial.migrate_for(Duration::from_secs(3));
+    let came = trial.came.clone();
+    let tally = trial.end();
+    println!("{migrations} migrations, {tally:?}");
+    assert!(
+        migrations >= 10 && tally.answered > 500,
+        "{migrations} {tally:?}"
+    );
+    assert!(tally.is_clean(), "{tally:?}");
+    assert!(!came.lock().unwrap().contains(&"lost"));
+}
+
+#[test]
+fn bodies_move_by_what_has_changed_since_a_first_copy() {
+    let mut trial = Trial::new(30, true, None);
+    trial.begin();
+    let migrations = trial.migrate_for(Duration::from_secs(2));
+    let came = trial.came.clone();
+    let tally = trial.end();
+    assert!(tally.is_clean(), "{tally:?}");
+    let changed = came
+        .lock()
+        .unwrap()
+        .iter()
+        .filter(|it| **it == "changed")
+        .count();
+    assert!(changed * 2 > migrations, "{changed} of {migrations}");
+}
+
+/// What clients see of migrations while this wrong rule is planted.
+fn planted(plant: Plant) -> Tally {
+    let mut trial = Trial::new(30, false, Some(plant));
+    trial.begin();
+    trial.migrate_for(Duration::from_secs(2));
+    trial.end()
+}
+
+#[test]
+fn a_next_owner_that_begins_before_it_has_the_body_is_found() {
+    let tally = planted(Plant::NextBeginsAnew);
+    assert!(tally.lost > 0, "{tally:?}");
+}
+
+#[test]
+fn an_owner_that_executes_while_it_forwards_is_found() {
+    let tally = planted(Plant::OwnerExecutesOn);
+    assert!(tally.wrong > 0, "{tally:?}");
+}
+
+#[test]
+fn an_ack_before_the_next_owner_has_the_body_is_found() {
+    let tally = planted(Plant::EarlyAck);
+    assert!(tally.lost > 0, "{tally:?}");
+}
+
+/// What clients see while a process is cut from the store for longer than its lease.
+fn cut(plant: Option<Plant>) -> Tally {
+    let mut trial = Trial::new(2, false, plant);
+    let server = 2;
+    let shard = (0..SHARDS)
+        .find(|it| trial.owner(*it) == Some(server))
+        .unwrap();
+    trial.begin();
+    thread::sleep(Duration::from_millis(300));
+    let cut = trial.cuts[usize::from(server) - 1].clone();
+    cut.set(true);
+    trial.wait_until("another server has the shard", || {
+        trial.owner(shard).is_some_and(|it| it != server)
+    });
+    thread::sleep(Duration::from_millis(500));
+    cut.set(false);
+    thread::sleep(Duration::from_millis(500));
+    trial.end()
+}
+
+#[test]
+fn a_process_that_is_cut_from_the_store_answers_no_more_than_its_lease_allows() {
+    let tally = cut(None);
+    assert!(
+        tally.wrong == 0 && tally.lost > 0 && tally.not_made.is_empty(),
+        "{tally:?}"
+    );
+}
+
+#[test]
+fn a_process_that_goes_on_without_a_lease_is_found() {
+    let tally = cut(Some(Plant::NoLease));
+    assert!(tally.wrong > 0, "{tally:?}");
+}
+
+/// A key of this shard.
+fn key_of(router: &Router, shard: u16) -> Vec<u8> {
+    let keys = (0_u32..).map(|it| it.to_string().into_bytes());
+    let mut of_shard = keys.filter(|it| router.sharding().shard_of(it) == shard);
+    of_shard.next().unwrap()
+}
+
+#[test]
+fn a_call_of_a_paused_shard_ends_with_its_budget_and_fences_rise() {
+    let trial = Trial::new(30, false, None);
+    let router = Router::watch(&*trial.store).unwrap();
+    let key = key_of(&router, 0);
+    let first = router.call(&key, &key, Retry::Until(PATIENCE)).unwrap();
+    trial.command(&["PAUSE", "0"]);
+    let began = Instant::now();
+    let late = router.call(&key, &key, Retry::Until(Duration::from_millis(300)));
+    assert!(matches!(late, Err(CallError::NotMade(_))), "{late:?}");
+    assert!(began.elapsed() >= Duration::from_millis(290));
+    trial.command(&["RESUME", "0"]);
+    let second = router.call(&key, &key, Retry::Until(PATIENCE)).unwrap();
+    assert_eq!(second.bytes, 2_u64.to_be_bytes());
+    assert!(first.fence < second.fence, "{first:?} {second:?}");
+    trial.end();
+}
+
+#[test]
+fn a_process_says_where_calls_go_and_gives_permits_of_its_own_shards() {
+    let trial = Trial::new(30, false, None);
+    let owner = trial.owner(0).unwrap();
+    for fleet in &trial.fleets {
+        let is_owner = fleet.server() == owner;
+        let decided = || match fleet.enter(0, Mode::Direct) {
+            Enter::Here(mut permit) => {
+                assert!(is_owner && permit.holds() && permit.fence() > 0);
+                permit.body().counts.insert(b"a".to_vec(), 7);
+                true
+            }
+            Enter::Elsewhere(to) => {
+                assert!(!is_owner && to.server == owner && to.address.is_some());
+                true
+            }
+            Enter::Wait(_) => false,
+            Enter::Forward(_) | Enter::Refused(_) => panic!("no shard is forwarded"),
+        };
+        trial.wait_until("it is decided", decided);
+        let unknown = fleet.enter(SHARDS, Mode::Direct);
+        assert!(matches!(unknown, Enter::Refused(Refused::UnknownShard)));
+        let nobody = fleet.enter(0, Mode::Forwarded(0));
+        assert!(matches!(nobody, Enter::Refused(Refused::UnknownServer)));
+    }
+    trial.end();
+}
+
+#[test]
+fn what_another_process_hands_over_is_refused() {
+    let trial = Trial::new(30, false, None);
+    let fleet = &trial.fleets[0];
+    let connections = Connections::new(checksum(fleet.inner.settings.as_bytes()));
+    let hand = HandOver {
+        joined: 1,
+        generation: 1,
+        server: 3,
+    };
+    let (is_changes, at, total, bytes) = (false, 0, 1, &b"x"[..]);
+    let frame = HandFrame {
+        shard: 0,
+        hand,
+        is_changes,
+        at,
+        total,
+        bytes,
+    };
+    let response = connections.ask(&fleet.address().to_string(), &Request::Hand(frame), SOON);
+    let response = response.unwrap();
+    assert!(matches!(Response::read(&response), Ok(Response::Again(_))));
+    // A client of another fleet isn't answered.
+    let other = Connections::new(7);
+    let refused = other.ask(&fleet.address().to_string(), &Request::Routes, SOON);
+    assert!(refused.is_err());
+    trial.end();
+}

@@ -1,0 +1,241 @@
+//! The example of a rate limiter as three processes over etcd: shards move under load, and a process is killed.
+use durkenzo_fleet::{CallError, Retry, Router};
+use durkenzo_store::{Access, Etcd, Store};
+use std::collections::BTreeSet;
+use std::fs;
+use std::io::{BufRead, BufReader};
+use std::net::TcpListener;
+use std::path::{Path, PathBuf};
+use std::process::{Child, Command, Stdio};
+use std::sync::atomic::{AtomicBool, Ordering};
+use std::sync::Arc;
+use std::thread;
+use std::time::{Duration, Instant};
+
+const SERVERS: u16 = 3;
+const CLIENTS: usize = 4;
+/// How long a client tries a call, and the test waits for what comes.
+const PATIENCE: Duration = Duration::from_secs(20);
+
+/// A process that is killed at the end.
+struct Process(Child);
+
+impl Drop for Process {
+    fn drop(&mut self) {
+        // It may have ended.
+        let _ = self.0.kill();
+        let _ = self.0.wait();
+    }
+}
+
+/// An etcd with a folder of its own.
+struct OwnEtcd {
+    url: String,
+    folder: PathBuf,
+    _process: Process,
+}
+
+impl OwnEtcd {
+    /// Begins one; none where etcd isn't installed.
+    fn begin() -> Option<OwnEtcd> {
+        let folder = std::env::temp_dir().join(format!("durkenzo-fleet-{}", std::process::id()));
+        let [url, peer] = [free_port(), free_port()].map(|it| format!("http://127.0.0.1:{it}"));
+        let process = Command::new("etcd")
+            .args(["--data-dir".as_ref(), folder.as_os_str()])
+            .args([
+                "--listen-client-urls",
+                &url,
+                "--advertise-client-urls",
+                &url,
+            ])
+            .args([
+                "--listen-peer-urls",
+                &peer,
+                "--initial-advertise-peer-urls",
+                &peer,
+            ])
+            .args([
+                "--initial-cluster",
+                &format!("default={peer}"),
+                "--unsafe-no-fsync",
+            ])
+            .stdout(Stdio::null())
+            .stderr(Stdio::null())
+            .spawn();
+        let _process = Process(process.ok()?);
+        Some(OwnEtcd {
+            url,
+            folder,
+            _process,
+        })
+    }
+
+    fn store(&self) -> Arc<dyn Store> {
+        let store = Etcd::new(Access::new([&self.url])).unwrap();
+        until("etcd answers", || store.read(&[b"settings"]).is_ok());
+        Arc::new(store)
+    }
+}
+
+impl Drop for OwnEtcd {
+    fn drop(&mut self) {
+        // The process has a moment more; what it leaves lies in a temporary folder.
+        let _ = fs::remove_dir_all(&self.folder);
+    }
+}
+
+fn free_port() -> u16 {
+    let listener = TcpListener::bind("127.0.0.1:0").unwrap();
+    listener.local_addr().unwrap().port()
+}
+
+/// Begins a server of the example. Returns it with where it listens.
+fn server(program: &Path, etcd: &str, name: u16) -> (Process, String) {
+    let mut child = Command::new(program)
+        .args([
+            "--etcd",
+            etcd,
+            "--name",
+            &name.to_string(),
+            "--shards",
+            "12",
+        ])
+        .stdout(Stdio::piped())
+        .spawn()
+        .unwrap();
+    let mut told = String::new();
+    BufReader::new(child.stdout.take().unwrap())
+        .read_line(&mut told)
+        .unwrap();
+    let address = told.trim_end().rsplit(' ').next().unwrap();
+    (Process(child), address.to_owned())
+}
+
+fn until(what: &str, holds: impl Fn() -> bool) {
+    let end = Instant::now() + PATIENCE;
+    while !holds() {
+        assert!(Instant::now() < end, "it never was that {what}");
+        thread::sleep(Duration::from_millis(20));
+    }
+}
+
+/// How many calls were answered, and may have been made; and why others weren't.
+#[derive(Debug, Default)]
+struct Tally {
+    answered: usize,
+    unsure: usize,
+    not_made: Vec<String>,
+}
+
+/// Calls until it is to stop.
+fn client(number: usize, router: &Router, stops: &AtomicBool) -> Tally {
+    let mut tally = Tally::default();
+    for turn in 0.. {
+        if stops.load(Ordering::SeqCst) {
+            break;
+        }
+        let customer = format!("customer-{number}-{}", turn % 40).into_bytes();
+        match router.call(&customer, &customer, Retry::Until(PATIENCE)) {
+            Ok(_) => tally.answered += 1,
+            Err(CallError::Unsure(_)) => tally.unsure += 1,
+            Err(CallError::NotMade(why)) => tally.not_made.push(why),
+        }
+        thread::sleep(Duration::from_millis(1));
+    }
+    tally
+}
+
+/// Calls by these routers while this is done. Returns what became of the calls.
+fn under_load(routers: &[Arc<Router>], work: impl FnOnce()) -> Tally {
+    let stops = Arc::<AtomicBool>::default();
+    let clients: Vec<_> = (0..CLIENTS)
+        .map(|number| {
+            let (router, stops) = (routers[number % routers.len()].clone(), stops.clone());
+            thread::spawn(move || client(number, &router, &stops))
+        })
+        .collect();
+    work();
+    stops.store(true, Ordering::SeqCst);
+    clients.into_iter().fold(Tally::default(), |mut all, it| {
+        let tally = it.join().unwrap();
+        all.answered += tally.answered;
+        all.unsure += tally.unsure;
+        all.not_made.extend(tally.not_made);
+        all
+    })
+}
+
+/// The program of the example, which cargo builds before tests are run.
+fn example() -> PathBuf {
+    let test = std::env::current_exe().unwrap();
+    let folder = test.parent().and_then(Path::parent).unwrap();
+    folder.join("examples/rate_limiter")
+}
+
+/// Has shards go from server to server for a while.
+fn migrate(router: &Router) {
+    let end = Instant::now() + Duration::from_secs(2);
+    for turn in (0..).take_while(|_| Instant::now() < end) {
+        let [shard, to] = [turn % 12, turn % usize::from(SERVERS) + 1].map(|it| it.to_string());
+        let told = router.command(&["MIGRATE", &shard, &to], PATIENCE);
+        // The shard may be there already.
+        let is_there = |refusal: &String| refusal.contains("SameServer");
+        assert!(told.as_ref().err().is_none_or(is_there), "{told:?}");
+        thread::sleep(Duration::from_millis(20));
+    }
+}
+
+/// Asks the process to end, and waits until it has.
+fn stop(mut process: Process) {
+    let id = process.0.id().to_string();
+    let asked = Command::new("kill").args(["-TERM", &id]).status();
+    assert!(asked.unwrap().success() && process.0.wait().unwrap().success());
+}
+
+/// Which servers own shards.
+fn owned(router: &Router) -> BTreeSet<u16> {
+    let lines = router.command(&["SHARDS"], PATIENCE).unwrap_or_default();
+    let owners = lines.iter().skip(1).filter_map(|it| it.split(' ').nth(2));
+    owners.filter_map(|it| it.parse().ok()).collect()
+}
+
+#[test]
+fn shards_move_under_load_and_a_killed_process_leaves_only_unsure_calls() {
+    let Some(etcd) = OwnEtcd::begin() else {
+        return println!("etcd isn't installed, so nothing was tried");
+    };
+    let store = etcd.store();
+    let program = example();
+    let mut servers: Vec<_> = (1..=SERVERS)
+        .map(|it| server(&program, &etcd.url, it))
+        .collect();
+    let watching = Arc::new(Router::watch(&*store).unwrap());
+    let asked = || {
+        watching
+            .call(b"first", b"first", Retry::Once(PATIENCE))
+            .is_ok()
+    };
+    until("a call is answered", asked);
+    let asking = Arc::new(Router::of(&format!("http://{}/", servers[0].1)).unwrap());
+    let routers = [watching.clone(), asking];
+
+    let tally = under_load(&routers, || migrate(&watching));
+    assert!(tally.answered > 50, "{tally:?}");
+    assert!(tally.unsure == 0 && tally.not_made.is_empty(), "{tally:?}");
+
+    let tally = under_load(&routers, || stop(servers.remove(1).0));
+    assert!(tally.answered > 50, "{tally:?}");
+    assert!(tally.unsure == 0 && tally.not_made.is_empty(), "{tally:?}");
+    servers.push(server(&program, &etcd.url, 2));
+    let is_back = || owned(&watching).contains(&2);
+    until("the server that was stopped has its shards again", is_back);
+
+    let tally = under_load(&routers, || {
+        thread::sleep(Duration::from_millis(200));
+        drop(servers.remove(1));
+        let is_gone = || !owned(&watching).contains(&3) && !owned(&watching).is_empty();
+        until("the others own all shards", is_gone);
+    });
+    assert!(tally.answered > 50 && tally.unsure <= CLIENTS, "{tally:?}");
+    assert!(tally.not_made.is_empty(), "{tally:?}");
+}

@@ -1,0 +1,92 @@
+/* Permits: whether a process may execute a shard's requests, by what it knows of the shard and of its lease. The caller
+ * keeps that as a value, reads the store and the clock, and says what it learned. Nothing here keeps memory, or has
+ * input or output. A program may link it beside the calls of durkenzo.h, durkenzo_store.h and durkenzo_control.h.
+ *
+ * Every call answers 0 or a code, and changes nothing if it answers a code. Pointers are borrowed for the time of the
+ * call, are never null, and don't overlap.
+ *
+ * If no lease ends early, no clock is slower than the terms say, each change of a record waits for who executed before,
+ * and what the calls are told is so, then at most one process may execute for a shard at a moment. `until` must be the
+ * time, by the process's clock, before the grant or the keep that was answered was asked for, and the ticks that the
+ * terms allow; the clock must go on while the machine sleeps. */
+#ifndef DURKENZO_PERMIT_H
+#define DURKENZO_PERMIT_H
+
+#include <stdbool.h>
+#include <stdint.h>
+
+#ifdef __cplusplus
+extern "C" {
+#endif
+
+/* The version of this header and of the library beside it. */
+#define DURKENZO_PERMIT_VERSION "0.1.0"
+
+enum durkenzo_permit_code {
+    /* By tools/library-codes, the codes of library/codes.txt: */
+    DURKENZO_PERMIT_OK = 0,           /* the call was made */
+    DURKENZO_PERMIT_BAD_ARGUMENT = 2, /* a server is out of bounds */
+    DURKENZO_PERMIT_BAD_WORD = 4      /* no record has the word */
+    /* End of them. */
+};
+
+/* What a process read of a shard, all at one revision of the store: a revision that the store had reached by then, the
+ * word of the shard's record, the revision at which the process of the record's owner put that server's key there (0
+ * for none), whether the process's own server has failed, and whether the record's owner has. */
+typedef struct {
+    uint64_t revision;
+    uint64_t word;
+    uint64_t owner_joined;
+    bool failed;
+    bool owner_failed;
+} durkenzo_permit_reading;
+
+/* What a process of a server knows of a shard. Only the calls below write it. */
+typedef struct {
+    uint64_t joined;
+    uint64_t until;
+    uint64_t let_go;
+    durkenzo_permit_reading reading;
+    uint16_t server;
+    bool freed;
+} durkenzo_permit_view;
+
+/* What handed-over bytes name: the process that let go, by the revision of its server's key, its server, and the
+ * generation up to which it has let go. */
+typedef struct {
+    uint64_t joined;
+    uint64_t generation;
+    uint16_t server;
+} durkenzo_permit_hand_over;
+
+/* Writes what a process knows that put its server's key at this revision. It executes nothing until it reads. Errors:
+ * BAD_ARGUMENT. */
+uint32_t durkenzo_permit_new(uint16_t server, uint64_t joined, uint64_t until, durkenzo_permit_view *view);
+
+/* Writes whether the process may execute, at this time of its clock, a request that came directly (`from` 0) or from
+ * that server. Errors: BAD_ARGUMENT, BAD_WORD. */
+uint32_t durkenzo_permit_may_execute(const durkenzo_permit_view *view, uint16_t from, uint64_t time, bool *may);
+
+/* Writes whether the process may ack its record: it isn't the one by which its server executes. Errors: as above. */
+uint32_t durkenzo_permit_may_ack(const durkenzo_permit_view *view, bool *may);
+
+/* A keep of the lease was answered. Errors: as above. */
+uint32_t durkenzo_permit_kept(durkenzo_permit_view *view, uint64_t until);
+
+/* The process has read the shard. Errors: as above. */
+uint32_t durkenzo_permit_read(durkenzo_permit_view *view, const durkenzo_permit_reading *reading);
+
+/* The process has read that the server acked up to this generation. Errors: as above. */
+uint32_t durkenzo_permit_acked(durkenzo_permit_view *view, uint16_t server, uint64_t generation);
+
+/* The process has bytes that name this. Errors: as above. */
+uint32_t durkenzo_permit_handed(durkenzo_permit_view *view, const durkenzo_permit_hand_over *hand);
+
+/* The process lets go of its record, by an ack or by handing over: it executes no more by it. Errors: as above. */
+uint32_t durkenzo_permit_let_go(durkenzo_permit_view *view);
+
+#ifdef __cplusplus
+}
+#endif
+
+#endif
