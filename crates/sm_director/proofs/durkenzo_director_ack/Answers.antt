@@ -9,6 +9,6 @@ returns-in-Ok-clause-made c =
     λ _. subst (λ (state : Option Director). DirectsOn (AddsAck c.args.shard c.args.server c.args.generation) state
     (Some c.add_ack.new.self)) (sym c.state_mut.ensures.value)
     (subst (λ (server : ℕ). AddsAck c.args.shard server c.args.generation c.state_mut.result.now c.add_ack.new.self)
-    c.in-Some-2.ensures.value
-    (subst (λ (shard : ℕ). AddsAck shard c.in-Some-2.server c.args.generation c.state_mut.result.now c.add_ack.new.self)
+    c.in-Some-new.ensures.value
+    (subst (λ (shard : ℕ). AddsAck shard c.in-Some-new.server c.args.generation c.state_mut.result.now c.add_ack.new.self)
     c.in-Some.ensures.value c.in-Ok.ensures.added))
