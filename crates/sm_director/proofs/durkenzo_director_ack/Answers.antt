@@ -10,5 +10,6 @@ returns-in-Ok-clause-made c =
     (Some c.add_ack.new.self)) (sym c.state_mut.ensures.value)
     (subst (λ (server : ℕ). AddsAck c.args.shard server c.args.generation c.state_mut.result.now c.add_ack.new.self)
     c.in-Some-new.ensures.value
-    (subst (λ (shard : ℕ). AddsAck shard c.in-Some-new.server c.args.generation c.state_mut.result.now c.add_ack.new.self)
+    (subst
+    (λ (shard : ℕ). AddsAck shard c.in-Some-new.server c.args.generation c.state_mut.result.now c.add_ack.new.self)
     c.in-Some.ensures.value c.in-Ok.ensures.added))

@@ -23,7 +23,8 @@ returns-in-Sent-command-clause-sent c =
     let allowed = subst (λ (k : StoreControl). command_fault k c.args.command ≡ None) same judged.0 in
     let acks = c.args.self.now.acks.items in
     let waited : has_waited c.in-Stands.control acks c.args.command ≡ true =
-    subst (λ (read : List AckRead). has_waited c.in-Stands.control read c.args.command ≡ true) c.deref-in-Stands.ensures.value
+    subst (λ (read : List AckRead). has_waited c.in-Stands.control read c.args.command ≡ true)
+    c.deref-in-Stands.ensures.value
     (c.if-not-has_waited.ensures.waited refl) in
     let written = subst (λ (k : StoreControl). sent.write ≡ write_of k c.args.command) same judged.3 in (
       c.in-Stands.control,
@@ -32,7 +33,8 @@ returns-in-Sent-command-clause-sent c =
       judged,
       subst (λ (fs : List Follower). IsFollowed c.in-Stands.control fs c.args.command) c.deref.ensures.value
           (c.if-not-is_followed.ensures refl),
-      subst (λ (acks : List AckRead). IsPrepared c.in-Stands.control acks c.args.command) c.deref-in-Stands.ensures.value
+      subst
+          (λ (acks : List AckRead). IsPrepared c.in-Stands.control acks c.args.command) c.deref-in-Stands.ensures.value
           (c.if-not-has_waited.ensures.prepared refl),
       waited,
       λ parts log knows made.
