@@ -641,7 +641,13 @@ impl DurableInner {
             if let Some(shard) = keys::shard_of_record(&it.key) {
                 let stored = StoredRecord::new(it.value, it.revision);
                 is_awaited |= stored.is_awaited();
+                let member = self.own.as_ref().map(|it| &it.member);
+                let acked = member.and_then(|it| Some((it, stored.acked_by(it.server())?)));
                 self.with(shard, |it, actions| it.see(stored, self.now(), actions));
+                // From here on the shard goes by this record.
+                if let Some((member, generation)) = acked {
+                    member.ack(shard, generation);
+                }
             }
         }
         if let Some(own) = self.own.as_ref().filter(|_| is_change) {

@@ -1,4 +1,4 @@
-use crate::command::{ControlCommand, Next};
+use crate::command::{ControlCommand, Next, Subject};
 use crate::keys::VACANT;
 use crate::proved::Director;
 use crate::{CoreFault, Refused, ServerState};
@@ -101,7 +101,16 @@ impl Planner {
     ///
     /// `Judged` by the first fault that applies. The planner is then as it was.
     pub fn judge(&mut self, command: ControlCommand) -> Result<(), Refused> {
+        if let Subject::Shard(shard) = command.subject() {
+            self.have_acked(shard)?;
+        }
         self.director.command(command).map_err(Refused::of)
+    }
+
+    /// Has the servers that the shard's record names ack it: data in memory is used by one thread at a time, so a server
+    /// lets go of a shard before its record changes.
+    fn have_acked(&mut self, shard: u16) -> Result<(), Refused> {
+        self.director.have_acked(shard).map_err(Refused::of)
     }
 
     /// Learns that the command that was judged was made.
@@ -125,6 +134,7 @@ impl Planner {
     ///
     /// `Judged` if there is no such shard.
     pub fn next_of_shard(&mut self, shard: u16) -> Result<Next, Refused> {
+        self.have_acked(shard)?;
         self.director.next_of_shard(shard).map_err(Refused::of)
     }
 

@@ -42,6 +42,18 @@ impl StoredRecord {
             .is_some_and(|it| matches!(it.stand, Stand::Taken { .. }))
     }
 
+    /// Returns the generation that the server is to ack, if whoever leads waits for that: it is the next owner of a shard
+    /// that is prepared, or no longer executes by this record.
+    pub(crate) fn acked_by(&self, server: u16) -> Option<u64> {
+        let record = self.record()?;
+        let awaited = match record.stand {
+            Stand::Prepared { next, .. } => Some(next),
+            Stand::Forwarding { owner, .. } | Stand::Paused(owner) => Some(owner),
+            Stand::Vacant | Stand::Serving(_) | Stand::Taken { .. } => None,
+        };
+        (awaited == Some(server)).then_some(record.generation)
+    }
+
     /// Whether the server owns the shard, or is its next or previous owner.
     pub(crate) fn names(&self, server: u16) -> bool {
         let record = self.record();

@@ -5,13 +5,13 @@ mod common;
 mod plain;
 
 use common::cluster::{
-    append, assign, campaign, kill, settle, until, Dice, Line, Net, Node, LEASE, PATIENCE,
+    append, assign, campaign, kill, settle, soon, until, Dice, Line, Net, Node, LEASE, PATIENCE,
 };
 use common::handing::{Handed, Handing};
 use common::{add, ask, held, step, write, Uncertain};
 use durkenzo_driver::{
-    Addresses, Begin, ControlCommand, Durable, DurableControl, JoinFault, MapReply, MapRequest,
-    Member, Next, NotDone, Numbered, Reads,
+    Addresses, Begin, CommandFault, ControlCommand, Durable, DurableControl, JoinFault, MapReply,
+    MapRequest, Member, Next, NotDone, Numbered, Reads, Refused,
 };
 use durkenzo_store::{Done, Embedded, Put, Store, Transaction};
 use plain::Plain;
@@ -284,6 +284,12 @@ fn a_process_that_dies_is_failed_and_nothing_answered_is_lost() {
     assert_words(&left[1].durable, &words, true);
 }
 
+/// Has a process whose watch is silent say that it let go of the shard, though it goes by the record before.
+fn ack_deaf(control: &mut DurableControl, durable: &Durable, shard: u16) {
+    let generation = control.record(shard).unwrap().unwrap().generation;
+    durable.member().unwrap().ack(shard, generation);
+}
+
 #[test]
 fn a_process_whose_watch_is_silent_makes_nothing_that_the_record_forbids() {
     let nodes = Net::of_three(&in_memory(), 1);
@@ -293,7 +299,14 @@ fn a_process_whose_watch_is_silent_makes_nothing_that_the_record_forbids() {
     assert_eq!(count(0, 1), 1);
     nodes[0].is_deaf.store(true, Ordering::Release);
     control.command(ControlCommand::Pause(0)).unwrap();
-    control.command(ControlCommand::Reassign(0, 2)).unwrap();
+    // It hasn't let go, as far as the control knows.
+    let early = control.command(ControlCommand::Reassign(0, 2));
+    assert!(matches!(
+        early,
+        Err(Refused::Judged(CommandFault::NotAcked))
+    ));
+    ack_deaf(&mut control, &nodes[0].durable, 0);
+    soon(&mut control, ControlCommand::Reassign(0, 2));
     assert_eq!(count(1, 1), 2);
     // It still takes itself for the owner: its transaction fails, and the work goes on where it belongs.
     assert_eq!(count(0, 1), 3);
@@ -302,7 +315,8 @@ fn a_process_whose_watch_is_silent_makes_nothing_that_the_record_forbids() {
     // And back, which it learns by another process's answer or its own reading alone.
     nodes[1].is_deaf.store(true, Ordering::Release);
     control.command(ControlCommand::Pause(0)).unwrap();
-    control.command(ControlCommand::Reassign(0, 3)).unwrap();
+    ack_deaf(&mut control, &nodes[1].durable, 0);
+    soon(&mut control, ControlCommand::Reassign(0, 3));
     assert_eq!(count(0, 1), 5);
     assert_eq!(count(1, 1), 6);
     assert_eq!(words_of(&nodes[1].durable, 0, b"list"), ["x"]);
@@ -319,10 +333,11 @@ fn a_change_begins_anew_where_another_server_wrote_meanwhile() {
     // The shard goes to another server, which writes, and comes back, before what was decided is written.
     let meanwhile = move || {
         control.command(ControlCommand::Pause(0)).unwrap();
-        control.command(ControlCommand::Reassign(0, 2)).unwrap();
+        ack_deaf(&mut control, &others[0].durable, 0);
+        soon(&mut control, ControlCommand::Reassign(0, 2));
         append(&others[1].durable, 0, b"list", "other").unwrap();
         control.command(ControlCommand::Pause(0)).unwrap();
-        control.command(ControlCommand::Reassign(0, 1)).unwrap();
+        soon(&mut control, ControlCommand::Reassign(0, 1));
     };
     *nodes[0].meanwhile.lock().unwrap() = Some(Box::new(meanwhile));
     append(&nodes[0].durable, 0, b"list", "last").unwrap();
@@ -344,9 +359,7 @@ fn another_process_goes_on_where_the_leader_was() {
     control
         .command(ControlCommand::PrepareAddShard(0, 2))
         .unwrap();
-    control
-        .command(ControlCommand::PrepareDropShard(0))
-        .unwrap();
+    soon(&mut control, ControlCommand::PrepareDropShard(0));
     control
         .command(ControlCommand::PrepareAddShard(1, 2))
         .unwrap();
@@ -388,7 +401,7 @@ fn a_shard_is_dropped_once_all_follow() {
         ControlCommand::PrepareDropShard(0),
         ControlCommand::AddShard(0),
     ] {
-        control.command(command).unwrap();
+        soon(&mut control, command);
     }
     thread::sleep(Duration::from_millis(200));
     assert_eq!(control.next_of_shard(0).unwrap(), Next::Waits);

@@ -2,7 +2,7 @@
 //! and nothing that was answered is lost.
 mod common;
 
-use common::cluster::{append, assign, campaign, settle, Dice, Net, Node};
+use common::cluster::{append, assign, campaign, settle, soon, Dice, Net, Node};
 use common::late::Late;
 use common::withheld::Withheld;
 use common::{ask, held, write, Told};
@@ -159,13 +159,13 @@ fn is_made_once(goes_first: bool, ask: impl Fn(&Durable) -> Told + Sync) {
         reading.await_reading();
         control.command(ControlCommand::Pause(0)).unwrap();
         if goes_first {
-            control.command(ControlCommand::Reassign(0, 2)).unwrap();
+            soon(&mut control, ControlCommand::Reassign(0, 2));
         }
         reading.release();
         if !goes_first {
             // By then what was read has come.
             thread::sleep(Duration::from_millis(50));
-            control.command(ControlCommand::Reassign(0, 2)).unwrap();
+            soon(&mut control, ControlCommand::Reassign(0, 2));
         }
         asking.join().unwrap()
     });

@@ -1,7 +1,9 @@
 //! Reads that are answered by a lease: without a transaction, and stale for no longer than that lasts.
 mod common;
 
-use common::cluster::{assign, campaign, fail, kill, settle, until, Net, Node, LEASE, PATIENCE};
+use common::cluster::{
+    assign, campaign, fail, kill, settle, soon, until, Net, Node, LEASE, PATIENCE,
+};
 use common::{add, ask, held, step, Told};
 use durkenzo_driver::{
     Addresses, Begin, ControlCommand, DurableControl, Key, MapReply, MapRequest, Member, NotDone,
@@ -27,14 +29,19 @@ fn three(reads: Reads, lease: Duration) -> (Vec<Node>, DurableControl) {
     (nodes, control)
 }
 
-/// Has shard 0 go to the second process, as far as that needs nobody to have seen it.
-fn take(control: &mut DurableControl) {
+/// Has shard 0 go to the second process, as far as that needs nobody to have seen it. Processes whose watches are silent
+/// say that they let go, though they go by the record before.
+fn take(control: &mut DurableControl, nodes: &[Node]) {
     for step in [
         ControlCommand::PrepareAddShard(0, 2),
         ControlCommand::PrepareDropShard(0),
         ControlCommand::AddShard(0),
     ] {
-        control.command(step).unwrap();
+        soon(control, step);
+        let generation = control.record(0).unwrap().unwrap().generation;
+        for node in nodes {
+            node.durable.member().unwrap().ack(0, generation);
+        }
     }
 }
 
@@ -65,7 +72,7 @@ fn reads_are_answered_without_a_transaction() {
     }
     let counted = ask(&nodes[1].durable, 0, Begin::Count, None);
     assert!(is_count(counted, 1));
-    take(&mut control);
+    take(&mut control, &nodes);
     settle(&mut control, 0);
     assert!(transactions(&nodes[0], 100, 6) == 0);
     assert!(nodes[1].durable.read_by_lease() >= 98);
@@ -83,7 +90,7 @@ fn a_server_that_sees_no_change_tells_what_is_stale_for_no_longer_than_a_lease()
     let (nodes, mut control) = three(Reads::Lease, SHORT_LEASE);
     transactions(&nodes[0], 2, 3);
     nodes[0].is_deaf.store(true, Ordering::Release);
-    take(&mut control);
+    take(&mut control, &nodes);
     let written = Instant::now();
     assert!(is_count(add(&nodes[1].durable, 0, b"a", 1), 4));
     // It answers what it was asked by what it knows, until it has to ask.
@@ -105,7 +112,7 @@ fn a_change_that_writes_nothing_is_decided_by_what_is_there() {
     let (nodes, mut control) = three(Reads::Lease, LEASE);
     transactions(&nodes[0], 2, 3);
     nodes[0].is_deaf.store(true, Ordering::Release);
-    take(&mut control);
+    take(&mut control, &nodes);
     assert!(is_count(add(&nodes[1].durable, 0, b"a", 1), 4));
     let (tell, seen) = mpsc::channel();
     let decide = move |held: Vec<MapReply>| {

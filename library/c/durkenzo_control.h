@@ -76,7 +76,8 @@ enum durkenzo_director_code {
     DURKENZO_DIRECTOR_BAD_BYTES = 93,      /* what lies at a key is wrong */
     DURKENZO_DIRECTOR_UNREACHED = 94,      /* no commands lead to the records and states that were read */
     DURKENZO_DIRECTOR_DIFFERENT = 95,      /* the records or states are others than commands lead to, or of another number */
-    DURKENZO_DIRECTOR_NOT_FOLLOWED = 96    /* a follower hasn't read that the shard is taken */
+    DURKENZO_DIRECTOR_NOT_FOLLOWED = 96,   /* a follower hasn't read that the shard is taken */
+    DURKENZO_DIRECTOR_NOT_ACKED = 97       /* a server that the command waits for hasn't acked the shard's record */
     /* End of them. */
 };
 
@@ -160,7 +161,8 @@ uint32_t durkenzo_director_read(durkenzo_director_handle *director, uint64_t pla
 
 /* Judges the command of this kind, for the shard and the server that it names: 0 where it is to be sent, and nothing
  * else until its outcome is told; or else the first fault that applies. Errors: WRONG_HANDLE, BAD_ARGUMENT (also where
- * what isn't named isn't 0), UNREAD, UNDER_WAY, NOT_FOLLOWED for DROP_SHARD, and the faults 10 to 14 and 30 to 49. */
+ * what isn't named isn't 0), UNREAD, UNDER_WAY, NOT_FOLLOWED for DROP_SHARD, NOT_ACKED for a change that waits for a
+ * server, and the faults 10 to 14 and 30 to 49. */
 uint32_t durkenzo_director_command(durkenzo_director_handle *director, uint8_t kind, uint16_t shard, uint16_t server);
 
 /* Writes what is sent: the bytes for the record or the state, and behind them those for the key of commands; 26 bytes
@@ -182,9 +184,19 @@ uint32_t durkenzo_director_follower(durkenzo_director_handle *director, uint16_t
 /* Forgets all followers. Error: WRONG_HANDLE. */
 uint32_t durkenzo_director_forget_followers(durkenzo_director_handle *director);
 
-/* What comes next of a shard: its migration takes the next step, and ends once each follower has read that the shard is
- * taken; one to a server that is leaving is given up; what a failed server owns is paused, and goes to another. A
- * command that it names isn't refused. Errors: WRONG_HANDLE, UNKNOWN_SHARD, UNREAD, UNDER_WAY. */
+/* Adds the generation up to which a server was read to have acked a shard's records: it executes by none of them any
+ * more, or is prepared for the latest. Of one shard's server only the first ack that was added counts, until all are
+ * forgotten. Errors: WRONG_HANDLE, BAD_ARGUMENT, NO_MEMORY. */
+uint32_t durkenzo_director_ack(durkenzo_director_handle *director, uint16_t shard, uint16_t server,
+                               uint64_t generation);
+
+/* Forgets all acks. Error: WRONG_HANDLE. */
+uint32_t durkenzo_director_forget_acks(durkenzo_director_handle *director);
+
+/* What comes next of a shard: its migration takes the next step once its next owner has acked that it is prepared, and
+ * then once its owner has acked that it let go; it ends once each follower has read that the shard is taken. One to a
+ * server that is leaving is given up before it forwards, and one to a server that has failed before the shard is taken.
+ * What a failed server owns is paused, and goes to another. A command that it names isn't refused. Errors: WRONG_HANDLE, UNKNOWN_SHARD, UNREAD, UNDER_WAY. */
 uint32_t durkenzo_director_next_of_shard(durkenzo_director_handle *director, uint16_t shard, durkenzo_step *step);
 
 /* What comes next of a server's restart: one that was asked for is approved as soon as the caps allow it, one that was

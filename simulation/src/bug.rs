@@ -14,6 +14,10 @@ pub enum Bug {
     NoServerCompare,
     /// A control takes for granted that all servers have read what it has: it reads so of each.
     EarlyDrop,
+    /// A control takes acks for those of later records: it hears so of each.
+    EarlyAck,
+    /// A server acks whoever has its name now: the compare of its key is dropped.
+    NoTellingCompare,
     /// A control takes records of one moment with the key of all commands of another: it reads both so.
     TornRecords,
     /// A server tells replies before its transaction is made: the server is told so early that it is.
@@ -76,17 +80,19 @@ impl Bug {
 }
 
 /// The first of those of the control that ships.
-const FIRST_OF_CONTROL: usize = 18;
+const FIRST_OF_CONTROL: usize = 20;
 /// The first of those of the links that ship.
-const FIRST_OF_LINKS: usize = 24;
+const FIRST_OF_LINKS: usize = 26;
 
-pub const BUGS: [Bug; 29] = [
+pub const BUGS: [Bug; 31] = [
     Bug::NoRecordCompare,
     Bug::NoHeadCompare,
     Bug::NoLeaderCompare,
     Bug::NoCommandsCompare,
     Bug::NoServerCompare,
     Bug::EarlyDrop,
+    Bug::EarlyAck,
+    Bug::NoTellingCompare,
     Bug::TornRecords,
     Bug::EarlyReply,
     Bug::NewNumber,

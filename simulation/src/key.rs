@@ -13,6 +13,8 @@ pub enum DecodedKey {
     State(u16),
     /// A process that runs this server, and up to which revision it has read.
     Server(u16),
+    /// What a server acks of a shard.
+    Ack(u16, u16),
     /// That a server is drained, and where a shard comes home.
     Drain(u16),
     Home(u16),
@@ -38,6 +40,7 @@ impl DecodedKey {
             ("record", 1) => DecodedKey::Record(place(0)?),
             ("state", 1) => DecodedKey::State(place(0)?),
             ("server", 1) => DecodedKey::Server(place(0)?),
+            ("ack", 2) => DecodedKey::Ack(place(0)?, place(1)?),
             ("drain", 1) => DecodedKey::Drain(place(0)?),
             ("home", 1) => DecodedKey::Home(place(0)?),
             ("lowest", 1) => DecodedKey::Lowest(place(0)?),
@@ -54,9 +57,10 @@ impl DecodedKey {
     }
 }
 
-/// What a transaction wrote and deleted.
+/// What a transaction compared, wrote and deleted.
 #[derive(Clone, Debug)]
 pub struct Written {
+    pub compares: Vec<(DecodedKey, u64)>,
     pub puts: Vec<(DecodedKey, Vec<u8>)>,
     pub deletes: Vec<DecodedKey>,
 }
@@ -66,7 +70,11 @@ impl Written {
     pub fn of(transaction: &Transaction) -> Option<Written> {
         let puts = transaction.puts.iter();
         let deletes = transaction.deletes.iter();
+        let compares = transaction.compares.iter();
         Some(Written {
+            compares: compares
+                .filter_map(|it| Some((DecodedKey::of(&it.key)?, it.revision.0)))
+                .collect(),
             puts: puts
                 .map(|it| Some((DecodedKey::of(&it.key)?, it.value.clone())))
                 .collect::<Option<_>>()?,

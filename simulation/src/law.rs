@@ -98,6 +98,10 @@ struct WorldModel {
     there: HashMap<u64, u64>,
     /// Up to which revisions servers say that they have read, whose keys are there.
     followed: HashMap<u16, u64>,
+    /// The revisions at which servers' keys were written, which are there.
+    told: HashMap<u16, u64>,
+    /// The greatest generation up to which each server has acked a shard, whichever process did.
+    acks: HashMap<(u16, u64), u64>,
     shards: HashMap<u16, ShardModel>,
     /// The bodies of all requests that carry a text of their own.
     bodies: HashSet<Vec<u8>>,
@@ -129,7 +133,8 @@ impl WorldModel {
                 DecodedKey::Process | DecodedKey::Commands | DecodedKey::Lowest(_) => {}
                 DecodedKey::Drain(_) | DecodedKey::Home(_) => {}
                 DecodedKey::Leader => self.leader = found(reading::process(bytes), txn)?,
-                DecodedKey::Server(server) => self.follow(server, bytes, revision),
+                DecodedKey::Server(server) => self.follow(server, bytes, revision, txn)?,
+                DecodedKey::Ack(shard, server) => self.ack(shard, server, bytes, txn)?,
                 DecodedKey::State(server) => self.restart(u64::from(server), bytes, txn)?,
                 DecodedKey::Record(shard) => self.change(shard, bytes, revision, txn)?,
                 DecodedKey::Head(shard) if batches > 0 => self.head(shard, bytes, txn)?,
@@ -143,16 +148,65 @@ impl WorldModel {
                 }
             }
         }
+        let told = txn.puts.iter().filter_map(|it| match it.0 {
+            DecodedKey::Server(server) => Some((server, revision)),
+            _ => None,
+        });
+        self.told.extend(told);
         txn.deletes.iter().try_for_each(|it| self.delete(*it))
     }
 
     /// Notes up to which revision a server has read. One that has read nothing goes by nothing.
-    fn follow(&mut self, server: u16, bytes: &[u8], revision: u64) {
+    fn follow(
+        &mut self,
+        server: u16,
+        bytes: &[u8],
+        revision: u64,
+        txn: &Written,
+    ) -> Result<(), Broken> {
+        let told = self.told.get(&server).copied().unwrap_or(0);
+        if !txn.compares.contains(&(DecodedKey::Server(server), told)) {
+            return broken(
+                "a server tells over its own key",
+                format!("{server}, told at {told}, {txn:?}"),
+            );
+        }
         self.there.entry(u64::from(server)).or_insert(revision);
         match reading::followed(bytes) {
             None | Some(0) => self.followed.remove(&server),
             Some(followed) => self.followed.insert(server, followed),
         };
+        Ok(())
+    }
+
+    /// A server acks a record that is replaced, or by which it doesn't execute, and tells that with its key.
+    fn ack(&mut self, shard: u16, server: u16, bytes: &[u8], txn: &Written) -> Result<(), Broken> {
+        let generation = found(reading::process(bytes), txn)?;
+        let record = self.shards.entry(shard).or_default().record;
+        let executor = match record.phase {
+            1 | 2 | 4 => record.owner,
+            3 => record.other,
+            _ => 0,
+        };
+        let is_free = generation < record.generation
+            || generation == record.generation && executor != u64::from(server);
+        let is_told = txn.puts.iter().any(|it| it.0 == DecodedKey::Server(server));
+        if !is_free || !is_told {
+            return broken(
+                "a server acks no record by which it executes",
+                format!("{record:?} by {txn:?}"),
+            );
+        }
+        let acked = self.acks.entry((shard, u64::from(server))).or_default();
+        *acked = generation.max(*acked);
+        Ok(())
+    }
+
+    /// Whether the server has let go of the shard's record as it is.
+    fn has_let_go(&self, shard: u16, server: u64, record: &DecodedRecord) -> bool {
+        let acked = self.acks.get(&(shard, server));
+        let is_failed = self.states.get(&server) == Some(&FAILED);
+        is_failed || acked.is_some_and(|&it| it >= record.generation)
     }
 
     /// A command is by who leads, as it says itself, and is written to the key of commands.
@@ -206,6 +260,18 @@ impl WorldModel {
             return broken(
                 "a server that is leaving gets no shard",
                 format!("{record:?} to {next:?}"),
+            );
+        }
+        let awaited = match (record.phase, next.phase) {
+            (2, 3) | (3, 1) => Some(record.other),
+            (3, 4) => Some(record.owner),
+            (5, 1) if next.owner != record.owner => Some(record.owner),
+            _ => None,
+        };
+        if awaited.is_some_and(|it| !self.has_let_go(shard, it, &record)) {
+            return broken(
+                "a change waits for who has to let go",
+                format!("{record:?} to {next:?}: {:?}", self.acks),
             );
         }
         if record.phase == 4 && self.has_left_behind(stood) {
@@ -308,8 +374,10 @@ impl WorldModel {
             DecodedKey::Server(server) => {
                 self.there.remove(&u64::from(server));
                 self.followed.remove(&server);
+                self.told.remove(&server);
                 true
             }
+            DecodedKey::Ack(..) => true,
             // They are withdrawn.
             DecodedKey::Drain(_) | DecodedKey::Home(_) => true,
             _ => false,

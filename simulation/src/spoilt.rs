@@ -17,6 +17,12 @@ fn is_command(transaction: &Transaction) -> bool {
     transaction.puts.iter().any(|it| it.key == b"commands")
 }
 
+/// Whether by it a server acks.
+fn is_telling(transaction: &Transaction) -> bool {
+    let mut puts = transaction.puts.iter();
+    puts.any(|it| it.key.starts_with(b"ack/"))
+}
+
 /// Has it no longer compare the keys that begin so.
 fn uncompared(mut transaction: Transaction, prefix: &[u8]) -> Transaction {
     transaction
@@ -37,6 +43,9 @@ impl SimulatedStore {
             Bug::NoLeaderCompare if is_command(&transaction) => uncompared(transaction, b"leader"),
             Bug::NoCommandsCompare => uncompared(transaction, b"commands"),
             Bug::NoServerCompare if is_command(&transaction) => uncompared(transaction, b"server/"),
+            Bug::NoTellingCompare if is_telling(&transaction) => {
+                uncompared(transaction, b"server/")
+            }
             Bug::EarlyDeletion => {
                 self.delete_early(&transaction, route);
                 transaction
@@ -73,9 +82,15 @@ impl SimulatedStore {
         }
     }
 
-    /// Returns a change of the leader's key as a process hears of it.
+    /// Returns changes of the leader's key, or of acks, as a process hears of them.
     pub fn misheard(&self, seen: Seen) -> Seen {
         match seen {
+            Seen::Changes(revision, mut changes) if self.bug == Some(Bug::EarlyAck) => {
+                let acks = changes.iter_mut().filter(|it| it.key.starts_with(b"ack/"));
+                let told = acks.filter_map(|it| it.value.as_mut()?.get_mut(1..9));
+                told.for_each(|it| it.fill(u8::MAX));
+                Seen::Changes(revision, changes)
+            }
             Seen::Changes(revision, mut changes) if self.bug == Some(Bug::DeafFollower) => {
                 changes.retain(|it| it.key != b"leader" || it.value.is_some());
                 Seen::Changes(revision, changes)

@@ -211,6 +211,10 @@ impl Refusal {
             CommandFault::NotFollowed => {
                 "a process hasn't read yet that the shard was taken".to_owned()
             }
+            CommandFault::NotAcked => {
+                "the server that executes, or is to be ready, hasn't acked the shard's record yet"
+                    .to_owned()
+            }
             why => format!("the control refuses it for now: {why}"),
         };
         Refusal::new(NOT_NOW, reason, "try again")

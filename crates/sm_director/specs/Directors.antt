@@ -8,6 +8,7 @@ use Rattle.sm_desk.specs.declared.command.Command.{Command}
 use Rattle.sm_desk.specs.declared.command.Command.TheVariants.{Change as ChangeOf}
 use Rattle.sm_desk.specs.declared.command.CommandFault.{CommandFault}
 use Rattle.sm_desk.specs.Desk.{DeskView}
+use Rattle.sm_lead.specs.declared.ack_read.AckRead.{AckRead}
 use Rattle.sm_lead.specs.declared.follower.Follower.{Follower}
 use Rattle.sm_lead.specs.declared.next_step.NextStep.{NextStep}
 use Rattle.sm_lead.specs.declared.record_read.RecordRead.{RecordRead}
@@ -18,8 +19,9 @@ use Rattle.sm_lead.specs.Commands.{IsAfter, command_fault, read_at}
 use Rattle.sm_lead.specs.Controls.{IsLoaded, KnowsStore}
 use Rattle.sm_lead.specs.NextSteps.{all_follow, step_of_drain, step_of_vacant, unless_refused}
 use Rattle.sm_lead.specs.Placements.{charter_of, rows_of}
+use Rattle.sm_lead.specs.Waits.{AreAcksMade, has_waited, is_prepared}
 use Rattle.sm_lead.specs.Sendings.{IsJudged, command_transaction, sending_of}
-use Rattle.sm_ownership.specs.declared.change.Change.TheVariants.{DropShard}
+use Rattle.sm_ownership.specs.declared.change.Change.TheVariants.{DropShard, PrepareDropShard}
 use Rattle.sm_place.specs.declared.server_state.ServerState.{ServerState}
 use Rattle.sm_place.specs.Books.{new_books}
 use Rattle.sm_settings.specs.SettingsLine.{settings_of, values_of}
@@ -42,6 +44,7 @@ pub record IsNewDirector (line : List ℕ) (process elected : ℕ) (director : D
   pub records : director.records.items ≡ []
   pub states : director.states.items ≡ []
   pub followers : director.followers.items ≡ []
+  pub acks : director.acks.items ≡ []
   pub stage : director.stage ≡ Unread
 
 -- the director with other records that were added
@@ -54,6 +57,7 @@ with_records director records =
       records = records;
       states = director.states;
       followers = director.followers;
+      acks = director.acks;
       stage = director.stage;
     }
 
@@ -67,6 +71,7 @@ with_states director states =
       records = director.records;
       states = states;
       followers = director.followers;
+      acks = director.acks;
       stage = director.stage;
     }
 
@@ -80,6 +85,21 @@ with_followers director followers =
       records = director.records;
       states = director.states;
       followers = followers;
+      acks = director.acks;
+      stage = director.stage;
+    }
+
+-- the director with other acks
+abbrev pub with_acks : Director → Vec AckRead → Director
+with_acks director acks =
+    record {
+      settings = director.settings;
+      caps = director.caps;
+      lead = director.lead;
+      records = director.records;
+      states = director.states;
+      followers = director.followers;
+      acks = acks;
       stage = director.stage;
     }
 
@@ -93,6 +113,7 @@ with_stage director stage =
       records = director.records;
       states = director.states;
       followers = director.followers;
+      acks = director.acks;
       stage = stage;
     }
 
@@ -104,6 +125,7 @@ pub record KeepsAll (old new : Director) : Type 0 where
   pub records : new.records.items ≡ old.records.items
   pub states : new.states.items ≡ old.states.items
   pub followers : new.followers.items ≡ old.followers.items
+  pub acks : new.acks.items ≡ old.acks.items
   pub stage : new.stage ≡ old.stage
 
 -- the bytes spell the record that was added, which was last written at this revision
@@ -126,10 +148,21 @@ AddsFollower server revision old new =
     × (followers.items ≡ old.followers.items ++ record { server = server; revision = revision } ∷ [])
     × (new ≡ with_followers old followers)
 
--- all were forgotten
+-- all followers were forgotten
 abbrev pub ForgetsFollowers : Director → Director → Type 0
 ForgetsFollowers old new =
     (followers : Vec Follower) × (followers.items ≡ []) × (new ≡ with_followers old followers)
+
+-- the ack was added
+abbrev pub AddsAck : ℕ → ℕ → ℕ → Director → Director → Type 0
+AddsAck shard server generation old new =
+    (acks : Vec AckRead)
+    × (acks.items ≡ old.acks.items ++ record { shard = shard; server = server; generation = generation } ∷ [])
+    × (new ≡ with_acks old acks)
+
+-- all acks were forgotten
+abbrev pub ForgetsAcks : Director → Director → Type 0
+ForgetsAcks old new = (acks : Vec AckRead) × (acks.items ≡ []) × (new ≡ with_acks old acks)
 
 -- the desk of the director's settings, on which nothing has happened
 abbrev pub desk_of_settings : Director → DeskView
@@ -140,12 +173,13 @@ desk_of_settings director =
       caps = director.caps;
     }
 
--- the director keeps its settings, its election and its followers, and what was added is let go
+-- the director keeps its settings, its election, its followers and acks, and what was added is let go
 pub record LetsGo (old new : Director) : Type 0 where
   pub settings : new.settings ≡ old.settings
   pub caps : new.caps ≡ old.caps
   pub lead : new.lead ≡ old.lead
   pub followers : new.followers ≡ old.followers
+  pub acks : new.acks ≡ old.acks
   pub records : new.records.items ≡ []
   pub states : new.states.items ≡ []
 
@@ -159,11 +193,11 @@ LoadsControl placed old new =
 abbrev pub ForgetsAll : Director → Director → Type 0
 ForgetsAll old new = LetsGo old new × (new.stage ≡ Unread)
 
--- what is sent may be sent, wherever what the control knows is so in the store
-abbrev pub IsAllowedSend : SentCommand → Type 0
-IsAllowedSend sent =
+-- what is sent may be sent, wherever what the control knows is so in the store, and the acks were made there
+abbrev pub IsAllowedSend : List AckRead → SentCommand → Type 0
+IsAllowedSend acks sent =
     (parts : List (Item (Vec ℕ)) → List (Vec ℕ)) (log : List (Transaction (Vec ℕ) (Vec ℕ)))
-    → KnowsStore log sent.control
+    → KnowsStore log sent.control → AreAcksMade log acks
     → MaySend (charter_of (rows_of sent.control.desk.books) sent.control.desk.caps sent.control.ceiling parts) log
     (command_transaction (sending_of sent.control sent.write))
 
@@ -173,11 +207,18 @@ IsFollowed control followers (ChangeOf k DropShard) =
     IsTrue (all_follow followers (read_at control.records.items k).stood)
 IsFollowed control followers command = Unit {0}
 
+-- where by the command the owner of a shard begins to forward, the next owner has acked the record
+abbrev pub IsPrepared : StoreControl → List AckRead → Command → Type 0
+IsPrepared control acks (ChangeOf k PrepareDropShard) = IsTrue (is_prepared control acks k)
+IsPrepared control acks command = Unit {0}
+
 -- the control that stands doesn't refuse the command, and has sent it
 abbrev pub SendsCommand : Command → Director → Director → Type 0
 SendsCommand command old new =
     (control : StoreControl) × (sent : SentCommand) × (old.stage ≡ Stands control)
-    × IsJudged control command (JudgedSent sent) × IsFollowed control old.followers.items command × IsAllowedSend sent
+    × IsJudged control command (JudgedSent sent) × IsFollowed control old.followers.items command
+    × IsPrepared control old.acks.items command × IsTrue (has_waited control old.acks.items command)
+    × IsAllowedSend old.acks.items sent
     × (new ≡ with_stage old (Sent sent))
 
 -- it refuses it, for this first fault

@@ -5,7 +5,9 @@ ghost use Rattle.sm_place.specs.Books.{state_of};
 ghost use Rattle.sm_settings.specs.SettingsLine.{settings_of};
 ghost use Rattle.sm_director.specs.declared.director_stage.DirectorStage.TheVariants.{Stands as StandsAs};
 ghost use Rattle.sm_director.specs.Calls.{SpellsSent};
-ghost use Rattle.sm_director.specs.Directors.{AddsFollower, AddsRecord, AddsState, ForgetsAll, ForgetsFollowers};
+ghost use Rattle.sm_lead.specs.Waits.{has_waited};
+ghost use Rattle.sm_director.specs.Directors.{AddsAck, AddsFollower, AddsRecord, AddsState, ForgetsAcks, ForgetsAll};
+ghost use Rattle.sm_director.specs.Directors.{ForgetsFollowers, IsPrepared};
 ghost use Rattle.sm_director.specs.Directors.{HasControl, IsFollowed, IsNewDirector, KeepsAll, LoadsControl};
 ghost use Rattle.sm_director.specs.Directors.{MakesCommand, RefusesFor, SendsCommand, desk_of_settings, drain_step};
 ghost use Rattle.sm_director.specs.Directors.{vacant_step};
@@ -18,8 +20,8 @@ use sm_codec::{read_record, read_state};
 use sm_desk::{Command, CommandFault, Desk};
 use sm_lead::laws::commands_may_be_sent;
 use sm_lead::{
-    Follower, Judged, Leadership, NextStep, RecordRead, SendOutcome, StoreControl, all_follow,
-    read_at,
+    AckRead, Follower, Judged, Leadership, NextStep, RecordRead, SendOutcome, StoreControl,
+    all_follow, read_at,
 };
 use sm_ownership::change::Change;
 use sm_ownership::change_fault::ChangeFault;
@@ -42,6 +44,7 @@ pub struct Director {
     pub records: Vec<RecordRead>,
     pub states: Vec<ServerState>,
     pub followers: Vec<Follower>,
+    pub acks: Vec<AckRead>,
     pub stage: DirectorStage,
 }
 
@@ -62,6 +65,7 @@ impl Director {
                     records: Vec::new(alloc),
                     states: Vec::new(alloc),
                     followers: Vec::new(alloc),
+                    acks: Vec::new(alloc),
                     stage: DirectorStage::Unread,
                 })
             }
@@ -106,6 +110,31 @@ impl Director {
         ensures { ForgetsFollowers self.old self.new }
     {
         self.followers = Vec::new(alloc);
+    }
+
+    /// Adds the generation up to which a server was read to have acked a shard's records.
+    pub fn add_ack(
+        &mut self,
+        shard: ShardId,
+        server: ServerId,
+        generation: u64,
+    ) -> Result<(), DirectorFault>
+        ensures added { OnOk result (AddsAck shard server generation self.old self.new) }
+        ensures kept { OnErr result (KeepsAll self.old self.new) }
+    {
+        self.acks.push(AckRead {
+            shard,
+            server,
+            generation,
+        })?;
+        Ok(())
+    }
+
+    /// Forgets all acks.
+    pub fn forget_acks(&mut self, alloc: Global)
+        ensures { ForgetsAcks self.old self.new }
+    {
+        self.acks = Vec::new(alloc);
     }
 
     /// All was read that was added, at one revision, at which the key of commands was last written at this one. What
@@ -173,6 +202,10 @@ impl Director {
                 if !is_followed(&control, &self.followers, &command) {
                     self.stage = DirectorStage::Stands(control);
                     return Err(DirectorFault::NotFollowed);
+                }
+                if !has_waited(&control, &self.acks, &command) {
+                    self.stage = DirectorStage::Stands(control);
+                    return Err(DirectorFault::NotAcked);
                 }
                 control.desk.soundness();
                 commands_may_be_sent::<Vec<u8>, Vec<u8>>();
@@ -246,13 +279,14 @@ impl Director {
     /// What comes next of the shard.
     pub fn next_of_shard(&self, k: ShardId) -> Result<NextStep, DirectorFault>
         ensures { IfOk result (λ step. HasControl (λ control.
-            (step ≡ shard_step control self.now.followers.items k) × IsAllowed control step) self.now) }
+            (step ≡ shard_step control self.now.followers.items self.now.acks.items k)
+            × IsAllowed control step) self.now) }
     {
         let control = self.standing()?;
         if k.index() >= control.records.len() {
             return Err(unknown_shard());
         }
-        Ok(control.next_of_shard(k, &self.followers))
+        Ok(control.next_of_shard(k, &self.followers, &self.acks))
     }
 
     /// What comes next of the server's restart.
@@ -327,6 +361,18 @@ fn is_followed(control: &StoreControl, followers: &[Follower], command: &Command
         }
         _ => true,
     }
+}
+
+// Whether whoever the command waits for has let go, and the next owner is prepared before the owner forwards.
+fn has_waited(control: &StoreControl, acks: &[AckRead], command: &Command) -> bool
+    ensures waited { IsTrue result → IsTrue (has_waited control.now acks.now command.now) }
+    ensures prepared { IsTrue result → IsPrepared control.now acks.now command.now }
+{
+    let is_prepared = match command {
+        Command::Change(k, Change::PrepareDropShard) => control.is_prepared(acks, *k),
+        _ => true,
+    };
+    is_prepared && control.has_waited(acks, command)
 }
 
 fn unknown_shard() -> DirectorFault {

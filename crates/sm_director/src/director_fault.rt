@@ -28,6 +28,9 @@ pub enum DirectorFault {
     /// A follower hasn't read that the shard is taken.
     #[error("a follower hasn't read that the shard is taken")]
     NotFollowed,
+    /// A server that the command waits for hasn't acked the shard's record.
+    #[error("a server that the command waits for hasn't acked the shard's record")]
+    NotAcked,
     /// No command was sent.
     #[error("no command was sent")]
     NotSent,

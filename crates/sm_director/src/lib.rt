@@ -13,7 +13,8 @@ ghost use Rattle.sm_ranges.specs.Ranges.{shard_of};
 ghost use Rattle.sm_word.specs.Word.{word_of};
 ghost use Rattle.sm_director.specs.Calls.{BreaksRule, DirectsOn, IsServerAt, KeepsDirector, RefusesParts, SendsParts};
 ghost use Rattle.sm_director.specs.Calls.{SpellsSent, TellsStep};
-ghost use Rattle.sm_director.specs.Directors.{AddsFollower, AddsRecord, AddsState, ForgetsAll, ForgetsFollowers};
+ghost use Rattle.sm_director.specs.Directors.{AddsAck, AddsFollower, AddsRecord, AddsState, ForgetsAcks, ForgetsAll};
+ghost use Rattle.sm_director.specs.Directors.{ForgetsFollowers};
 ghost use Rattle.sm_director.specs.Directors.{HasControl, IsNewDirector, KeepsAll, LoadsControl, MakesCommand};
 ghost use Rattle.sm_director.specs.Directors.{drain_step, vacant_step};
 
@@ -297,6 +298,46 @@ pub extern "C" fn durkenzo_director_forget_followers(
     0
 }
 
+/// Adds the generation up to which a server was read to have acked a shard's records.
+#[unsafe(no_mangle)]
+pub extern "C" fn durkenzo_director_ack(
+    director: &mut DirectorHandle,
+    shard: u16,
+    server: u16,
+    generation: u64,
+) -> u32
+    ensures made { result ≡ 0
+        → DirectsOn (AddsAck shard server generation) director.old.owned.state director.new.owned.state }
+    ensures kept { 3 ≤ result → DirectsOn KeepsAll director.old.owned.state director.new.owned.state }
+{
+    let Some(k) = ShardId::new(shard) else {
+        return BAD_ARGUMENT;
+    };
+    let Some(server) = ServerId::new(server) else {
+        return BAD_ARGUMENT;
+    };
+    if !director.full {
+        return WRONG_HANDLE;
+    }
+    match director.owned.state_mut().add_ack(k, server, generation) {
+        Ok(()) => 0,
+        Err(fault) => code_of(fault),
+    }
+}
+
+/// Forgets all acks.
+#[unsafe(no_mangle)]
+pub extern "C" fn durkenzo_director_forget_acks(alloc: Global, director: &mut DirectorHandle) -> u32
+    ensures forgot { result ≡ 0 → DirectsOn ForgetsAcks director.old.owned.state director.new.owned.state }
+    ensures kept { result ≢ 0 → director.new.owned.state ≡ director.old.owned.state }
+{
+    if !director.full {
+        return WRONG_HANDLE;
+    }
+    director.owned.state_mut().forget_acks(alloc);
+    0
+}
+
 /// Writes what comes next of the shard.
 #[unsafe(no_mangle)]
 pub extern "C" fn durkenzo_director_next_of_shard(
@@ -305,7 +346,8 @@ pub extern "C" fn durkenzo_director_next_of_shard(
     step: &mut StepParts,
 ) -> u32
     ensures told { result ≡ 0 → KeepsDirector (λ kept. HasControl (λ control.
-        TellsStep step.new (shard_step control kept.followers.items shard) control) kept) director.old.owned.state }
+        TellsStep step.new (shard_step control kept.followers.items kept.acks.items shard) control)
+        kept) director.old.owned.state }
     ensures unchanged { director.new.owned.state ≡ director.old.owned.state }
 {
     let Some(k) = ShardId::new(shard) else {

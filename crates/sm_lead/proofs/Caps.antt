@@ -97,7 +97,7 @@ module _ (rows : SettingsRows) (caps : RestartCaps)
     deed_step log (Basing shard number place part) right keeps = keeps
     deed_step log (Naming shard head number count logged) right keeps = keeps
     deed_step log (Clearing keys) right keeps = keeps
-    deed_step log (Following server revision) right keeps = keeps
+    deed_step log (Following server revision acks told) right keeps = keeps
     deed_step log (Checking compares) right keeps = keeps
     deed_step log Foreign right keeps = keeps
 

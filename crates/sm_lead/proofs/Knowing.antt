@@ -1,11 +1,12 @@
 -- What a control knows of the store: once it has read, and once its command was made; and which commands it may send.
 use Rattle.std.proofs.Common.{◌≡◌, ◌≢◌, ℕ, ◌+◌, ◌<◌, Bool, true, false, List, [], ◌∷◌, ◌++◌, length, get_or, set}
 use Rattle.std.proofs.Common.{Option, Some, None, refl, sym, ap, subst, ◌∙◌, inl, ⊎_elim, arith}
-use Rattle.std.specs.Prelude.{IsTrue, is_none, ◌==◌, ◌↔◌, if◌then◌else◌}
+use Rattle.std.specs.Prelude.{IsTrue, IfSome, find, is_none, unwrap_or, ◌≤◌, ◌==◌, ◌&&◌, ◌↔◌, if◌then◌else◌}
 use Rattle.std.specs.Option.{option_map, option_or}
 use Rattle.std.specs.List.{AllByRecursion}
 use Rattle.std.proofs.lemmas.Bool.{cases_eq, eq-eqb, ne_eqb, ltb-true, cond-true, cond-false}
-use Rattle.std.proofs.lemmas.List.{get_or-set_same, get_or-set_other, length-map, length-set}
+use Rattle.std.proofs.lemmas.Bool.{and_parts, cases_lt, cond_both, eqb-true, false≢true}
+use Rattle.std.proofs.lemmas.List.{get_or_past, get_or-set_same, get_or-set_other, length-map, length-set}
 use Rattle.sm_ownership.specs.declared.change.Change.{Change as AnyChange}
 use Rattle.sm_ownership.specs.declared.record.Record.{Record}
 use Rattle.sm_ownership.specs.History.{after_change, change_fits}
@@ -13,7 +14,8 @@ use Rattle.sm_ownership.specs.Rules.{phase_fault}
 use Rattle.sm_ownership.specs.Tables.{record_fault}
 use Rattle.sm_place.specs.declared.server_state.ServerState.{ServerState}
 use Rattle.sm_place.specs.declared.server_state.ServerState.TheVariants as states
-use Rattle.sm_place.specs.Books.{BooksView, IsKnown, no_server, place_of, with_state}
+use Rattle.sm_place.specs.Books.{BooksView, IsKnown, no_server, place_of, state_of, with_state}
+use Rattle.sm_place.specs.ServerState.{is_failed}
 use Rattle.sm_place.specs.Sound.{AreSound}
 use Rattle.sm_place.specs.lemmas.Changed.{id-at_place, length-with_stand}
 use Rattle.sm_desk.specs.declared.command.Command.{Command}
@@ -28,9 +30,13 @@ use Rattle.sm_store.specs.Store.{Placement, Transaction, all_hold, leader_key, p
 use Rattle.sm_store.specs.Store.{IsRising, revision_of, stored_record, stored_state}
 use Rattle.sm_store.specs.Deeds.{AreRight, Changing, Charter, Deed, HasLed, IsChanged, MaySend, Restarting}
 use Rattle.sm_store.specs.Deeds.{WasFound, absence_compares, at, done_at, transaction_of}
+use Rattle.sm_store.specs.Store.{acked_of}
+use Rattle.sm_store.specs.Waits.{HasLetGo, gives_up, has_let_go}
+use Rattle.sm_store.specs.lemmas.Acks.{let_go_as_read}
 use Rattle.sm_store.specs.lemmas.Heart.{first_held, stood_among}
 use Rattle.sm_store.specs.lemmas.Views.{IsOfDeed, deeds_of_right, placement_view, rising_of_right}
 use Rattle.sm_lead.specs.declared.command_write.CommandWrite.TheVariants.{State as WritesState}
+use Rattle.sm_lead.specs.declared.ack_read.AckRead.{AckRead}
 use Rattle.sm_lead.specs.declared.leadership.Leadership.{Leadership}
 use Rattle.sm_lead.specs.declared.record_read.RecordRead.{RecordRead}
 use Rattle.sm_lead.specs.declared.store_control.StoreControl.{StoreControl}
@@ -38,6 +44,7 @@ use Rattle.sm_lead.specs.Commands.{IsAfter, command_fault, read_at, unwritten, w
 use Rattle.sm_lead.specs.Controls.{CommandWasMade, IsLoaded, IsReadOf, KnowsStore}
 use Rattle.sm_lead.specs.Placements.{Agrees, charter_of, desk_in, rows_of}
 use Rattle.sm_lead.specs.Sendings.{command_transaction, sending_of}
+use Rattle.sm_lead.specs.Waits.{AreAcksMade, acked_in, has_waited, lets_go, holds_of_named}
 use Rattle.sm_lead.proofs.Agreement.{agrees_changed, agrees_entered, same_books}
 
 pub none_both : {A : Type 0} (a b : Option A) → option_or a b ≡ None → (a ≡ None) × (b ≡ None)
@@ -138,13 +145,64 @@ module _ {Q P : Type 0} (parts : List (Item Q) → List P) (log : List (Transact
     };
   }
 
+  -- an ack that was found among those that were read was made
+  found_made : (acks : List AckRead) → AreAcksMade log acks → (k server : ℕ)
+      → acked_in acks k server ≤ acked_of k server log
+  found_made [] made k server = omega arith
+  found_made (ack ∷ acks) made k server =
+      let rest = found_made acks made.1 k server in
+      let found = find (λ (one : AckRead). one.shard == k && one.server == server) acks in
+      cond_both (ack.shard == k && ack.server == server) (Some ack) found
+      (λ (one : Option AckRead). unwrap_or (option_map (λ (a : AckRead). a.generation) one) 0 ≤ acked_of k server log)
+      (λ same.
+      let parts = and_parts (ack.shard == k) (ack.server == server) same in
+      subst (λ (n : ℕ). ack.generation ≤ acked_of k n log) (eqb-true ack.server server parts.1)
+      (subst (λ (n : ℕ). ack.generation ≤ acked_of n ack.server log) (eqb-true ack.shard k parts.0) made.0))
+      (λ apart. rest)
+
+  failed_is : (state : ServerState) → is_failed state ≡ true → state ≡ states.Failed
+  failed_is states.Failed is = refl
+  failed_is states.Up is = absurd (false≢true is)
+  failed_is states.Asked is = absurd (false≢true is)
+  failed_is states.Approved is = absurd (false≢true is)
+  failed_is states.Stopped is = absurd (false≢true is)
+
+  -- a server that the desk says has failed has a row, and has failed in the store
+  failed_there : (server : ℕ) → is_failed (state_of control.desk.books server) ≡ true
+      → knows.read.states server ≡ states.Failed
+  failed_there server is =
+      let books = control.desk.books in
+      let place = place_of books.servers server in
+      let long = sound.states in
+      ⊎_elim
+      (λ (known : place < length books.servers).
+      sym (knows.agrees.states server known) ∙ failed_is (state_of books server) is)
+      (λ (past : length books.servers ≤ place).
+      absurd (false≢true (sym (ap is_failed (get_or_past books.states place states.Up (omega arith))) ∙ is)))
+      (cases_lt place (length books.servers))
+
+  one_let_go : (acks : List AckRead) → AreAcksMade log acks → (k server : ℕ) → k < length control.desk.books.shards
+      → lets_go control acks k server ≡ true → HasLetGo log knows.read k server
+  one_let_go acks were_made k server within is =
+      let_go_as_read log knows.read k server (acked_in acks k server) (is_failed (state_of control.desk.books server))
+      (found_made acks were_made k server) (failed_there server)
+      (subst (λ (r : Record). has_let_go r (acked_in acks k server) (is_failed (state_of control.desk.books server))
+      ≡ true) (knows.records k within) is)
+
+  all_let_go : (acks : List AckRead) → AreAcksMade log acks → (k : ℕ) → k < length control.desk.books.shards
+      → (found : Option ℕ) → holds_of_named (lets_go control acks k) found ≡ true
+      → IfSome found (HasLetGo log knows.read k)
+  all_let_go acks were_made k within None is = tt
+  all_let_go acks were_made k within (Some server) is = one_let_go acks were_made k server within is
+
   pub may_be_sent : ((ceiling : ℕ) (state : Record) (change : AnyChange)
       → IsTrue (change_fits ceiling state 0 change)
       ↔ ((phase_fault state.stand change ≡ None) × (record_fault ceiling state ≡ None)))
-      → (command : Command) → command_fault control command ≡ None
+      → (acks : List AckRead) → AreAcksMade log acks → (command : Command) → command_fault control command ≡ None
+      → has_waited control acks command ≡ true
       → MaySend (charter_of (rows_of control.desk.books) control.desk.caps control.ceiling parts) log
       (command_transaction (sending_of control (write_of control command)))
-  may_be_sent exactly (Change k change) none =
+  may_be_sent exactly acks were_made (Change k change) none waits =
       let both = none_both _ _ none in
       let state = (read_at control.records.items k).state in
       let within = (let_through control.desk.books k change both.0).within in
@@ -162,13 +220,21 @@ module _ {Q P : Type 0} (parts : List (Item Q) → List P) (log : List (Transact
           changed = subst (λ (r : Record). IsChanged control.ceiling r change (after_change state change))
               (knows.records k within)
               (record { fits = (exactly control.ceiling state change).1 faults; is = refl });
+          waited = subst (λ (r : Record). IfSome (gives_up r.stand change) (HasLetGo log knows.read k))
+              (knows.records k within)
+              (all_let_go acks were_made k within (gives_up state.stand change) waits);
         };
       }
-  may_be_sent exactly (Ask a) none = restart_may a states.Asked (allowed (Ask a) (none_both _ _ none).0)
-  may_be_sent exactly (Approve a) none = restart_may a states.Approved (allowed (Approve a) (none_both _ _ none).0)
-  may_be_sent exactly (Stopped a) none = restart_may a states.Stopped (allowed (Stopped a) (none_both _ _ none).0)
-  may_be_sent exactly (Back a) none = restart_may a states.Up (allowed (Back a) (none_both _ _ none).0)
-  may_be_sent exactly (Fail a) none = restart_may a states.Failed (allowed (Fail a) (none_both _ _ none).0)
+  may_be_sent exactly acks were_made (Ask a) none waits =
+      restart_may a states.Asked (allowed (Ask a) (none_both _ _ none).0)
+  may_be_sent exactly acks were_made (Approve a) none waits =
+      restart_may a states.Approved (allowed (Approve a) (none_both _ _ none).0)
+  may_be_sent exactly acks were_made (Stopped a) none waits =
+      restart_may a states.Stopped (allowed (Stopped a) (none_both _ _ none).0)
+  may_be_sent exactly acks were_made (Back a) none waits =
+      restart_may a states.Up (allowed (Back a) (none_both _ _ none).0)
+  may_be_sent exactly acks were_made (Fail a) none waits =
+      restart_may a states.Failed (allowed (Fail a) (none_both _ _ none).0)
 
 module _ {Q P : Type 0} where
   -- the records and states that were read stood when the command was made

@@ -16,11 +16,13 @@ use Rattle.sm_place.specs.ServerState.{is_approved, is_failed, is_leaving, is_un
 use Rattle.sm_desk.specs.declared.command.Command.{Command}
 use Rattle.sm_desk.specs.declared.command.Command.TheVariants.{Change, Approve, Stopped}
 use Rattle.sm_desk.specs.Desk.{DeskView, desk_fault}
+use Rattle.sm_lead.specs.declared.ack_read.AckRead.{AckRead}
 use Rattle.sm_lead.specs.declared.follower.Follower.{Follower}
 use Rattle.sm_lead.specs.declared.next_step.NextStep.{NextStep}
 use Rattle.sm_lead.specs.declared.next_step.NextStep.TheVariants.{Takes, Waits, Nothing}
 use Rattle.sm_lead.specs.declared.store_control.StoreControl.{StoreControl}
 use Rattle.sm_lead.specs.Commands.{command_fault, read_at}
+use Rattle.sm_lead.specs.Waits.{lets_go}
 
 -- each of them has read the store up to this revision
 abbrev pub all_follow : List Follower → ℕ → Bool
@@ -43,19 +45,25 @@ heir_of desk k = option_map (λ row. row.id) (find (λ row. lets_reassign desk k
 abbrev pub reassignment : DeskView → ℕ → Option Command
 reassignment desk k = option_map (λ server. Change k (Reassign server)) (heir_of desk k)
 
--- how it goes on with a shard of this stand, of whose record all have read or not: a migration takes its next step, or
--- is given up before the shard is taken, where its next owner is leaving; what a failed server owns is paused, and then
--- reassigned
-abbrev pub step_of_stand : DeskView → Bool → ℕ → Stand → NextStep
-step_of_stand desk followed k Vacant = Nothing
-step_of_stand desk followed k (Serving owner) =
+-- it takes the step once this holds, and waits until then
+abbrev pub takes_once : Bool → Command → NextStep
+takes_once ready command = if ready then Takes command else Waits
+
+-- how it goes on with a shard of this stand, of whose record all have read or not, and which servers have acked or not:
+-- a migration takes its next step once its next owner is prepared, and then once its owner has let go; it is given up
+-- if its next owner is leaving before that, or has failed; what a failed server owns is paused, and then reassigned
+abbrev pub step_of_stand : DeskView → Bool → (ℕ → Bool) → ℕ → Stand → NextStep
+step_of_stand desk followed acked k Vacant = Nothing
+step_of_stand desk followed acked k (Serving owner) =
     if is_failed (state_of desk.books owner) then Takes (Change k Pause) else Nothing
-step_of_stand desk followed k (Prepared owner next) =
-    Takes (Change k (if is_leaving (state_of desk.books next) then Cancel else PrepareDropShard))
-step_of_stand desk followed k (Forwarding owner next) =
-    Takes (Change k (if is_leaving (state_of desk.books next) then Cancel else AddShard))
-step_of_stand desk followed k (Taken owner previous) = if followed then Takes (Change k DropShard) else Waits
-step_of_stand desk followed k (Paused owner) =
+step_of_stand desk followed acked k (Prepared owner next) =
+    if is_leaving (state_of desk.books next) then Takes (Change k Cancel)
+    else takes_once (acked next) (Change k PrepareDropShard)
+step_of_stand desk followed acked k (Forwarding owner next) =
+    if is_failed (state_of desk.books next) then Takes (Change k Cancel)
+    else takes_once (acked owner) (Change k AddShard)
+step_of_stand desk followed acked k (Taken owner previous) = takes_once followed (Change k DropShard)
+step_of_stand desk followed acked k (Paused owner) =
     if is_failed (state_of desk.books owner) then waits_for (reassignment desk k) else Nothing
 
 -- how it goes on with a server in this state: a restart that was asked for is approved, and one that was approved stops
@@ -94,10 +102,11 @@ unless_refused control (Takes command) = if is_none (command_fault control comma
 unless_refused control step = step
 
 -- the next step of a shard
-abbrev pub shard_step : StoreControl → List Follower → ℕ → NextStep
-shard_step control followers k =
+abbrev pub shard_step : StoreControl → List Follower → List AckRead → ℕ → NextStep
+shard_step control followers acks k =
     unless_refused control
-    (step_of_stand control.desk (all_follow followers (read_at control.records.items k).stood) k
+    (step_of_stand control.desk (all_follow followers (read_at control.records.items k).stood)
+    (lets_go control acks k) k
     (shard_at control.desk.books.shards k).stand)
 
 -- the next step of a server's restart

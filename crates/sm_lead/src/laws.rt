@@ -1,6 +1,6 @@
 //! Laws of controls and the store together.
 
-ghost use Rattle.std.specs.Prelude.{◌≡◌, ℕ, List, None};
+ghost use Rattle.std.specs.Prelude.{◌≡◌, ℕ, List, None, true};
 ghost use Rattle.sm_rows.specs.declared.domain_row.DomainRow.{DomainRow};
 ghost use Rattle.sm_rows.specs.declared.group_row.GroupRow.{GroupRow};
 ghost use Rattle.sm_rows.specs.declared.server_row.ServerRow.{ServerRow};
@@ -16,6 +16,7 @@ ghost use Rattle.sm_store.specs.Store.{Transaction, placement_of};
 ghost use Rattle.sm_store.specs.Deeds.{AreRight, Charter, MaySend};
 ghost use Rattle.sm_store.specs.Linear.{AsksFor};
 ghost use Rattle.sm_store.specs.System.{Ask};
+ghost use Rattle.sm_lead.specs.declared.ack_read.AckRead.{AckRead};
 ghost use Rattle.sm_lead.specs.declared.command_write.CommandWrite.{CommandWrite};
 ghost use Rattle.sm_lead.specs.declared.leadership.Leadership.{Leadership};
 ghost use Rattle.sm_lead.specs.declared.record_read.RecordRead.{RecordRead};
@@ -24,6 +25,7 @@ ghost use Rattle.sm_lead.specs.Commands.{IsAfter, command_fault, write_of};
 ghost use Rattle.sm_lead.specs.Controls.{CommandWasMade, IsLoaded, IsReadOf, KnowsStore};
 ghost use Rattle.sm_lead.specs.Placements.{HasRowsOf, books_in, charter_of, rows_of};
 ghost use Rattle.sm_lead.specs.Sendings.{command_transaction, compares_of, sending_of};
+ghost use Rattle.sm_lead.specs.Waits.{AreAcksMade, has_waited};
 
 use sm_desk::laws::{commands_keep_caps, commands_keep_soundness};
 use sm_ownership::laws::change_refused_exactly;
@@ -38,11 +40,11 @@ pub fn reading_is_known<Q, P>()
         → KnowsStore log control }
 {}
 
-/// A command that the control doesn't refuse may be sent.
+/// A command that the control doesn't refuse may be sent, once whoever it waits for has let go, by acks that were made.
 pub fn commands_may_be_sent<Q, P>()
     ensures { (parts : List (Item Q) → List P) (log : List (Transaction Q P)) (control : StoreControl)
-        (command : Command) → AreSound control.desk.books → KnowsStore log control
-        → command_fault control command ≡ None
+        (acks : List AckRead) (command : Command) → AreSound control.desk.books → KnowsStore log control
+        → AreAcksMade log acks → command_fault control command ≡ None → has_waited control acks command ≡ true
         → MaySend (charter_of (rows_of control.desk.books) control.desk.caps control.ceiling parts) log
         (command_transaction (sending_of control (write_of control command))) }
 {

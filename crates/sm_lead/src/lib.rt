@@ -15,6 +15,7 @@
 //! ```
 #![tactic(auto)]
 
+pub mod ack_read;
 pub mod command_sending;
 pub mod command_write;
 pub mod follower;
@@ -27,7 +28,9 @@ pub mod replay;
 pub mod sent_command;
 pub mod stepping;
 pub mod store_control;
+pub mod waiting;
 
+pub use ack_read::AckRead;
 pub use command_sending::CommandSending;
 pub use command_write::CommandWrite;
 pub use follower::{Follower, all_follow};

@@ -1,14 +1,16 @@
 //! How a control goes on with what it has read, as it would if it had led before.
 
-ghost use Rattle.std.specs.Prelude.{◌≡◌, IfOk, None, Some, if◌then◌else◌, not, ◌&&◌};
-ghost use Rattle.sm_ownership.specs.declared.change.Change.TheVariants.{Cancel};
+ghost use Rattle.std.specs.Prelude.{◌≡◌, IfOk, None, Some, not, ◌&&◌};
+ghost use Rattle.sm_desk.specs.declared.command.Command.TheVariants.{Change as ChangeOf};
 ghost use Rattle.sm_place.specs.Books.{shard_at, state_of};
-ghost use Rattle.sm_place.specs.ServerState.{is_approved, is_failed, is_leaving, is_unreached};
+ghost use Rattle.sm_place.specs.ServerState.{is_approved, is_failed, is_unreached};
 ghost use Rattle.sm_lead.specs.NextSteps.{IsAllowed, fallen, heir_of, is_following, lets_reassign, reassignment};
 ghost use Rattle.sm_lead.specs.NextSteps.{server_step, shard_step};
 ghost use Rattle.sm_lead.specs.NextSteps.{step_of_drain, step_of_moves, step_of_stand, step_of_state, unless_refused};
-ghost use Rattle.sm_lead.specs.NextSteps.{step_of_assignment, step_of_vacant, waits_for};
+ghost use Rattle.sm_lead.specs.NextSteps.{step_of_assignment, step_of_vacant, takes_once, waits_for};
+ghost use Rattle.sm_lead.specs.Waits.{lets_go};
 
+use crate::ack_read::AckRead;
 use crate::follower::{Follower, all_follow, is_following};
 use crate::next_step::NextStep;
 use crate::record_read::read_at;
@@ -22,15 +24,22 @@ use sm_ranges::stand::Stand;
 use std::alloc::{AllocError, Global};
 
 impl StoreControl {
-    /// How it goes on with the shard: a migration takes its next step, and ends once each follower has read that the
-    /// shard is taken; one to a server that is leaving is given up; what a failed server owns goes to another.
-    pub fn next_of_shard(&self, shard: ShardId, followers: &[Follower]) -> NextStep
-        ensures exact { result ≡ shard_step self.now followers.now shard }
+    /// How it goes on with the shard: a migration takes its next step once its next owner is prepared, and then once
+    /// its owner has let go; it ends once each follower has read that the shard is taken. One whose next owner is
+    /// leaving is given up before it forwards, and one whose next owner has failed before the shard is taken. What a
+    /// failed server owns goes to another.
+    pub fn next_of_shard(
+        &self,
+        shard: ShardId,
+        followers: &[Follower],
+        acks: &[AckRead],
+    ) -> NextStep
+        ensures exact { result ≡ shard_step self.now followers.now acks.now shard }
         ensures allowed { IsAllowed self.now result }
     {
         let followed = all_follow(followers, read_at(&self.records, shard).stood);
         let stand = stand_of(&self.desk, shard);
-        self.unless_refused(step_of_stand(&self.desk, followed, shard, &stand))
+        self.unless_refused(self.step_of_stand(followed, acks, shard, &stand))
     }
 
     /// How it goes on with the server's restart: one that was asked for is approved as soon as the caps allow it, and
@@ -81,6 +90,38 @@ impl StoreControl {
         }
     }
 
+    // The step of a shard of this stand, of whose record all have read or not.
+    fn step_of_stand(&self, followed: bool, acks: &[AckRead], k: ShardId, stand: &Stand) -> NextStep
+        ensures { result
+            ≡ step_of_stand self.now.desk followed (lets_go self.now acks.now k) k stand.now }
+    {
+        let desk = &self.desk;
+        match *stand {
+            Stand::Vacant => NextStep::Nothing,
+            Stand::Serving(owner) => if is_failed(state_of(desk, owner)) {
+                NextStep::Takes(Command::Change(k, Change::Pause))
+            } else {
+                NextStep::Nothing
+            },
+            Stand::Prepared { next, .. } => if state_of(desk, next).is_leaving() {
+                NextStep::Takes(Command::Change(k, Change::Cancel))
+            } else {
+                takes_once(self.lets_go(acks, k, next), k, Change::PrepareDropShard)
+            },
+            Stand::Forwarding { owner, next } => if is_failed(state_of(desk, next)) {
+                NextStep::Takes(Command::Change(k, Change::Cancel))
+            } else {
+                takes_once(self.lets_go(acks, k, owner), k, Change::AddShard)
+            },
+            Stand::Taken { .. } => takes_once(followed, k, Change::DropShard),
+            Stand::Paused(owner) => if is_failed(state_of(desk, owner)) {
+                step_of_reassignment(desk, k)
+            } else {
+                NextStep::Nothing
+            },
+        }
+    }
+
     // The step, or to wait where its command is refused.
     fn unless_refused(&self, step: NextStep) -> NextStep
         ensures exact { result ≡ unless_refused self.now step }
@@ -107,8 +148,8 @@ fn stand_of(desk: &Desk, shard: ShardId) -> Stand
     }
 }
 
-// The state of the server, Up where there is no such server.
-fn state_of(desk: &Desk, server: ServerId) -> ServerState
+/// Returns the state of the server, Up where there is no such server.
+pub(crate) fn state_of(desk: &Desk, server: ServerId) -> ServerState
     ensures { result ≡ state_of desk.now.books server }
 {
     desk.soundness();
@@ -119,7 +160,7 @@ fn state_of(desk: &Desk, server: ServerId) -> ServerState
     }
 }
 
-fn is_failed(state: ServerState) -> bool
+pub(crate) fn is_failed(state: ServerState) -> bool
     ensures { result ≡ is_failed state }
 {
     matches!(state, ServerState::Failed)
@@ -131,46 +172,14 @@ fn is_approved(state: ServerState) -> bool
     matches!(state, ServerState::Approved)
 }
 
-// The change, or `Cancel` where the server is leaving.
-fn or_cancel(desk: &Desk, next: ServerId, change: Change) -> Change
-    ensures { result ≡ (if is_leaving (state_of desk.now.books next) then Cancel else change) }
+// The step by this change, once that holds.
+fn takes_once(ready: bool, k: ShardId, change: Change) -> NextStep
+    ensures { result ≡ takes_once ready (ChangeOf k change) }
 {
-    if state_of(desk, next).is_leaving() {
-        Change::Cancel
+    if ready {
+        NextStep::Takes(Command::Change(k, change))
     } else {
-        change
-    }
-}
-
-// The step of a shard of this stand, of whose record all have read or not.
-fn step_of_stand(desk: &Desk, followed: bool, k: ShardId, stand: &Stand) -> NextStep
-    ensures { result ≡ step_of_stand desk.now followed k stand.now }
-{
-    match *stand {
-        Stand::Vacant => NextStep::Nothing,
-        Stand::Serving(owner) => if is_failed(state_of(desk, owner)) {
-            NextStep::Takes(Command::Change(k, Change::Pause))
-        } else {
-            NextStep::Nothing
-        },
-        Stand::Prepared { next, .. } => NextStep::Takes(Command::Change(
-            k,
-            or_cancel(desk, next, Change::PrepareDropShard),
-        )),
-        Stand::Forwarding { next, .. } => NextStep::Takes(Command::Change(
-            k,
-            or_cancel(desk, next, Change::AddShard),
-        )),
-        Stand::Taken { .. } => if followed {
-            NextStep::Takes(Command::Change(k, Change::DropShard))
-        } else {
-            NextStep::Waits
-        },
-        Stand::Paused(owner) => if is_failed(state_of(desk, owner)) {
-            step_of_reassignment(desk, k)
-        } else {
-            NextStep::Nothing
-        },
+        NextStep::Waits
     }
 }
 

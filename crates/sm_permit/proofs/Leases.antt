@@ -1,21 +1,23 @@
 -- A lease that a server's clock says lasts is the one under which its key lies in the store.
 use Rattle.std.proofs.Common.{◌≡◌, ℕ, ◌+◌, ◌<◌, ◌≤◌, ◌*◌, List, [], ◌∷◌, ◌++◌, refl, sym, ap}
-use Rattle.std.proofs.Common.{subst, ◌∙◌, arith, ⊎_elim, inl, inr, true, false}
+use Rattle.std.proofs.Common.{subst, ◌∙◌, append_assoc, arith, ⊎_elim, inl, inr, true, false}
 use Rattle.std.specs.Prelude.{◌==◌, Option, Some, None, IfSome}
 use Rattle.std.specs.List.{AllByRecursion}
 use Rattle.std.proofs.lemmas.Bool.{eqb-true, eq-eqb, cond-true, cond-false, cond_both, cases_Bool, cases_lt}
 use Rattle.std.proofs.lemmas.Option.{none-some, same_Some}
 use Rattle.std.proofs.lemmas.Nat.{mul-le}
 use Rattle.sm_store.specs.declared.store_key.PassingKey.{PassingKey}
-use Rattle.sm_store.specs.declared.store_key.PassingKey.TheVariants.{Leader, Server, Batch, Part, Other}
-use Rattle.sm_store.specs.Store.{Write, Leads, Stands, Enters, Commands, Settles, Heads, Executes, Bases, Follows}
+use Rattle.sm_store.specs.declared.store_key.PassingKey.TheVariants.{Leader, Server, Ack as AckKey, Batch, Part, Other}
+use Rattle.sm_store.specs.Store.{Write, Leads, Stands, Enters, Commands, Settles, Heads, Executes, Bases, Follows, Acks}
 use Rattle.sm_store.specs.Store.{Deletes, Elsewhere, IsRising, deletes_key, last_revision, left_by, revised}
-use Rattle.sm_store.specs.Store.{revision_of, same_passing, server_key}
+use Rattle.sm_store.specs.Store.{Transaction, made_at, revision_of, same_passing, server_key}
+use Rattle.sm_store.specs.Deeds.{Expiring, Following, done_at}
 use Rattle.sm_store.specs.lemmas.Parts.{has_none}
-use Rattle.sm_permit.specs.Timelines.{Lease, TimelineStep, TimedStep, Makes, Joins, Keeps, Leaves, Acks, Hands, IsUnder}
+use Rattle.sm_permit.specs.Timelines.{Lease, TimelineStep, TimedStep, Makes, Joins, Keeps, Leaves, Tells, Hands}
+use Rattle.sm_permit.specs.Timelines.{IsUnder}
 use Rattle.sm_permit.specs.Timelines.{gives_back_lease, kept_at, latest_moment, lease_after, lease_of, lease_with}
-use Rattle.sm_permit.specs.Timelines.{stored}
-use Rattle.sm_permit.specs.Waits.{HasWaited, IsOverAt, KeepsWaits, MayBeDeleted, MayStep}
+use Rattle.sm_permit.specs.Timelines.{stored, stored_with}
+use Rattle.sm_permit.specs.Waits.{IsInTime, IsOverAt, KeepsWaits, MayBeDeleted, MayStep}
 use Rattle.sm_permit.specs.Permits.{AreSafe, HasLease, IsGrant, IsTimely, Terms}
 
 -- the key lies under this lease, which was kept at this moment or before
@@ -62,13 +64,14 @@ module _ {Q P : Type 0} (span server : ℕ) where
       (λ (apart : (at == server) ≡ false). apart)
       (cases_Bool (at == server))
   is_another lease earlier moment early lives Leader may = refl
+  is_another lease earlier moment early lives (AckKey shard by) may = refl
   is_another lease earlier moment early lives (Batch shard number) may = refl
   is_another lease earlier moment early lives (Part shard number place) may = refl
   is_another lease earlier moment early lives Other may = refl
 
   -- so a key stays there after writes
   lives_writes : (lease : Lease) (earlier : List (TimedStep Q P)) (moment : ℕ) (writes : List (Write Q P))
-      (key : Option Lease) → AllByRecursion (HasWaited span earlier moment) writes → moment < lease.kept + span
+      (key : Option Lease) → AllByRecursion (IsInTime span earlier moment) writes → moment < lease.kept + span
       → Lives lease moment (lease_of server earlier) → Lives lease moment key
       → Lives lease moment (left_by (lease_after server) key writes)
   lives_writes lease earlier moment [] key waited early had lives = lives
@@ -94,6 +97,8 @@ module _ {Q P : Type 0} (span server : ℕ) where
   lives_writes lease earlier moment (Bases shard number place part ∷ writes) key waited early had lives =
       lives_writes lease earlier moment writes key waited.1 early had lives
   lives_writes lease earlier moment (Follows at read ∷ writes) key waited early had lives =
+      lives_writes lease earlier moment writes key waited.1 early had lives
+  lives_writes lease earlier moment (Acks at acks ∷ writes) key waited early had lives =
       lives_writes lease earlier moment writes key waited.1 early had lives
   lives_writes lease earlier moment (Elsewhere ∷ writes) key waited early had lives =
       lives_writes lease earlier moment writes key waited.1 early had lives
@@ -133,6 +138,7 @@ module _ {Q P : Type 0} (server now : ℕ) where
       there_writes writes key revision some is
   there_writes (Bases shard number place part ∷ writes) key revision some is =
       there_writes writes key revision some is
+  there_writes (Acks at acks ∷ writes) key revision some is = there_writes writes key revision some is
   there_writes (Elsewhere ∷ writes) key revision some is = there_writes writes key revision some is
 
 -- revisions rose before a step too, and it doesn't lower the store's
@@ -143,7 +149,7 @@ rose_before earlier moment revision (Makes txn) rising = rising.1
 rose_before earlier moment revision (Joins server read sent granted) rising = rising.1
 rose_before earlier moment revision (Keeps server sent) rising = rising
 rose_before earlier moment revision (Leaves server others) rising = rising.1
-rose_before earlier moment revision (Acks shard server joined generation) rising = rising.1
+rose_before earlier moment revision (Tells server joined read acks told) rising = rising.1
 rose_before earlier moment revision (Hands shard server joined generation) rising = rising
 
 stored_step : {Q P : Type 0} (earlier : List (TimedStep Q P)) (moment revision : ℕ) (step : TimelineStep Q P)
@@ -154,9 +160,32 @@ stored_step earlier moment revision (Makes txn) rising = let above = rising.0 in
 stored_step earlier moment revision (Joins server read sent granted) rising = let above = rising.0 in omega arith
 stored_step earlier moment revision (Keeps server sent) rising = omega arith
 stored_step earlier moment revision (Leaves server others) rising = let above = rising.0 in omega arith
-stored_step earlier moment revision (Acks shard server joined generation) rising =
+stored_step earlier moment revision (Tells server joined read acks told) rising =
     let above = rising.0 in omega arith
 stored_step earlier moment revision (Hands shard server joined generation) rising = omega arith
+
+stored_added : {Q P : Type 0} (revision : ℕ) (step : TimelineStep Q P) (log : List (Transaction Q P))
+    → (more : List (Transaction Q P)) × (stored_with revision step log ≡ more ++ log)
+stored_added revision (Makes txn) log = (made_at revision txn ∷ [], refl)
+stored_added revision (Joins server read sent granted) log = (done_at revision (Following server read [] 0) ∷ [], refl)
+stored_added revision (Keeps server sent) log = ([], refl)
+stored_added {Q = Q} {P = P} revision (Leaves server others) log =
+    (done_at revision (Expiring (Server server ∷ others)) ∷ [], refl)
+stored_added revision (Tells server joined read acks told) log =
+    (done_at revision (Following server read acks told) ∷ [], refl)
+stored_added revision (Hands shard server joined generation) log = ([], refl)
+
+-- the store's log after more steps is the one before, and more
+pub stored_more : {Q P : Type 0} (later timeline : List (TimedStep Q P))
+    → (more : List (Transaction Q P)) × (stored (later ++ timeline) ≡ more ++ stored timeline)
+stored_more [] timeline = ([], refl)
+stored_more {Q = Q} {P = P} (one ∷ later) timeline =
+    let rest = stored_more later timeline in
+    let added = stored_added one.revision one.step (stored (later ++ timeline)) in (
+      added.0 ++ rest.0,
+      added.1 ∙ ap (λ (log : List (Transaction Q P)). added.0 ++ log) rest.1
+          ∙ sym (append_assoc added.0 rest.0 (stored timeline)),
+    )
 
 -- the store's revision rises
 pub stored_grows : {Q P : Type 0} (later timeline : List (TimedStep Q P)) → IsRising (stored (later ++ timeline))
@@ -201,7 +230,10 @@ module _ {Q P : Type 0} (server : ℕ) where
       let above = rising.0 in
       there_writes {Q = Q} {P = P} server revision (Deletes (Server at ∷ others) ∷ [])
       (lease_of server earlier) _ (omega arith) is
-  there_step earlier moment revision (Acks shard at joined generation) rising is = is
+  there_step earlier moment revision (Tells at joined read acks told) rising is =
+      let above = rising.0 in
+      there_writes {Q = Q} {P = P} server revision (Follows at read ∷ Acks at acks ∷ [])
+      (lease_of server earlier) _ (omega arith) is
   there_step earlier moment revision (Hands shard at joined generation) rising is = is
 
   -- a server's key that lies under a lease is in the store
@@ -261,7 +293,7 @@ module _ {Q P : Type 0} (span server : ℕ) where
       subst (Lives lease moment)
       (sym (cond-false (deletes_key (Server at ∷ others) (Server server)) None (lease_of server earlier)
       (rw apart others_are))) still
-  lives_step lease earlier moment revision (Acks shard at joined generation) rising may le early stays lives =
+  lives_step lease earlier moment revision (Tells at joined read acks told) rising may le early stays lives =
       passes lease (latest_moment earlier) moment (lease_of server earlier) le lives
   lives_step lease earlier moment revision (Hands shard at joined generation) rising may le early stays lives =
       passes lease (latest_moment earlier) moment (lease_of server earlier) le lives
@@ -334,6 +366,7 @@ module _ {Q P : Type 0} (span server : ℕ) where
   under_writes joined (Executes shard number at items ∷ writes) key under = under_writes joined writes key under
   under_writes joined (Bases shard number place part ∷ writes) key under = under_writes joined writes key under
   under_writes joined (Follows at read ∷ writes) key under = under_writes joined writes key under
+  under_writes joined (Acks at acks ∷ writes) key under = under_writes joined writes key under
   under_writes joined (Elsewhere ∷ writes) key under = under_writes joined writes key under
 
   under_step : (earlier : List (TimedStep Q P)) (moment revision joined : ℕ) (step : TimelineStep Q P)
@@ -358,7 +391,7 @@ module _ {Q P : Type 0} (span server : ℕ) where
       let key = lease_of server earlier in
       cond_both (deletes_key (Server at ∷ others) (Server server)) None key (λ k. IsUnder joined k → IsUnder joined key)
       (λ same. under_none joined key) (λ apart under. under)
-  under_step earlier moment revision joined (Acks shard at its generation) rising within = λ under. under
+  under_step earlier moment revision joined (Tells at its read acks told) rising within = λ under. under
   under_step earlier moment revision joined (Hands shard at its generation) rising within = λ under. under
 
 -- what a clock allows has not passed

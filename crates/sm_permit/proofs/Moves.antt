@@ -8,10 +8,12 @@ use Rattle.sm_ownership.specs.declared.change.Change.{Change}
 use Rattle.sm_ownership.specs.declared.change.Change.TheVariants.{Assign, PrepareAddShard, PrepareDropShard, AddShard}
 use Rattle.sm_ownership.specs.declared.mode.Mode.TheVariants.{Direct, Forwarded}
 use Rattle.sm_place.specs.ServerState.{is_up}
-use Rattle.sm_store.specs.Store.{Transaction, last_revision, leader_of, stored_record}
-use Rattle.sm_store.specs.Deeds.{AreRight, Changing, Deed, Electing, Following, Foreign, IsChanged, WasRight}
+use Rattle.sm_store.specs.Store.{Transaction, last_revision, leader_of, placement_of, revision_of, server_key}
+use Rattle.sm_store.specs.Store.{stored_record}
+use Rattle.sm_store.specs.Waits.{HasWaited}
+use Rattle.sm_store.specs.Deeds.{AreRight, Changing, Deed, Electing, Following, IsChanged, WasRight}
 use Rattle.sm_store.specs.Deeds.{done_at, transaction_of}
-use Rattle.sm_permit.specs.Timelines.{Makes, Joins, Acks, Hands, stored}
+use Rattle.sm_permit.specs.Timelines.{Makes, Joins, Tells, Hands, stored}
 use Rattle.sm_permit.specs.Waits.{KeepsWaits}
 use Rattle.sm_permit.specs.Permits.{ByBytes, HasPermit}
 use Rattle.sm_permit.specs.Runs.{added, any_charter, assigned, changes, exact, forwarding, handed_over, some_terms}
@@ -25,39 +27,67 @@ module _ (Q P : Type 0) where
   change_right : (log : List (Transaction Q P)) (revision : ℕ) (change : Change) (stand : Stand) (generation read : ℕ)
       → last_revision log < revision → leader_of log ≡ 9
       → IsChanged 9 (stored_record 0 log) change (record { stand = stand; admitted = false; generation = generation })
+      → HasWaited log (placement_of log) 0 change
       → WasRight any_charter log (done_at revision (changing change stand generation read))
-  change_right log revision change stand generation read above leads changed =
+  change_right log revision change stand generation read above leads changed waited =
       record {
         above = above;
         deed = changing change stand generation read;
         is = refl;
-        right = record { within = omega arith; leads = leads; allowed = refl; changed = changed };
+        right = record {
+          within = omega arith;
+          leads = leads;
+          allowed = refl;
+          changed = changed;
+          waited = waited;
+        };
       }
 
-  join_right : (log : List (Transaction Q P)) (revision server : ℕ) → last_revision log < revision
-      → WasRight any_charter log (done_at revision (Following server 0))
-  join_right log revision server above =
-      record { above = above; deed = Following server 0; is = refl; right = tt }
+  join_right : (log : List (Transaction Q P)) (revision server read : ℕ) → last_revision log < revision
+      → revision_of (server_key server) log ≡ 0
+      → WasRight any_charter log (done_at revision (Following server read [] 0))
+  join_right log revision server read above absent =
+      record {
+        above = above;
+        deed = Following server read [] 0;
+        is = refl;
+        right = record { compared = absent; lets = tt };
+      }
 
   right_assigned : AreRight any_charter (stored (assigned {Q = Q} {P = P}))
   right_assigned = (
-    change_right _ 3 (Assign 1) (Serving 1) 1 0 (omega arith) refl (record { fits = refl; is = refl }),
-    (join_right _ 2 1 (omega arith), (record { above = omega arith; deed = Electing 9; is = refl; right = tt }, tt)),
+    change_right _ 3 (Assign 1) (Serving 1) 1 0 (omega arith) refl (record { fits = refl; is = refl }) tt,
+    (
+      join_right _ 2 1 0 (omega arith) refl,
+      (record { above = omega arith; deed = Electing 9; is = refl; right = tt }, tt),
+    ),
   )
 
   right_forwarding : AreRight any_charter (stored (forwarding {Q = Q} {P = P}))
   right_forwarding = (
-    change_right _ 6 PrepareDropShard (Forwarding 1 2) 3 5 (omega arith) refl (record { fits = refl; is = refl }),
+    change_right _ 6 PrepareDropShard (Forwarding 1 2) 3 5 (omega arith) refl (record { fits = refl; is = refl }) tt,
     (
-      change_right _ 5 (PrepareAddShard 2) (Prepared 1 2) 2 3 (omega arith) refl (record { fits = refl; is = refl }),
-      (join_right _ 4 2 (omega arith), right_assigned),
+      change_right _ 5 (PrepareAddShard 2) (Prepared 1 2) 2 3 (omega arith) refl (record { fits = refl; is = refl }) tt,
+      (join_right _ 4 2 0 (omega arith) refl, right_assigned),
     ),
   )
 
   pub right_added : AreRight any_charter (stored (added {Q = Q} {P = P}))
   right_added = (
-    change_right _ 8 AddShard (Taken 2 1) 4 6 (omega arith) refl (record { fits = refl; is = refl }),
-    (record { above = omega arith; deed = Foreign; is = refl; right = tt }, right_forwarding),
+    change_right _ 8 AddShard (Taken 2 1) 4 6 (omega arith) refl (record { fits = refl; is = refl })
+        (inl (omega arith)),
+    (
+      record {
+        above = omega arith;
+        deed = Following 1 6 (record { shard = 0; generation = 3 } ∷ []) 2;
+        is = refl;
+        right = record {
+          compared = refl;
+          lets = (inr (refl, λ is. let same = same_Some 2 1 is in omega arith), tt);
+        };
+      },
+      right_forwarding,
+    ),
   )
 
   waited_assigned : KeepsWaits 100 (assigned {Q = Q} {P = P})
@@ -80,13 +110,10 @@ module _ (Q P : Type 0) where
 
   pub waited_added : KeepsWaits 100 (added {Q = Q} {P = P})
   waited_added = (
-    (inl (omega arith), (tt, tt)),
+    (tt, (tt, tt)),
     omega arith,
     (
-      (
-        (record { joined = 2; kept = 1 }, refl, refl),
-        inr (refl, λ is. let same = same_Some 2 1 is in omega arith),
-      ),
+      (record { joined = 2; kept = 1 }, refl, refl),
       omega arith,
       (tt, omega arith, waited_forwarding),
     ),
@@ -159,7 +186,7 @@ module _ (Q P : Type 0) where
     lease = record { joined = 4; kept = 4 };
     has = record {
       since = changes 9 8 AddShard (Taken 2 1) 4 6
-          ∷ record { moment = 8; revision = 7; step = Acks 0 1 2 3 }
+          ∷ record { moment = 8; revision = 7; step = Tells 1 2 6 (record { shard = 0; generation = 3 } ∷ []) 2 }
           ∷ record { moment = 7; revision = 0; step = Hands 0 1 2 3 }
           ∷ changes 6 6 PrepareDropShard (Forwarding 1 2) 3 5
           ∷ changes 5 5 (PrepareAddShard 2) (Prepared 1 2) 2 3

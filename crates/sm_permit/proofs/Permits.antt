@@ -9,11 +9,11 @@ use Rattle.sm_ranges.specs.declared.stand.Stand.TheVariants.{Vacant, Serving, Pr
 use Rattle.sm_ownership.specs.declared.mode.Mode.{Mode}
 use Rattle.sm_ownership.specs.Rules.{accepts_at, executor_of, is_early}
 use Rattle.sm_place.specs.declared.server_state.ServerState.TheVariants.{Failed}
-use Rattle.sm_store.specs.Store.{last_revision, stored_record, stored_state}
+use Rattle.sm_store.specs.Store.{acked_of, last_revision, stored_record, stored_state}
 use Rattle.sm_store.specs.Deeds.{AreRight, Charter}
 use Rattle.sm_store.specs.lemmas.Views.{rising_of_right}
 use Rattle.sm_permit.specs.Timelines.{TimedStep, IsUnder, lease_of, stored}
-use Rattle.sm_permit.specs.Waits.{KeepsWaits, acked_of, let_go_of}
+use Rattle.sm_permit.specs.Waits.{KeepsWaits, let_go_of}
 use Rattle.sm_permit.specs.Permits.{AreSafe, ByAck, ByBytes, ByFailure, HasPermit, IsFreed, IsTimely, MayHaveBody}
 use Rattle.sm_permit.specs.Permits.{OnePermit, Terms}
 use Rattle.sm_permit.proofs.Acks.{acks_grow, executes_unacked, own_only, same_process}
@@ -41,7 +41,7 @@ named Vacant server is = absurd (none-some server is)
 named (Paused owner) server is = absurd (none-some server is)
 
 not_freed : {Q P : Type 0} (shard joined from : ℕ) (timeline older : List (TimedStep Q P)) (server : ℕ)
-    → IsUnder joined (lease_of server older) → acked_of shard server timeline < from
+    → IsUnder joined (lease_of server older) → acked_of shard server (stored timeline) < from
     → stored_state server (stored older) ≢ Failed → from ≤ (stored_record shard (stored older)).generation
     → let_go_of shard server joined timeline < from → IsFreed shard timeline older server → ⊥
 not_freed shard joined from timeline older server under acked stands since holds (ByAck freed) = omega arith
@@ -98,7 +98,7 @@ module _ {Q P : Type 0} (charter : Charter Q P) (terms : Terms) (safe : AreSafe 
   -- the server has let go of no record since the one that it read
   unacked : (clock : ℕ → ℕ) (server : ℕ) (mode : Mode) → IsTimely terms clock
       → (permit : HasPermit terms clock timeline now shard server mode)
-      → acked_of shard server timeline < (stored_record shard (stored permit.older)).generation
+      → acked_of shard server (stored timeline) < (stored_record shard (stored permit.older)).generation
   unacked clock server mode timely permit =
       let span = terms.length in
       let joined = permit.lease.joined in
@@ -107,14 +107,14 @@ module _ {Q P : Type 0} (charter : Charter Q P) (terms : Terms) (safe : AreSafe 
       let executes = accepted (stored_record shard (stored older)).stand server mode permit.accepts_it in
       let all = subst (λ (l : List (TimedStep Q P)). AreRight charter (stored l)) permit.read right in
       let waits = subst (KeepsWaits span) permit.read waited in
-      let begins = executes_unacked charter span shard server older (right_past charter permit.newer older all)
-      (waited_before span server permit.newer older waits) executes in
+      let begins = executes_unacked charter shard server (stored older)
+      (right_past charter permit.newer older all) executes in
       let under = subst (λ (l : List (TimedStep Q P)). IsUnder joined (lease_of server l)) permit.read
       (under_now clock server mode timely permit) in
       let holds = subst (λ (l : List (TimedStep Q P)). let_go_of shard server joined l < from) permit.read
       permit.holds in
-      subst (λ (l : List (TimedStep Q P)). acked_of shard server l < from) (sym permit.read)
-      (own_only charter span shard server joined from permit.newer older
+      subst (λ (l : List (TimedStep Q P)). acked_of shard server (stored l) < from) (sym permit.read)
+      (own_only span shard server joined from permit.newer older
       (rising_of_right charter (stored (permit.newer ++ older)) all) waits permit.under under holds begins)
 
   -- who read an older record is who read this one
@@ -140,9 +140,9 @@ module _ {Q P : Type 0} (charter : Charter Q P) (terms : Terms) (safe : AreSafe 
       under_since one joined another.newer last (rising_of_right charter (stored (another.newer ++ last)) all)
       (subst (λ (l : List (TimedStep Q P)). joined ≤ last_revision (stored l)) (sym later) (omega arith))
       (subst (λ (l : List (TimedStep Q P)). IsUnder joined (lease_of one l)) another.read under) in
-      let acked_last : acked_of shard one last < from =
+      let acked_last : acked_of shard one (stored last) < from =
       let more_acks = acks_grow shard one another.newer last in
-      let now_acked = subst (λ (l : List (TimedStep Q P)). acked_of shard one l < from) another.read acked in
+      let now_acked = subst (λ (l : List (TimedStep Q P)). acked_of shard one (stored l) < from) another.read acked in
       omega arith in
       let executes = accepted (stored_record shard (stored older)).stand one first permit.accepts_it in
       let still = subst (StillNamed charter span shard one joined from) (sym later)
@@ -150,7 +150,7 @@ module _ {Q P : Type 0} (charter : Charter Q P) (terms : Terms) (safe : AreSafe 
       (subst (KeepsWaits span) later (waited_before span one another.newer last waits))
       within
       (subst (λ (l : List (TimedStep Q P)). IsUnder joined (lease_of one l)) later under_last)
-      (subst (λ (l : List (TimedStep Q P)). acked_of shard one l < from) later acked_last)
+      (subst (λ (l : List (TimedStep Q P)). acked_of shard one (stored l) < from) later acked_last)
       (record {
         stands = permit.stands;
         named = named (stored_record shard (stored older)).stand one executes;

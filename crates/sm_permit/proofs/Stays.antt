@@ -2,7 +2,6 @@
 use Rattle.std.proofs.Common.{◌≡◌, ◌≢◌, ℕ, ◌<◌, ◌≤◌, List, [], ◌∷◌, ◌++◌, sym}
 use Rattle.std.proofs.Common.{subst, arith, ⊎_elim, inl, inr}
 use Rattle.std.specs.Prelude.{◌==◌, ◌⊎◌, Option, Some, None, IfSome, unwrap_or}
-use Rattle.std.specs.List.{AllByRecursion}
 use Rattle.std.proofs.lemmas.Bool.{cond_both}
 use Rattle.std.proofs.lemmas.Option.{none-some}
 use Rattle.sm_ranges.specs.declared.stand.Stand.{Stand}
@@ -14,17 +13,20 @@ use Rattle.sm_ownership.specs.declared.record.Record.{Record}
 use Rattle.sm_ownership.specs.Rules.{stand_after}
 use Rattle.sm_place.specs.declared.server_state.ServerState.{ServerState}
 use Rattle.sm_place.specs.declared.server_state.ServerState.TheVariants.{Failed}
-use Rattle.sm_store.specs.Store.{IsRising, Transaction, last_revision, made_at, stored_record, stored_state}
+use Rattle.sm_store.specs.Store.{IsRising, Transaction, acked_of, last_revision, made_at, placement_of, stored_record}
+use Rattle.sm_store.specs.Store.{stored_state}
 use Rattle.sm_store.specs.Deeds.{AreRight, Charter}
 use Rattle.sm_store.specs.Deeds.{WasRight}
 use Rattle.sm_store.specs.lemmas.Views.{rising_of_right}
-use Rattle.sm_permit.specs.Timelines.{TimelineStep, TimedStep, Makes, Joins, Keeps, Leaves, Acks, Hands, IsUnder}
+use Rattle.sm_permit.specs.Timelines.{TimelineStep, TimedStep, Makes, Joins, Keeps, Leaves, Tells, Hands, IsUnder}
 use Rattle.sm_permit.specs.Timelines.{lease_of}
 use Rattle.sm_permit.specs.Timelines.{stored}
-use Rattle.sm_permit.specs.Waits.{HasLetGo, HasWaited, KeepsWaits, MayStep, acked_of, gives_up}
+use Rattle.sm_store.specs.Waits.{HasLetGo, gives_up}
+use Rattle.sm_store.specs.lemmas.Records.{IsChange, record_step}
+use Rattle.sm_permit.specs.Waits.{KeepsWaits, MayStep}
 use Rattle.sm_permit.proofs.Leases.{rose_before, stored_grows, there, under_since}
 use Rattle.sm_permit.proofs.Acks.{acks_grow}
-use Rattle.sm_permit.proofs.Records.{IsChange, record_step, right_before, state_step}
+use Rattle.sm_permit.proofs.Records.{right_before, state_step}
 
 -- the server is the one that executes by a stand, or did by the one before and lets go by this one
 abbrev pub IsNamed : Stand → ℕ → Type 0
@@ -70,17 +72,16 @@ module _ {Q P : Type 0} (charter : Charter Q P) (span shard server joined from :
       Remains server from (stored_state server (stored timeline)) (stored_record shard (stored timeline))
 
   -- it didn't let go
-  not_let_go : (earlier : List (TimedStep Q P)) → acked_of shard server earlier < from → StillNamed earlier
-      → HasLetGo shard earlier server → ⊥
+  not_let_go : (earlier : List (TimedStep Q P)) → acked_of shard server (stored earlier) < from → StillNamed earlier
+      → HasLetGo (stored earlier) (placement_of (stored earlier)) shard server → ⊥
   not_let_go earlier holds was (inl acked) = let since = was.since in omega arith
   not_let_go earlier holds was (inr failed) = was.stands failed
 
-  made : (earlier : List (TimedStep Q P)) (moment : ℕ) (txn : Transaction Q P)
+  made : (earlier : List (TimedStep Q P)) (txn : Transaction Q P)
       → IsRising (stored earlier) → WasRight charter (stored earlier) txn
-      → AllByRecursion (HasWaited span earlier moment) txn.writes
-      → IsUnder joined (lease_of server earlier) → acked_of shard server earlier < from → StillNamed earlier
+      → IsUnder joined (lease_of server earlier) → acked_of shard server (stored earlier) < from → StillNamed earlier
       → Remains server from (stored_state server (txn ∷ stored earlier)) (stored_record shard (txn ∷ stored earlier))
-  made earlier moment txn rising right waited under holds was =
+  made earlier txn rising right under holds was =
       let log = stored earlier in
       let held = stored_record shard log in
       let stands = state_step charter server log txn right (there server earlier rising under.0 under.1) was.stands in
@@ -93,12 +94,11 @@ module _ {Q P : Type 0} (charter : Charter Q P) (span shard server joined from :
       })
       (λ (changed : IsChange shard log txn).
       let since = was.since in
-      let all = subst (AllByRecursion (HasWaited span earlier moment)) changed.writes waited in
       record {
         stands = stands;
         named = subst (λ (r : Record). IsNamed r.stand server) (sym changed.is)
-            (named_stays held.stand changed.change changed.after server (HasLetGo shard earlier) changed.leads
-            all.0 (not_let_go earlier holds was) was.named);
+            (named_stays held.stand changed.change changed.after server (HasLetGo log (placement_of log) shard)
+            changed.leads changed.waited (not_let_go earlier holds was) was.named);
         since = subst (λ (r : Record). from ≤ r.generation) (sym changed.is) (omega arith);
       })
       (record_step charter shard log txn right)
@@ -106,21 +106,21 @@ module _ {Q P : Type 0} (charter : Charter Q P) (span shard server joined from :
   step_stays : (earlier : List (TimedStep Q P)) (moment revision : ℕ) (step : TimelineStep Q P)
       → AreRight charter (stored (record { moment = moment; revision = revision; step = step } ∷ earlier))
       → MayStep span earlier moment step → IsUnder joined (lease_of server earlier)
-      → acked_of shard server earlier < from → StillNamed earlier
+      → acked_of shard server (stored earlier) < from → StillNamed earlier
       → StillNamed (record { moment = moment; revision = revision; step = step } ∷ earlier)
   step_stays earlier moment revision (Makes txn) right may under holds was =
-      made earlier moment (made_at revision txn) (rising_of_right charter (stored earlier) right.1) right.0 may under
+      made earlier (made_at revision txn) (rising_of_right charter (stored earlier) right.1) right.0 under
       holds was
   step_stays earlier moment revision (Joins at read sent granted) right may under holds was = was
   step_stays earlier moment revision (Keeps at sent) right may under holds was = was
   step_stays earlier moment revision (Leaves at others) right may under holds was = was
-  step_stays earlier moment revision (Acks at by its generation) right may under holds was = was
+  step_stays earlier moment revision (Tells by its read acks told) right may under holds was = was
   step_stays earlier moment revision (Hands at by its generation) right may under holds was = was
 
   -- and it still names the server after more steps
   pub stays : (newer older : List (TimedStep Q P)) → AreRight charter (stored (newer ++ older))
       → KeepsWaits span (newer ++ older) → joined ≤ last_revision (stored older)
-      → IsUnder joined (lease_of server (newer ++ older)) → acked_of shard server (newer ++ older) < from
+      → IsUnder joined (lease_of server (newer ++ older)) → acked_of shard server (stored (newer ++ older)) < from
       → StillNamed older → StillNamed (newer ++ older)
   stays [] older right waited within under holds was = was
   stays (one ∷ newer) older right waited within under holds was =

@@ -14,21 +14,23 @@ use Rattle.sm_ownership.specs.Rules.{accepts, executor, is_server}
 use Rattle.sm_place.specs.ServerState.{is_failed}
 use Rattle.sm_place.specs.declared.server_state.ServerState.{ServerState}
 use Rattle.sm_place.specs.declared.server_state.ServerState.TheVariants.{Up, Asked, Approved, Stopped, Failed}
-use Rattle.sm_store.specs.Store.{stored_record, stored_state}
+use Rattle.sm_store.specs.Store.{Ack, acked_among, acked_of, stored_record, stored_state}
 use Rattle.sm_store.specs.Deeds.{AreRight, Charter}
 use Rattle.sm_permit.specs.declared.hand_over.HandOver.{HandOver}
 use Rattle.sm_permit.specs.declared.shard_reading.ShardReading.{ShardReading}
 use Rattle.sm_permit.specs.declared.shard_view.ShardView.{ShardView}
-use Rattle.sm_permit.specs.Timelines.{Lease, TimelineStep, TimedStep, Makes, Joins, Keeps, Leaves, Acks, Hands, IsUnder}
+use Rattle.sm_permit.specs.Timelines.{Lease, TimelineStep, TimedStep, Makes, Joins, Keeps, Leaves, Tells, Hands}
+use Rattle.sm_permit.specs.Timelines.{IsUnder}
 use Rattle.sm_permit.specs.Timelines.{gives_back_lease, latest_moment, lease_of, stored}
-use Rattle.sm_permit.specs.Waits.{KeepsWaits, MayLetGo, acked_of, is_process, let_go_of, let_go_with}
+use Rattle.sm_store.specs.Waits.{MayLetGo}
+use Rattle.sm_permit.specs.Waits.{KeepsWaits, is_process, let_go_of, let_go_with}
 use Rattle.sm_permit.specs.Permits.{AreSafe, ByAck, ByBytes, ByFailure, HasLease, HasPermit, IsFreed, MayHaveBody}
 use Rattle.sm_permit.specs.Permits.{Terms}
 use Rattle.sm_permit.specs.Views.{AreOne, IsLettingGo, IsOfOthers, IsOwnerRead, IsReadingOf, StaysKnown, Knows}
 use Rattle.sm_permit.specs.Views.{WasGranted}
 use Rattle.sm_permit.specs.Views.{ack_frees, hand_over_frees, has_body, is_forwarder, joined_at, may_ack, may_execute}
 use Rattle.sm_permit.specs.Views.{new_view, view_acked, view_handed, view_kept, view_let_go, view_read}
-use Rattle.sm_permit.proofs.Acks.{acks_grow, let_go_rises}
+use Rattle.sm_permit.proofs.Acks.{acks_grow, among_within, let_go_rises}
 use Rattle.sm_permit.proofs.Permits.{one_permit}
 use Rattle.sm_permit.proofs.Records.{goes_on}
 
@@ -110,7 +112,7 @@ named_server (Some at) server is = eq-eqb at server (same_Some at server is)
 pub acks : {Q P : Type 0} (charter : Charter Q P) (terms : Terms) (clock : ℕ → ℕ) (timeline : List (TimedStep Q P))
     (now shard : ℕ) (view : ShardView) → AreRight charter (stored timeline)
     → Knows terms clock timeline now shard view → may_ack view ≡ true
-    → MayLetGo shard view.server view.reading.state.generation (stored timeline)
+    → MayLetGo view.server view.reading.state.generation (stored_record shard (stored timeline))
 acks {Q = Q} {P = P} charter terms clock timeline now shard view right knows is =
     let held = view.reading.state in
     let was = stored_record shard (stored knows.older) in
@@ -120,7 +122,8 @@ acks {Q = Q} {P = P} charter terms clock timeline now shard view right knows is 
     let other : executor held ≢ Some view.server =
     λ named. true≢false (sym (named_server (executor held) view.server named)
     ∙ not-true (is_server (executor held) view.server) is) in
-    subst (λ (l : List (TimedStep Q P)). MayLetGo shard view.server held.generation (stored l)) (sym knows.was_read)
+    subst (λ (l : List (TimedStep Q P)). MayLetGo view.server held.generation (stored_record shard (stored l)))
+    (sym knows.was_read)
     (⊎_elim
     (λ (still : stored_record shard (stored (knows.newer ++ knows.older)) ≡ was).
     subst (λ (r : Record). (held.generation < r.generation)
@@ -132,58 +135,58 @@ acks {Q = Q} {P = P} charter terms clock timeline now shard view right knows is 
 
 -- a step by which another process lets go, or nobody, leaves what this one has let go of
 not_own : {Q P : Type 0} (shard server joined before : ℕ) (step : TimelineStep Q P)
-    → ((generation : ℕ) → step ≢ Acks shard server joined generation)
+    → ((read : ℕ) (acks : List Ack) (told : ℕ) → step ≡ Tells server joined read acks told
+    → acked_among shard acks 0 ≡ 0)
     → ((generation : ℕ) → step ≢ Hands shard server joined generation)
-    → let_go_with shard server joined before step ≡ before
-not_own {Q = Q} {P = P} shard server joined before (Acks at by its generation) acks hands =
-    cond_both (is_process shard server joined at by its) (max generation before) before (λ k. k ≡ before)
+    → let_go_with shard server joined before step ≤ before
+not_own {Q = Q} {P = P} shard server joined before (Tells by its read acks told) tells hands =
+    cond_both (is_process server joined by its) (acked_among shard acks before) before (λ k. k ≤ before)
     (λ same.
-    let parts = and_parts (at == shard) (by == server && its == joined) same in
-    let own = and_parts (by == server) (its == joined) parts.1 in
-    absurd (acks generation
-    (ap (λ (n : ℕ). Acks n by its generation) (eqb-true at shard parts.0)
-    ∙ ap (λ (n : ℕ). Acks shard n its generation) (eqb-true by server own.0)
-    ∙ ap (λ (n : ℕ). Acks shard server n generation) (eqb-true its joined own.1))))
-    (λ apart. refl)
-not_own {Q = Q} {P = P} shard server joined before (Hands at by its generation) acks hands =
-    cond_both (is_process shard server joined at by its) (max generation before) before (λ k. k ≡ before)
+    let parts = and_parts (by == server) (its == joined) same in
+    let none = tells read acks told
+    (ap (λ (n : ℕ). Tells n its read acks told) (eqb-true by server parts.0)
+    ∙ ap (λ (n : ℕ). Tells server n read acks told) (eqb-true its joined parts.1)) in
+    among_within shard acks before before (omega arith) (omega arith))
+    (λ apart. omega arith)
+not_own {Q = Q} {P = P} shard server joined before (Hands at by its generation) tells hands =
+    cond_both (at == shard && is_process server joined by its) (max generation before) before (λ k. k ≤ before)
     (λ same.
-    let parts = and_parts (at == shard) (by == server && its == joined) same in
+    let parts = and_parts (at == shard) (is_process server joined by its) same in
     let own = and_parts (by == server) (its == joined) parts.1 in
     absurd (hands generation
     (ap (λ (n : ℕ). Hands n by its generation) (eqb-true at shard parts.0)
     ∙ ap (λ (n : ℕ). Hands shard n its generation) (eqb-true by server own.0)
     ∙ ap (λ (n : ℕ). Hands shard server n generation) (eqb-true its joined own.1))))
-    (λ apart. refl)
-not_own shard server joined before (Makes txn) acks hands = refl
-not_own shard server joined before (Joins at read sent granted) acks hands = refl
-not_own shard server joined before (Keeps at sent) acks hands = refl
-not_own shard server joined before (Leaves at others) acks hands = refl
+    (λ apart. omega arith)
+not_own shard server joined before (Makes txn) tells hands = omega arith
+not_own shard server joined before (Joins at read sent granted) tells hands = omega arith
+not_own shard server joined before (Keeps at sent) tells hands = omega arith
+not_own shard server joined before (Leaves at others) tells hands = omega arith
 
 -- a step by which a process lets go of its record goes no further than that
 lets_within : {Q P : Type 0} (shard before top : ℕ) (view : ShardView) (step : TimelineStep Q P) → before ≤ top
     → view.reading.state.generation ≤ top → IsLettingGo shard view step
     → let_go_with shard view.server view.joined before step ≤ top
-lets_within {Q = Q} {P = P} shard before top view step within most (inl is) =
-    let generation = view.reading.state.generation in
+lets_within {Q = Q} {P = P} shard before top view step within most (inl (read, acks, told, is, least)) =
     subst (λ (s : TimelineStep Q P). let_go_with shard view.server view.joined before s ≤ top) (sym is)
-    (cond_both (is_process shard view.server view.joined shard view.server view.joined) (max generation before) before
-    (λ k. k ≤ top) (λ same. omega arith) (λ apart. within))
+    (cond_both (is_process view.server view.joined view.server view.joined) (acked_among shard acks before) before
+    (λ k. k ≤ top) (λ same. among_within shard acks before top within (omega arith)) (λ apart. within))
 lets_within {Q = Q} {P = P} shard before top view step within most (inr is) =
     let generation = view.reading.state.generation in
     subst (λ (s : TimelineStep Q P). let_go_with shard view.server view.joined before s ≤ top) (sym is)
-    (cond_both (is_process shard view.server view.joined shard view.server view.joined) (max generation before) before
-    (λ k. k ≤ top) (λ same. omega arith) (λ apart. within))
+    (cond_both (shard == shard && is_process view.server view.joined view.server view.joined) (max generation before)
+    before (λ k. k ≤ top) (λ same. omega arith) (λ apart. within))
 
 lets_stay : {Q P : Type 0} (shard : ℕ) (view : ShardView) (step : TimelineStep Q P) → IsLettingGo shard view step
     → gives_back_lease view.server step ≡ false
-lets_stay shard view step (inl is) = ap (gives_back_lease view.server) is
+lets_stay shard view step (inl (read, acks, told, is, least)) = ap (gives_back_lease view.server) is
 lets_stay shard view step (inr is) = ap (gives_back_lease view.server) is
 
 -- who hands over, or acks, frees the shard by the record of whose owner it is
 freed_by_ack : {Q P : Type 0} (shard : ℕ) (timeline older : List (TimedStep Q P)) (stand : Stand)
     (server generation : ℕ) → is_forwarder stand server ≡ true
-    → (stored_record shard (stored older)).generation ≤ generation → generation ≤ acked_of shard server timeline
+    → (stored_record shard (stored older)).generation ≤ generation
+    → generation ≤ acked_of shard server (stored timeline)
     → MayHaveBody shard timeline older stand
 freed_by_ack {Q = Q} {P = P} shard timeline older (Forwarding owner next) server generation forwards within acked =
     let same = eqb-true owner server forwards in
@@ -342,7 +345,7 @@ module _ {Q P : Type 0} (terms : Terms) (clock : ℕ → ℕ) (timeline : List (
         let_go_is = knows.let_go_is;
       }
 
-  acked : (server generation : ℕ) → generation ≤ acked_of shard server timeline
+  acked : (server generation : ℕ) → generation ≤ acked_of shard server (stored timeline)
       → Knows terms clock timeline now shard (view_acked view server generation)
   acked server generation has =
       now_freed (view.freed || ack_frees view.reading server generation)

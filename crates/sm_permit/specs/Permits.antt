@@ -6,10 +6,10 @@ use Rattle.sm_ranges.specs.declared.stand.Stand.TheVariants.{Forwarding}
 use Rattle.sm_ownership.specs.declared.mode.Mode.{Mode}
 use Rattle.sm_ownership.specs.Rules.{accepts}
 use Rattle.sm_place.specs.declared.server_state.ServerState.TheVariants.{Failed}
-use Rattle.sm_store.specs.Store.{last_revision, stored_record, stored_state}
+use Rattle.sm_store.specs.Store.{acked_of, last_revision, stored_record, stored_state}
 use Rattle.sm_permit.specs.Timelines.{Lease, TimelineStep, TimedStep, Joins, Keeps, IsUnder, gives_back_lease}
 use Rattle.sm_permit.specs.Timelines.{latest_moment, lease_of, stored}
-use Rattle.sm_permit.specs.Waits.{acked_of, let_go_of}
+use Rattle.sm_permit.specs.Waits.{let_go_of}
 
 -- the length of leases in moments, the ticks of its own clock for which a server goes by a lease, and the drift: while
 -- a clock counts `ticks`, at most `moments` pass
@@ -49,7 +49,7 @@ pub record HasLease {Q P : Type 0} (timeline : List (TimedStep Q P)) (server sen
 -- why the next owner may execute what an owner forwards to it by a record that it read at an older moment
 pub data IsFreed {Q P : Type 0} (shard : ℕ) (timeline older : List (TimedStep Q P)) (owner : ℕ) : Type 0 where
   -- the owner acked that it let go
-  ByAck : (stored_record shard (stored older)).generation ≤ acked_of shard owner timeline
+  ByAck : (stored_record shard (stored older)).generation ≤ acked_of shard owner (stored timeline)
       → IsFreed shard timeline older owner
   -- the owner's process, whose key was read with the record, has let go, as the bytes say that it handed over
   ByBytes : (joined : ℕ) → IsUnder joined (lease_of owner older)

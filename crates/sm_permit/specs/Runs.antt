@@ -6,7 +6,7 @@ use Rattle.sm_ownership.specs.declared.change.Change.{Change}
 use Rattle.sm_ownership.specs.declared.change.Change.TheVariants.{Assign, PrepareAddShard, PrepareDropShard, AddShard}
 use Rattle.sm_ownership.specs.declared.mode.Mode.TheVariants.{Direct, Forwarded}
 use Rattle.sm_store.specs.Deeds.{AreRight, Charter, Changing, Electing, transaction_of}
-use Rattle.sm_permit.specs.Timelines.{TimedStep, Makes, Joins, Acks, Hands, stored}
+use Rattle.sm_permit.specs.Timelines.{TimedStep, Makes, Joins, Tells, Hands, stored}
 use Rattle.sm_permit.specs.Waits.{KeepsWaits}
 use Rattle.sm_permit.specs.Permits.{AreSafe, HasPermit, IsTimely, Terms}
 
@@ -63,7 +63,7 @@ handed_over = record { moment = 7; revision = 0; step = Hands 0 1 2 3 } ∷ forw
 abbrev pub added : {Q P : Type 0} → List (TimedStep Q P)
 added =
     changes 9 8 AddShard (Taken 2 1) 4 6
-    ∷ record { moment = 8; revision = 7; step = Acks 0 1 2 3 }
+    ∷ record { moment = 8; revision = 7; step = Tells 1 2 6 (record { shard = 0; generation = 3 } ∷ []) 2 }
     ∷ handed_over
 
 -- the run keeps all that the law asks. Before it hands over server 1 may still execute, by the record by which it was

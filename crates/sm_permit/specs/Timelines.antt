@@ -3,8 +3,8 @@
 use Rattle.std.specs.Prelude.{ℕ, Bool, false, Option, Some, None, ◌≡◌, ◌==◌, List, [], ◌∷◌, if◌then◌else◌}
 use Rattle.sm_store.specs.declared.store_key.PassingKey.{PassingKey}
 use Rattle.sm_store.specs.declared.store_key.PassingKey.TheVariants.{Server}
-use Rattle.sm_store.specs.Deeds.{Expiring, Following, Foreign, done_at}
-use Rattle.sm_store.specs.Store.{Transaction, Write, Deletes, deletes_key, left_by, made_at}
+use Rattle.sm_store.specs.Deeds.{Expiring, Following, done_at}
+use Rattle.sm_store.specs.Store.{Ack, Transaction, Write, Deletes, deletes_key, left_by, made_at}
 
 -- the lease under which a server's key lies in the store: the revision at which a process put the key there, which
 -- stands for that process, and the moment at which the store granted the lease, or kept it last
@@ -24,10 +24,11 @@ pub data TimelineStep (Q P : Type 0) : Type 0 where
   -- the process gives back the lease of its server's key, and executes no more under it; with the key go others that
   -- lie under the lease, as that of who leads
   Leaves : (server : ℕ) (others : List PassingKey) → TimelineStep Q P
-  -- the store makes an ack of the process that joined at this revision: it executes no more by the shard's records up
-  -- to this generation
-  Acks : (shard server joined generation : ℕ) → TimelineStep Q P
-  -- that process hands the shard's body over, in bytes that name it and the generation: the same holds from then on
+  -- the process that joined at this revision tells up to which one it has read, and what it acks: it executes no more
+  -- by those records. It wrote its server's key last at the revision `told`
+  Tells : (server joined read : ℕ) (acks : List Ack) (told : ℕ) → TimelineStep Q P
+  -- that process hands a shard's body over, in bytes that name it and the generation: it executes no more by the
+  -- shard's records up to this generation
   Hands : (shard server joined generation : ℕ) → TimelineStep Q P
 
 -- a step at its moment; if it writes to the store, the store does so at this revision
@@ -49,10 +50,10 @@ latest_moment (one ∷ earlier) = one.moment
 -- what a step leaves of the store's log, to which it writes at this revision if at all
 abbrev pub stored_with : {Q P : Type 0} → ℕ → TimelineStep Q P → List (Transaction Q P) → List (Transaction Q P)
 stored_with revision (Makes txn) log = made_at revision txn ∷ log
-stored_with revision (Joins server read sent granted) log = done_at revision (Following server read) ∷ log
+stored_with revision (Joins server read sent granted) log = done_at revision (Following server read [] 0) ∷ log
 stored_with revision (Keeps server sent) log = log
 stored_with revision (Leaves server others) log = done_at revision (Expiring (Server server ∷ others)) ∷ log
-stored_with revision (Acks shard server joined generation) log = done_at revision Foreign ∷ log
+stored_with revision (Tells server joined read acks told) log = done_at revision (Following server read acks told) ∷ log
 stored_with revision (Hands shard server joined generation) log = log
 
 -- the store's log
@@ -78,7 +79,7 @@ lease_with server moment revision before (Joins at read sent granted) =
 lease_with server moment revision before (Keeps at sent) = if at == server then kept_at moment before else before
 lease_with server moment revision before (Leaves at others) =
     if deletes_key (Server at ∷ others) (Server server) then None else before
-lease_with server moment revision before (Acks shard at joined generation) = before
+lease_with server moment revision before (Tells at joined read acks told) = before
 lease_with server moment revision before (Hands shard at joined generation) = before
 
 -- the lease under which a server's key lies, if it is there

@@ -9,13 +9,13 @@ use Rattle.sm_ownership.specs.declared.mode.Mode.{Mode}
 use Rattle.sm_ownership.specs.History.{vacant}
 use Rattle.sm_ownership.specs.Rules.{accepts, executor, is_server}
 use Rattle.sm_place.specs.ServerState.{is_failed}
-use Rattle.sm_store.specs.Store.{last_revision, stored_record, stored_state}
+use Rattle.sm_store.specs.Store.{Ack, acked_among, acked_of, last_revision, stored_record, stored_state}
 use Rattle.sm_permit.specs.declared.hand_over.HandOver.{HandOver}
 use Rattle.sm_permit.specs.declared.shard_reading.ShardReading.{ShardReading}
 use Rattle.sm_permit.specs.declared.shard_view.ShardView.{ShardView}
-use Rattle.sm_permit.specs.Timelines.{Lease, TimelineStep, TimedStep, Acks, Hands, gives_back_lease, latest_moment}
+use Rattle.sm_permit.specs.Timelines.{Lease, TimelineStep, TimedStep, Tells, Hands, gives_back_lease, latest_moment}
 use Rattle.sm_permit.specs.Timelines.{lease_of, stored}
-use Rattle.sm_permit.specs.Waits.{acked_of, let_go_of}
+use Rattle.sm_permit.specs.Waits.{let_go_of}
 use Rattle.sm_permit.specs.Permits.{HasLease, IsTimely, MayHaveBody, Terms}
 
 -- the revision at which a key's process joined, 0 if the key isn't there
@@ -137,16 +137,23 @@ AreOne terms timeline =
     → may_execute view first (clock now) ≡ true → may_execute another second (counter now) ≡ true
     → (view.server ≡ another.server) × (view.joined ≡ another.joined)
 
+-- the step is of this process, and acks nothing of the shard beyond this generation
+abbrev pub TellsWithin : {Q P : Type 0} → ℕ → ShardView → ℕ → TimelineStep Q P → Type 0
+TellsWithin {Q = Q} {P = P} shard view generation step =
+    (read : ℕ) × (acks : List Ack) × (told : ℕ) × (step ≡ Tells view.server view.joined read acks told)
+    × (acked_among shard acks 0 ≤ generation)
+
 -- the step lets go of the process's record
 abbrev pub IsLettingGo : {Q P : Type 0} → ℕ → ShardView → TimelineStep Q P → Type 0
 IsLettingGo {Q = Q} {P = P} shard view step =
-    (step ≡ Acks shard view.server view.joined view.reading.state.generation)
+    TellsWithin shard view view.reading.state.generation step
     ⊎ (step ≡ Hands shard view.server view.joined view.reading.state.generation)
 
 -- by the step the process lets go of nothing of the shard, nor leaves
 pub record IsOfOthers {Q P : Type 0} (shard : ℕ) (view : ShardView) (step : TimelineStep Q P) : Type 0 where
   pub stays : gives_back_lease view.server step ≡ false
-  pub acks : (generation : ℕ) → step ≢ Acks shard view.server view.joined generation
+  pub acks : (read : ℕ) (acks : List Ack) (told : ℕ) → step ≡ Tells view.server view.joined read acks told
+      → acked_among shard acks 0 ≡ 0
   pub hands : (generation : ℕ) → step ≢ Hands shard view.server view.joined generation
 
 -- the process's lease is by what it asked for at a moment, for which it goes by this time of its clock
@@ -165,7 +172,7 @@ pub record StaysKnown {Q P : Type 0} (terms : Terms) (clock : ℕ → ℕ) (time
       → Knows terms clock timeline now shard (view_kept view until)
   pub read : (newer older : List (TimedStep Q P)) (reading : ShardReading) → timeline ≡ newer ++ older
       → IsReadingOf older shard view.server reading → Knows terms clock timeline now shard (view_read view reading)
-  pub acked : (server generation : ℕ) → generation ≤ acked_of shard server timeline
+  pub acked : (server generation : ℕ) → generation ≤ acked_of shard server (stored timeline)
       → Knows terms clock timeline now shard (view_acked view server generation)
   pub handed : (hand : HandOver) → hand.generation ≤ let_go_of shard hand.server hand.joined timeline
       → Knows terms clock timeline now shard (view_handed view hand)

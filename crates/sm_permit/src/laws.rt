@@ -1,15 +1,15 @@
 //! The law of permits.
 
-ghost use Rattle.std.specs.Prelude.{◌≡◌, ◌≤◌, ℕ, Bool, true, List};
+ghost use Rattle.std.specs.Prelude.{◌≡◌, ◌≤◌, ℕ, true, List};
 ghost use Rattle.sm_ownership.specs.declared.mode.Mode.{Mode};
-ghost use Rattle.sm_place.specs.declared.server_state.ServerState.TheVariants.{Failed};
-ghost use Rattle.sm_store.specs.Store.{stored_record, stored_state};
+ghost use Rattle.sm_store.specs.Store.{stored_record};
 ghost use Rattle.sm_store.specs.Clients.{Automaton};
 ghost use Rattle.sm_store.specs.System.{Event, MightHappen, system_after};
 ghost use Rattle.sm_store.specs.Deeds.{AreRight, Charter};
 ghost use Rattle.sm_permit.specs.declared.shard_view.ShardView.{ShardView};
 ghost use Rattle.sm_permit.specs.Timelines.{TimedStep, latest_moment, stored};
-ghost use Rattle.sm_permit.specs.Waits.{HasLetGo, KeepsWaits, MayLetGo, acked_of, has_let_go, let_go_of};
+ghost use Rattle.sm_store.specs.Waits.{MayLetGo};
+ghost use Rattle.sm_permit.specs.Waits.{KeepsWaits, let_go_of};
 ghost use Rattle.sm_permit.specs.Permits.{AreSafe, HasPermit, OnePermit, Terms};
 ghost use Rattle.sm_permit.specs.Runs.{IsMoved};
 ghost use Rattle.sm_permit.specs.Views.{AreOne, StaysKnown, Knows, WasGranted, may_ack, may_execute, new_view};
@@ -17,8 +17,8 @@ ghost use Rattle.sm_permit.specs.Views.{AreOne, StaysKnown, Knows, WasGranted, m
 use sm_store::laws::runs_are_lawful;
 
 /// At each moment at most one process may execute for a shard. Take any timeline whose log keeps the law of the store,
-/// as it does in every run. If the store ends no lease early, no clock is slower than the terms say, and each change
-/// waited for who executed before, then two permits of one shard at one moment are of one process.
+/// as it does in every run: so each change has waited for who executed before. If the store ends no lease early and no
+/// clock is slower than the terms say, then two permits of one shard at one moment are of one process.
 pub fn one_permit<Q, P>()
     ensures { (charter : Charter Q P) (terms : Terms) (timeline : List (TimedStep Q P)) → AreSafe terms
         → AreRight charter (stored timeline) → KeepsWaits terms.length timeline → OnePermit terms timeline }
@@ -46,7 +46,7 @@ pub fn views_decide<Q, P>()
     ensures acks { (charter : Charter Q P) (terms : Terms) (clock : ℕ → ℕ) (timeline : List (TimedStep Q P))
         (now shard : ℕ) (view : ShardView) → AreRight charter (stored timeline)
         → Knows terms clock timeline now shard view → may_ack view ≡ true
-        → MayLetGo shard view.server view.reading.state.generation (stored timeline) }
+        → MayLetGo view.server view.reading.state.generation (stored_record shard (stored timeline)) }
 {}
 
 /// What a process knows is so once it has joined, and stays so by each call that tells it more, and while others act.
@@ -57,14 +57,6 @@ pub fn views_know<Q, P>()
         → Knows terms clock timeline now shard (new_view server joined until) }
     ensures told { (terms : Terms) (clock : ℕ → ℕ) (timeline : List (TimedStep Q P)) (now shard : ℕ) (view : ShardView)
         → Knows terms clock timeline now shard view → StaysKnown terms clock timeline now shard view }
-{}
-
-/// If a control read the record as it is, an ack that was made, and no failure that isn't so, then the server for whom
-/// its change waits has let go when `has_let_go` says so.
-pub fn controls_wait<Q, P>()
-    ensures { (timeline : List (TimedStep Q P)) (shard server acked : ℕ) (failed : Bool)
-        → acked ≤ acked_of shard server timeline → (failed ≡ true → stored_state server (stored timeline) ≡ Failed)
-        → has_let_go (stored_record shard (stored timeline)) acked failed ≡ true → HasLetGo shard timeline server }
 {}
 
 /// There is a run that keeps all of this, in which a permit is given, and goes from one server to another.

@@ -1,6 +1,6 @@
 //! Permits: which process may execute a shard's requests at a moment, by leases and by clocks that are slow by at most
-//! a bound. A process of a server keeps a view of the shard, and asks it before each request. A control asks for whom
-//! a change of the shard's record waits. Nothing here reads a clock or a store.
+//! a bound. A process of a server keeps a view of the shard, and asks it before each request. Nothing here reads a
+//! clock or a store.
 //!
 //! ```rust
 //! let next = ShardView::new(two, 4, 94).read(reading(forwarding, 3, 6));
@@ -18,9 +18,7 @@ pub mod hand_over;
 pub mod laws;
 pub mod shard_reading;
 pub mod shard_view;
-pub mod waits;
 
 pub use hand_over::HandOver;
 pub use shard_reading::ShardReading;
 pub use shard_view::ShardView;
-pub use waits::{has_let_go, waits_for};

@@ -274,4 +274,5 @@ clear_may charter log shard logged head (keys.Part at number place) found behind
     )
 clear_may charter log shard logged head keys.Leader found behind = absurd (true≢false (sym behind))
 clear_may charter log shard logged head (keys.Server server) found behind = absurd (true≢false (sym behind))
+clear_may charter log shard logged head (keys.Ack at by) found behind = absurd (true≢false (sym behind))
 clear_may charter log shard logged head keys.Other found behind = absurd (true≢false (sym behind))

@@ -6,7 +6,7 @@ use Rattle.std.proofs.lemmas.Bool.{eqb-true}
 use Rattle.sm_store.specs.declared.item.Item.{Item}
 use Rattle.sm_store.specs.Clients.{Automaton, state_after}
 use Rattle.sm_store.specs.Store.{Transaction, Write, Leads, Stands, Enters, Commands, Settles, Heads, Executes, Bases}
-use Rattle.sm_store.specs.Store.{Follows, Deletes, Elsewhere, executed_by, head_key, made, made_by, touches}
+use Rattle.sm_store.specs.Store.{Follows, Acks, Deletes, Elsewhere, executed_by, head_key, made, made_by, touches}
 use Rattle.sm_store.specs.Linear.{Operation, of_shard}
 use Rattle.sm_store.proofs.Orders.{after_append, makes, makes_append, makes_other, makes_own, of_append}
 
@@ -41,6 +41,7 @@ module _ {Q P : Type 0} where
   executed_step shard (Heads at head) writes = none_first (0 == shard) (executed_by shard writes)
   executed_step shard (Bases at number place part) writes = none_first (0 == shard) (executed_by shard writes)
   executed_step shard (Follows server revision) writes = none_first (0 == shard) (executed_by shard writes)
+  executed_step shard (Acks server acks) writes = none_first (0 == shard) (executed_by shard writes)
   executed_step shard (Deletes keys) writes = none_first (0 == shard) (executed_by shard writes)
   executed_step shard Elsewhere writes = none_first (0 == shard) (executed_by shard writes)
 

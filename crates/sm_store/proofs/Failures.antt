@@ -37,7 +37,7 @@ module _ {Q P : Type 0} (charter : Charter Q P) where
   absent_one log (Basing shard number place part) server right was now = absurd (was now)
   absent_one log (Naming shard head number parts logged) server right was now = absurd (was now)
   absent_one log (Clearing keys) server right was now = absurd (was now)
-  absent_one log (Following at revision) server right was now = absurd (was now)
+  absent_one log (Following at revision acks told) server right was now = absurd (was now)
   absent_one log (Checking compares) server right was now = absurd (was now)
   absent_one log Foreign server right was now = absurd (was now)
 

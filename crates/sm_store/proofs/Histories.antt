@@ -216,7 +216,7 @@ module _ {Q P : Type 0} (charter : Charter Q P) (ceiling : ℕ) where
   deed_step log (Clearing keys) earlier right room agrees = agrees
   deed_step log (Restarting process server state elected placed) earlier right room agrees = agrees
   deed_step log (Settling settings) earlier right room agrees = agrees
-  deed_step log (Following server revision) earlier right room agrees = agrees
+  deed_step log (Following server revision acks told) earlier right room agrees = agrees
   deed_step log (Checking compares) earlier right room agrees = agrees
   deed_step log Foreign earlier right room agrees = agrees
 
@@ -230,7 +230,7 @@ module _ {Q P : Type 0} (charter : Charter Q P) (ceiling : ℕ) where
   no_shorter (Clearing keys) earlier = omega arith
   no_shorter (Restarting process server state elected placed) earlier = omega arith
   no_shorter (Settling settings) earlier = omega arith
-  no_shorter (Following server revision) earlier = omega arith
+  no_shorter (Following server revision acks told) earlier = omega arith
   no_shorter (Checking compares) earlier = omega arith
   no_shorter Foreign earlier = omega arith
 

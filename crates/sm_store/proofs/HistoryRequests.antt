@@ -116,7 +116,7 @@ module _ {Q P : Type 0} (charter : Charter Q P) where
   requests_of_deed k (Restarting process server state elected placed) earlier =
       sym (append-nil (all_of (reverse earlier) k))
   requests_of_deed k (Settling settings) earlier = sym (append-nil (all_of (reverse earlier) k))
-  requests_of_deed k (Following server revision) earlier = sym (append-nil (all_of (reverse earlier) k))
+  requests_of_deed k (Following server revision acks told) earlier = sym (append-nil (all_of (reverse earlier) k))
   requests_of_deed k (Checking compares) earlier = sym (append-nil (all_of (reverse earlier) k))
   requests_of_deed k Foreign earlier = sym (append-nil (all_of (reverse earlier) k))
 

@@ -8,20 +8,22 @@ use Rattle.sm_place.specs.declared.server_state.ServerState.TheVariants.{Failed}
 use Rattle.sm_store.specs.declared.head.Head.{Head}
 use Rattle.sm_store.specs.declared.item.Item.{Item}
 use Rattle.sm_store.specs.declared.store_key.PassingKey.{PassingKey}
-use Rattle.sm_store.specs.declared.store_key.PassingKey.TheVariants.{Leader, Server, Batch, Part, Other}
-use Rattle.sm_store.specs.Store.{Transaction, all_hold, head_key, head_of, leader_key, leader_of, made, part_at}
+use Rattle.sm_store.specs.declared.store_key.PassingKey.TheVariants.{Leader, Server, Ack as AckKey, Batch, Part, Other}
+use Rattle.sm_store.specs.Store.{Ack, Transaction, all_hold, head_key, head_of, leader_key, leader_of, made, part_at}
 use Rattle.sm_store.specs.Store.{Placement, placement_key, placement_of, record_key, revision_of, settings_key}
 use Rattle.sm_store.specs.Store.{IsRising, made_at, server_key, stored_settings, stored_record}
 use Rattle.sm_store.specs.Deeds.{Charter, Deed, Electing, Expiring, Changing, Executing, Basing, Naming, Clearing}
 use Rattle.sm_store.specs.Deeds.{Following, Restarting, Settling, Checking, Foreign, transaction_of, at, AreAccepted}
 use Rattle.sm_store.specs.Deeds.{absence_compares, done_at}
-use Rattle.sm_store.specs.Deeds.{IsChanged, ShardLog}
+use Rattle.sm_store.specs.Deeds.{IsChanged, MayAck, ShardLog}
 use Rattle.sm_store.specs.Deeds.{shard_log, WasFound, MayDo, MayName, MayClear, IsHonest, IsBehind, IsRight}
 use Rattle.sm_store.specs.Deeds.{HasLed, IsRightBase, AreRight}
+use Rattle.sm_store.specs.Waits.{HasWaited, MayLetGo}
 use Rattle.sm_store.specs.lemmas.Heads.{read_until, risen}
 use Rattle.sm_store.specs.lemmas.Heart.{first_held, stands, stands_among, unwritten}
 use Rattle.sm_store.specs.lemmas.Logs.{all_map}
 use Rattle.sm_store.specs.lemmas.Parts.{part_is, part_stays}
+use Rattle.sm_store.specs.lemmas.Records.{IsSince, record_since}
 use Rattle.sm_store.specs.lemmas.Views.{IsOfDeed, deeds_of_right, head_view, leader_view, log_view, placement_view}
 use Rattle.sm_store.specs.lemmas.Views.{record_view, rising_of_right, settings_view}
 
@@ -68,6 +70,7 @@ module _ {Q P : Type 0} (charter : Charter Q P) where
       let behind = head_behind log shard may.0 may.1 right may.2 in let below = may.3 in omega arith
   clear_right log Leader right may = may
   clear_right log (Server server) right may = may
+  clear_right log (AckKey at by) right may = may
   clear_right log Other right may = may
 
   leads_still : (log : List (Transaction Q P)) (process elected : ℕ) → IsRising log → HasLed log process elected
@@ -94,6 +97,25 @@ module _ {Q P : Type 0} (charter : Charter Q P) where
       → all_hold log (absence_compares server Failed) ≡ true → revision_of (server_key server) log ≡ 0
   absent_then log server held = (first_held log (server_key server) 0 [] held).0
 
+  -- a server that might let go by a record may by the same one later, or by one that replaced it
+  lets_since : (server generation : ℕ) (was held : Record) → IsSince was held → MayLetGo server generation was
+      → MayLetGo server generation held
+  lets_since server generation was held (inl same) may = subst (MayLetGo server generation) (sym same) may
+  lets_since server generation was held (inr later) (inl below) = inl (omega arith)
+  lets_since server generation was held (inr later) (inr same) = let is = same.0 in inl (omega arith)
+
+  lets_still : (log : List (Transaction Q P)) (server : ℕ) (ack : Ack) → AreRight charter log → MayAck log server ack
+      → MayLetGo server ack.generation (stored_record ack.shard log)
+  lets_still log server ack right may =
+      let found = may.record_was in
+      let all : AreRight charter (found.later ++ found.past) = subst (AreRight charter) found.is right in
+      let since : IsSince (stored_record ack.shard found.past) (stored_record ack.shard (found.later ++ found.past)) =
+      record_since charter ack.shard found.later found.past all in
+      lets_since server ack.generation may.state (stored_record ack.shard log)
+      (subst (λ (l : List (Transaction Q P)). IsSince may.state (stored_record ack.shard l)) (sym found.is)
+      (subst (λ (r : Record). IsSince r (stored_record ack.shard (found.later ++ found.past))) found.was since))
+      may.lets
+
   right_one : (log : List (Transaction Q P)) (deed : Deed Q P) → AreRight charter log
       → all_hold log (transaction_of deed).compares ≡ true → MayDo charter log deed → IsRight charter log deed
   right_one log (Electing process) right held may = tt
@@ -108,6 +130,7 @@ module _ {Q P : Type 0} (charter : Charter Q P) where
         allowed = subst (λ (p : Placement). IsTrue (charter.allows_change p shard change)) (sym now) may.allowed;
         changed = subst (λ (p : Placement). IsChanged charter.ceiling (p.records shard) change next) (sym now)
             may.changed;
+        waited = subst (λ (p : Placement). HasWaited log p shard change) (sym now) may.waited;
       }
   right_one log (Executing shard server items head stood logged) right held may =
       let first = first_held log (record_key shard) stood (at (head_key shard) logged ∷ []) held in
@@ -154,7 +177,12 @@ module _ {Q P : Type 0} (charter : Charter Q P) where
       }
   right_one log (Settling settings) right held may =
       never_settled log (rising_of_right charter log right) (first_held log settings_key 0 [] held).0
-  right_one log (Following server revision) right held may = tt
+  right_one log (Following server revision acks told) right held may =
+      record {
+        compared = (first_held log (server_key server) told [] held).0;
+        lets = all_map (MayAck log server) (λ (ack : Ack). MayLetGo server ack.generation (stored_record ack.shard log))
+            (λ ack one. lets_still log server ack right one) acks may;
+      }
   right_one log (Checking compares) right held may = tt
   right_one log Foreign right held may = tt
 

@@ -17,7 +17,7 @@ module _ {Q P : Type 0} (charter : Charter Q P) where
   stays_one log (Basing shard number place part) settings right has = has
   stays_one log (Naming shard head number parts logged) settings right has = has
   stays_one log (Clearing keys) settings right has = has
-  stays_one log (Following server revision) settings right has = has
+  stays_one log (Following server revision acks told) settings right has = has
   stays_one log (Checking compares) settings right has = has
   stays_one log Foreign settings right has = has
 

@@ -14,14 +14,16 @@ use Rattle.sm_store.specs.declared.compare.Compare.{Compare}
 use Rattle.sm_store.specs.declared.head.Head.{Head}
 use Rattle.sm_store.specs.declared.item.Item.{Item}
 use Rattle.sm_store.specs.declared.store_key.PassingKey.{PassingKey}
-use Rattle.sm_store.specs.declared.store_key.PassingKey.TheVariants.{Leader, Server, Batch, Part}
+use Rattle.sm_store.specs.declared.store_key.PassingKey.TheVariants.{Leader, Server, Ack as AckKey, Batch, Part}
 use Rattle.sm_store.specs.declared.store_key.StoreKey.{StoreKey}
 use Rattle.sm_store.specs.Clients.{AreNext}
-use Rattle.sm_store.specs.Store.{Transaction, Leads, Stands, Heads, Executes, Bases, Follows, Deletes, Elsewhere}
+use Rattle.sm_store.specs.Store.{Ack, Transaction, Leads, Stands, Heads, Executes, Bases, Follows, Acks, Deletes}
+use Rattle.sm_store.specs.Store.{Elsewhere}
 use Rattle.sm_store.specs.Store.{Enters, Commands, Settles, Placement, leader_key, record_key, head_key, part_key}
 use Rattle.sm_store.specs.Store.{placement_key, settings_key, revision_of, all_hold, leader_of, stored_record}
 use Rattle.sm_store.specs.Store.{placement_of, server_key, stored_settings, head_of, part_at, made, made_until}
 use Rattle.sm_store.specs.Store.{last_revision, made_at, unmade}
+use Rattle.sm_store.specs.Waits.{HasWaited, MayLetGo}
 
 -- what all processes go by: how many shards there are, the greatest generation of a record, which changes and states
 -- the control allows by the records and states as they are, and the parts of a base that stands for requests
@@ -53,8 +55,9 @@ pub data Deed (Q P : Type 0) : Type 0 where
   Naming : (shard : ℕ) (head : Head) (number parts logged : ℕ) → Deed Q P
   -- what lies behind bases is deleted
   Clearing : (keys : List PassingKey) → Deed Q P
-  -- a server says up to which revision it has read
-  Following : (server revision : ℕ) → Deed Q P
+  -- a process says up to which revision its server has read, and what it acks; it wrote the server's key last at the
+  -- revision `told`, which is 0 as it joins
+  Following : (server revision : ℕ) (acks : List Ack) (told : ℕ) → Deed Q P
   -- compares alone
   Checking : (compares : List Compare) → Deed Q P
   -- something else is written
@@ -93,7 +96,8 @@ transaction_of (Naming shard head number parts logged) =
     unmade (at (head_key shard) logged ∷ [])
     (Heads shard (record { batches = head.batches; base = number; parts = parts }) ∷ [])
 transaction_of (Clearing keys) = unmade [] (Deletes keys ∷ [])
-transaction_of (Following server revision) = unmade [] (Follows server revision ∷ [])
+transaction_of (Following server revision acks told) =
+    unmade (at (server_key server) told ∷ []) (Follows server revision ∷ Acks server acks ∷ [])
 transaction_of (Checking compares) = unmade compares []
 transaction_of Foreign = unmade [] (Elsewhere ∷ [])
 
@@ -133,6 +137,7 @@ pub record IsChanged (ceiling : ℕ) (state : Record) (change : Change) (next : 
 abbrev pub is_leased : PassingKey → Bool
 is_leased Leader = true
 is_leased (Server server) = true
+is_leased (AckKey shard server) = true
 is_leased _ = false
 
 -- one who has read that it leads
@@ -140,7 +145,7 @@ pub record HasLed {Q P : Type 0} (log : List (Transaction Q P)) (process elected
   pub was_elected : 0 < elected
   pub leads : WasFound leader_of leader_key log process elected
 
--- one who has read that it leads, and all records and states
+-- one who has read that it leads, and all records and states, and for whom the change waits
 pub record MayChange {Q P : Type 0} (charter : Charter Q P) (log : List (Transaction Q P)) (process shard : ℕ)
     (change : Change) (next : Record)
     (elected placed : ℕ) : Type 0 where
@@ -150,6 +155,7 @@ pub record MayChange {Q P : Type 0} (charter : Charter Q P) (log : List (Transac
   pub placement_was : WasFound placement_of placement_key log read placed
   pub allowed : IsTrue (charter.allows_change read shard change)
   pub changed : IsChanged charter.ceiling (read.records shard) change next
+  pub waited : HasWaited log read shard change
 
 -- and whose step of a restart they allow
 pub record MayRestart {Q P : Type 0} (charter : Charter Q P) (log : List (Transaction Q P)) (process server : ℕ)
@@ -207,6 +213,13 @@ MayClear charter log (Part shard number place) =
     × (number < head.base)
 MayClear charter log _ = ⊥
 
+-- a server that has read a record of the shard by which it may let go
+pub record MayAck {Q P : Type 0} (log : List (Transaction Q P)) (server : ℕ) (ack : Ack) : Type 0 where
+  pub state : Record
+  pub stood : ℕ
+  pub record_was : WasFound (stored_record ack.shard) (record_key ack.shard) log state stood
+  pub lets : MayLetGo server ack.generation state
+
 -- a process may do this; who is elected, when a lease ends, and what is written elsewhere, is left to others
 abbrev pub MayDo : {Q P : Type 0} → Charter Q P → List (Transaction Q P) → Deed Q P → Type 0
 MayDo charter log (Expiring keys) = AllByRecursion (λ key. IsTrue (is_leased key)) keys
@@ -219,6 +232,7 @@ MayDo charter log (Executing shard server items head stood logged) =
 MayDo charter log (Basing shard number place part) = MayBase charter log shard number place part
 MayDo charter log (Naming shard head number parts logged) = MayName charter log shard head number parts logged
 MayDo charter log (Clearing keys) = AllByRecursion (MayClear charter log) keys
+MayDo charter log (Following server revision acks told) = AllByRecursion (MayAck log server) acks
 MayDo charter log _ = Unit {0}
 
 -- what is sent is the transaction of a deed that the process may do
@@ -244,7 +258,8 @@ IsHonest charter (txn ∷ earlier) = WasHonest charter earlier txn × IsHonest c
 
 -- below, `log` is the store before the deed
 
--- the change is made by who leads, and the rule allows it of the record, and the control of all records and states
+-- the change is made by who leads, and the rule allows it of the record, and the control of all records and states;
+-- whoever may execute by the record before, and doesn't by the next one, has let go
 pub record IsRightChange {Q P : Type 0} (charter : Charter Q P) (log : List (Transaction Q P)) (process shard : ℕ)
     (change : Change)
     (next : Record) : Type 0 where
@@ -252,6 +267,7 @@ pub record IsRightChange {Q P : Type 0} (charter : Charter Q P) (log : List (Tra
   pub leads : leader_of log ≡ process
   pub allowed : IsTrue (charter.allows_change (placement_of log) shard change)
   pub changed : IsChanged charter.ceiling (stored_record shard log) change next
+  pub waited : HasWaited log (placement_of log) shard change
 
 -- the step of a restart is made by who leads, and all records and states allow it; a server is said to have failed
 -- while its key isn't there
@@ -292,6 +308,12 @@ IsBehind charter log (Batch shard number) = number ≤ (head_of shard log).base
 IsBehind charter log (Part shard number place) = number < (head_of shard log).base
 IsBehind charter log _ = ⊥
 
+-- what a server says is written over its own key as that was told last, and it acks no record by which it executes
+pub record IsRightFollow {Q P : Type 0} (log : List (Transaction Q P)) (server : ℕ) (acks : List Ack)
+    (told : ℕ) : Type 0 where
+  pub compared : revision_of (server_key server) log ≡ told
+  pub lets : AllByRecursion (λ ack. MayLetGo server ack.generation (stored_record ack.shard log)) acks
+
 -- the deed is right for the store as it is
 abbrev pub IsRight : {Q P : Type 0} → Charter Q P → List (Transaction Q P) → Deed Q P → Type 0
 IsRight charter log (Expiring keys) = AllByRecursion (λ key. IsTrue (is_leased key)) keys
@@ -303,6 +325,7 @@ IsRight charter log (Executing shard server items head stood logged) = IsRightBa
 IsRight charter log (Basing shard number place part) = IsRightPart charter log shard number place part
 IsRight charter log (Naming shard head number parts logged) = IsRightBase charter log shard head number parts
 IsRight charter log (Clearing keys) = AllByRecursion (IsBehind charter log) keys
+IsRight charter log (Following server revision acks told) = IsRightFollow log server acks told
 IsRight charter log _ = Unit {0}
 
 -- the transaction is that of a deed that is right, at a revision above those before it

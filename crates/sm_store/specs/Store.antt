@@ -1,7 +1,7 @@
 -- The store: its transactions, the latest first, and what they leave. Each has its own revision, and revisions rise
 -- along the log.
 use Rattle.std.specs.Prelude.{ℕ, Bool, true, false, Option, Some, None, nat_lt, ◌==◌, ◌&&◌, ◌<◌, List, [], ◌∷◌, ◌++◌}
-use Rattle.std.specs.Prelude.{if◌then◌else◌}
+use Rattle.std.specs.Prelude.{if◌then◌else◌, max}
 use Rattle.std.specs.List.{list_all, list_any}
 use Rattle.sm_ownership.specs.declared.change.Change.{Change}
 use Rattle.sm_ownership.specs.declared.record.Record.{Record}
@@ -16,11 +16,16 @@ use Rattle.sm_store.specs.declared.store_key.LastingKey.TheVariants.{Record as R
 use Rattle.sm_store.specs.declared.store_key.LastingKey.TheVariants.{State as StateKey, Placement as PlacementKey}
 use Rattle.sm_store.specs.declared.store_key.LastingKey.TheVariants.{Settings as SettingsKey}
 use Rattle.sm_store.specs.declared.store_key.PassingKey.{PassingKey}
-use Rattle.sm_store.specs.declared.store_key.PassingKey.TheVariants.{Leader, Server, Batch, Part, Other}
+use Rattle.sm_store.specs.declared.store_key.PassingKey.TheVariants.{Leader, Server, Ack as AckKey, Batch, Part, Other}
 use Rattle.sm_store.specs.declared.store_key.StoreKey.{StoreKey}
 use Rattle.sm_store.specs.declared.store_key.StoreKey.TheVariants.{Lasting, Passing}
 
--- what a transaction writes to one key, or which keys it deletes
+-- of a shard: a process has let go of its records up to this generation, or is prepared for the latest of them
+pub record Ack : Type 0 where
+  pub shard : ℕ
+  pub generation : ℕ
+
+-- what a transaction writes to one key or to those of acks, or which keys it deletes
 pub data Write (Q P : Type 0) : Type 0 where
   -- a process leads
   Leads : (process : ℕ) → Write Q P
@@ -40,6 +45,8 @@ pub data Write (Q P : Type 0) : Type 0 where
   Bases : (shard number place : ℕ) (part : P) → Write Q P
   -- a server is there, and has read the store up to this revision
   Follows : (server revision : ℕ) → Write Q P
+  -- a server acks
+  Acks : (server : ℕ) (acks : List Ack) → Write Q P
   -- these keys are deleted
   Deletes : (keys : List PassingKey) → Write Q P
   -- something else is written
@@ -119,6 +126,7 @@ same_lasting _ _ = false
 abbrev pub same_passing : PassingKey → PassingKey → Bool
 same_passing Leader Leader = true
 same_passing (Server a) (Server b) = a == b
+same_passing (AckKey a s) (AckKey b t) = a == b && s == t
 same_passing (Batch a m) (Batch b n) = a == b && m == n
 same_passing (Part a m i) (Part b n j) = a == b && (m == n && i == j)
 same_passing Other Other = true
@@ -129,6 +137,11 @@ abbrev pub same_store_key : StoreKey → StoreKey → Bool
 same_store_key (Lasting a) (Lasting b) = same_lasting a b
 same_store_key (Passing a) (Passing b) = same_passing a b
 same_store_key _ _ = false
+
+-- acks of the server are of this key
+abbrev pub acks_key : ℕ → List Ack → StoreKey → Bool
+acks_key server acks (Passing (AckKey shard by)) = by == server && list_any (λ ack. ack.shard == shard) acks
+acks_key server acks _ = false
 
 -- the write is one of this key
 abbrev pub is_write_of : {Q P : Type 0} → StoreKey → Write Q P → Bool
@@ -141,6 +154,7 @@ is_write_of key (Heads shard head) = same_store_key (head_key shard) key
 is_write_of key (Executes shard number server items) = same_store_key (batch_key shard number) key
 is_write_of key (Bases shard number place part) = same_store_key (part_key shard number place) key
 is_write_of key (Follows server revision) = same_store_key (server_key server) key
+is_write_of key (Acks server acks) = acks_key server acks key
 is_write_of key (Deletes keys) = list_any (λ one. same_store_key (Passing one) key) keys
 is_write_of key Elsewhere = same_store_key (Passing Other) key
 
@@ -214,6 +228,22 @@ pub record Placement : Type 0 where
 abbrev pub placement_of : {Q P : Type 0} → List (Transaction Q P) → Placement
 placement_of log =
     record { records = λ shard. stored_record shard log; states = λ server. stored_state server log }
+
+-- the greatest generation of these acks of the shard and of this one
+abbrev pub acked_among : ℕ → List Ack → ℕ → ℕ
+acked_among shard [] generation = generation
+acked_among shard (ack ∷ acks) generation =
+    if ack.shard == shard then max ack.generation (acked_among shard acks generation)
+    else acked_among shard acks generation
+
+-- the greatest generation up to which a server has acked a shard, after a write: an ack that was made counts for good
+abbrev pub acked : {Q P : Type 0} → ℕ → ℕ → ℕ → Write Q P → ℕ
+acked shard server before (Acks by acks) = if by == server then acked_among shard acks before else before
+acked shard server before _ = before
+
+-- the greatest generation up to which any process of the server has acked the shard, also if its lease ended since
+abbrev pub acked_of : {Q P : Type 0} → ℕ → ℕ → List (Transaction Q P) → ℕ
+acked_of shard server log = view_from (acked shard server) 0 log
 
 -- the settings after a write
 abbrev pub settled : {Q P : Type 0} → Option (List ℕ) → Write Q P → Option (List ℕ)

@@ -1,6 +1,6 @@
 //! Laws of the store.
 
-ghost use Rattle.std.specs.Prelude.{◌≡◌, ◌<◌, ◌≤◌, ◌++◌, ℕ, Some, List, length, map, reverse};
+ghost use Rattle.std.specs.Prelude.{◌≡◌, ◌<◌, ◌≤◌, ◌++◌, ℕ, Bool, true, Some, List, length, map, reverse};
 ghost use Rattle.std.specs.Prelude.{◌≢◌, ◌∷◌};
 ghost use Rattle.std.specs.List.{AllByRecursion};
 ghost use Rattle.sm_ownership.specs.declared.record.Record.{Record};
@@ -13,7 +13,8 @@ ghost use Rattle.sm_store.specs.Linear.{StandsBefore};
 ghost use Rattle.sm_store.specs.Store.{IsRising, Transaction, made, head_key, leader_key, leader_of, record_key};
 ghost use Rattle.sm_store.specs.Store.{revision_of};
 ghost use Rattle.sm_store.specs.Store.{stored_record, stored_settings};
-ghost use Rattle.sm_store.specs.Store.{server_key, stored_state};
+ghost use Rattle.sm_store.specs.Store.{Placement, acked_of, server_key, stored_state};
+ghost use Rattle.sm_store.specs.Waits.{HasLetGo, has_let_go};
 ghost use Rattle.sm_store.specs.Deeds.{AreRight, Charter, IsHonest, ShardLog, WasFound, shard_log};
 ghost use Rattle.sm_store.specs.System.{Event, IsAmong, IsLawful, MightHappen, StaysOvertaken, system_after};
 ghost use Rattle.sm_store.specs.Whole.{IsLogWhole};
@@ -33,9 +34,10 @@ pub fn read_stands<Q, P>()
 
 /// Each transaction of an honest store, to which all sent only what they might, was right for the store before
 /// it: a change of a record or a state was made by who led then, and the rule allowed it by all records and states as
-/// they were, of a server that failed while its key wasn't there; a batch by the server that the record accepts, with
-/// requests that come next; a head names a base that lies there whole; settings were the first; what was deleted lay
-/// behind the base, or was a lease; and revisions rise.
+/// they were, of a server that failed while its key wasn't there; whoever a change waits for had let go; a server acked
+/// over its own key, as it told it last, and no record by which it executes; a batch was made by the server that the
+/// record accepts, with requests that come next; a head names a base that lies there whole; settings were the first;
+/// what was deleted lay behind the base, or was a lease; and revisions rise.
 pub fn honest_is_right<Q, P>()
     ensures { (charter : Charter Q P) (log : List (Transaction Q P)) → IsHonest charter log → AreRight charter log }
 {}
@@ -56,6 +58,16 @@ pub fn servers_fail_absent<Q, P, R, S>()
         → (system_after events).log ≡ later ++ txn ∷ past
         → stored_state server past ≢ Failed → stored_state server (txn ∷ past) ≡ Failed
         → revision_of (server_key server) past ≡ 0 }
+{}
+
+/// If a control read the record as it is, an ack that was made, and no failure that isn't so, then the server for whom
+/// its change waits has let go when `has_let_go` says so. That stays so, because an ack that was made counts for good.
+pub fn controls_wait<Q, P>()
+    ensures waited { (log : List (Transaction Q P)) (read : Placement) (shard server acked : ℕ) (failed : Bool)
+        → acked ≤ acked_of shard server log → (failed ≡ true → read.states server ≡ Failed)
+        → has_let_go (read.records shard) acked failed ≡ true → HasLetGo log read shard server }
+    ensures stays { (later past : List (Transaction Q P)) (read : Placement) (shard server : ℕ)
+        → HasLetGo past read shard server → HasLetGo (later ++ past) read shard server }
 {}
 
 /// What lies at a shard's keys leads to all requests that are made: the base that the head names, and the batches after

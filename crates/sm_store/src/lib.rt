@@ -1,8 +1,9 @@
 //! A store that several machines share: its transactions in one order, what a process may send to it and claim of it,
 //! and the laws that then hold of every run.
 //!
-//! The store keeps a value at a key, and makes a transaction as a whole: it writes where each compare still holds.
-//! Nothing here runs.
+//! The store keeps a value at a key, and makes a transaction as a whole: it writes where each compare still holds. Of
+//! all this only two questions are asked while a control runs: for whom a change waits, and whether that server has let
+//! go.
 //!
 //! ```rust
 //! let shard = ShardId::new(7).expect(&rt, "a shard");
@@ -21,8 +22,10 @@ pub mod head;
 pub mod item;
 pub mod laws;
 pub mod store_key;
+pub mod waits;
 
 pub use compare::Compare;
 pub use head::Head;
 pub use item::Item;
 pub use store_key::{LastingKey, PassingKey, StoreKey};
+pub use waits::{has_let_go, waits_for};

@@ -23,6 +23,8 @@ pub enum PassingKey {
     Leader,
     /// A server, for as long as its lease.
     Server(ServerId),
+    /// What a server acks of a shard, for as long as its lease.
+    Ack(ShardId, ServerId),
     /// A batch of a shard's requests, by its number.
     Batch(ShardId, u64),
     /// A part of a shard's base: of so many batches, and its place among the parts.

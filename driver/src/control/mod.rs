@@ -1,7 +1,7 @@
 mod election;
 mod intents;
 
-use crate::command::{ControlCommand, Next};
+use crate::command::{ControlCommand, Next, Subject};
 use crate::plan::planned;
 use crate::proved::{CommandTransaction, Director};
 use crate::{keys, CoreFault, Durable, Live, Refused, ServerState};
@@ -206,6 +206,28 @@ impl DurableControl {
         }
     }
 
+    /// Tells the director which of the servers that the shard's record names have acked it, where it waits for one: as
+    /// this process has seen acks, which count once they were made. Without a server of its own all are of this process.
+    fn hear_acks(&mut self, shard: u16) -> Result<(), Refused> {
+        let Some(record) = self.record_read(shard)? else {
+            return Ok(());
+        };
+        let named = match record.stand {
+            Stand::Prepared { owner, next } | Stand::Forwarding { owner, next } => [owner, next],
+            Stand::Paused(owner) => [owner; 2],
+            Stand::Vacant | Stand::Serving(_) | Stand::Taken { .. } => return Ok(()),
+        };
+        let heard = match self.durable.member() {
+            None => self.director.have_acked(shard),
+            Some(member) => {
+                let acked = |it| Some((it, member.acked(shard, it)?));
+                self.director
+                    .acked(shard, named.into_iter().filter_map(acked))
+            }
+        };
+        heard.map_err(Refused::of)
+    }
+
     /// Makes the command, or says why not.
     ///
     /// # Errors
@@ -229,6 +251,9 @@ impl DurableControl {
             }
             if let ControlCommand::DropShard(shard) = command {
                 self.follow_if_taken(shard)?;
+            }
+            if let Subject::Shard(shard) = command.subject() {
+                self.hear_acks(shard)?;
             }
             self.director.command(command).map_err(Refused::of)?;
             let sending = self.director.sending().map_err(Refused::of)?;
@@ -315,6 +340,7 @@ impl DurableControl {
     pub fn next_of_shard(&mut self, shard: u16) -> Result<Next, Refused> {
         self.catch_up()?;
         self.follow_if_taken(shard)?;
+        self.hear_acks(shard)?;
         self.director.next_of_shard(shard).map_err(Refused::of)
     }
 

@@ -1,5 +1,6 @@
 use crate::command::{ControlCommand, Next};
 use crate::{keys, CoreFault, ServerState};
+use durkenzo::word;
 use durkenzo_store::Revision;
 use durkenzo_store_sys::{self as sys, Code, DirectorStep};
 
@@ -107,6 +108,30 @@ impl Director {
             self.control.follower(server, revision.0)?;
         }
         Ok(())
+    }
+
+    /// These servers have acked the shard's records, each up to that generation. What was told of other shards is
+    /// forgotten.
+    pub(crate) fn acked(
+        &mut self,
+        shard: u16,
+        servers: impl Iterator<Item = (u16, u64)>,
+    ) -> Result<(), CoreFault> {
+        self.control.forget_acks()?;
+        for (server, generation) in servers {
+            self.control.ack(shard, server, generation)?;
+        }
+        Ok(())
+    }
+
+    /// All servers that the shard's record names have acked it, as they are of one process.
+    pub(crate) fn have_acked(&mut self, shard: u16) -> Result<(), CoreFault> {
+        let record = word::record(self.word_of(shard)?);
+        let (named, generation) = record.map_or(([None; 2], 0), |it| {
+            ([it.owner(), it.other()], it.generation)
+        });
+        let servers = named.into_iter().flatten();
+        self.acked(shard, servers.map(|it| (it, generation)))
     }
 
     /// What comes next of the shard.

@@ -2,8 +2,8 @@
 use super::handing::{Handed, Handing};
 use super::{ask, Decide, Told};
 use durkenzo_driver::{
-    Addresses, Begin, ControlCommand, Durable, DurableControl, Elsewhere, MapReply, MapRequest,
-    Member, Next, NotDone, Own, Reads, Tuning, Work, WorkOutcome, WorkStep,
+    Addresses, Begin, CommandFault, ControlCommand, Durable, DurableControl, Elsewhere, MapReply,
+    MapRequest, Member, Next, NotDone, Own, Reads, Refused, Tuning, Work, WorkOutcome, WorkStep,
 };
 use durkenzo_store::{
     Done, LeaseError, LeaseId, ReadError, Reading, Store, Transaction, Watch, Watcher, WriteError,
@@ -362,6 +362,16 @@ pub fn campaign(node: &Node) -> DurableControl {
             other => assert!(Instant::now() < end, "{other:?}"),
         }
         thread::sleep(Duration::from_millis(20));
+    }
+}
+
+/// Makes the command once whoever it waits for has acked.
+pub fn soon(control: &mut DurableControl, command: ControlCommand) {
+    let end = Instant::now() + Duration::from_secs(20);
+    while let Err(refused) = control.command(command) {
+        let is_early = matches!(refused, Refused::Judged(CommandFault::NotAcked));
+        assert!(is_early && Instant::now() < end, "{command:?}: {refused}");
+        thread::sleep(Duration::from_millis(2));
     }
 }
 

@@ -1,6 +1,6 @@
 use sm_desk::{Command, CommandFault, Desk};
 use sm_lead::{
-    CommandSending, CommandWrite, Follower, Judged, Leadership, LoadFault, NextStep, RecordRead,
+    AckRead, CommandSending, CommandWrite, Follower, Judged, Leadership, LoadFault, NextStep, RecordRead,
     SendOutcome, StoreControl,
 };
 use sm_ownership::{Change, Record};
@@ -177,6 +177,24 @@ fn sends_a_change(rt: HostRuntime) {
     assert!(rt; control.placed == 6);
 }
 
+fn ack(shard: ShardId, server: ServerId, generation: u64) -> AckRead {
+    AckRead {
+        shard,
+        server,
+        generation,
+    }
+}
+
+// All servers have acked the shard's record as it is.
+fn acks(store: &MemoryStore, shard: ShardId) -> [AckRead; 3] {
+    let generation = store.records[shard.index()].state.generation;
+    [
+        ack(shard, ServerId::of(1), generation),
+        ack(shard, ServerId::of(2), generation),
+        ack(shard, ServerId::of(3), generation),
+    ]
+}
+
 // A shard migrates, while the control that began it stops and another one goes on with what it reads.
 #[test]
 fn migrates_across_leaders(rt: HostRuntime) {
@@ -191,7 +209,12 @@ fn migrates_across_leaders(rt: HostRuntime) {
     );
     let prepare = Command::Change(k, Change::PrepareAddShard(two));
     let control = made(&rt, &mut store, control, prepare);
-    let step = control.next_of_shard(k, &followers(0));
+    // The next owner isn't prepared yet: it acked another shard, or an earlier record.
+    assert!(rt; control.next_of_shard(k, &followers(0), &[]) == NextStep::Waits);
+    let other = ack(shard(&rt, 1), two, 9);
+    assert!(rt; control.next_of_shard(k, &followers(0), &[other, ack(k, two, 1)]) == NextStep::Waits);
+    assert!(rt; !control.is_prepared(&[other], k));
+    let step = control.next_of_shard(k, &followers(0), &acks(&store, k));
     let old = taken(&rt, &mut store, control, step);
     assert!(rt;
         store.records[0].state.stand
@@ -210,14 +233,19 @@ fn migrates_across_leaders(rt: HostRuntime) {
     assert!(rt; outcome == SendOutcome::Lost);
     assert!(rt; late.outcome(outcome).is_none());
 
-    let step = control.next_of_shard(k, &followers(0));
+    // Only the owner's ack lets the shard be taken, and no command goes before it.
+    let early = [ack(k, two, 3)];
+    assert!(rt; control.next_of_shard(k, &followers(0), &early) == NextStep::Waits);
+    assert!(rt; !control.has_waited(&early, &Command::Change(k, Change::AddShard)));
+    assert!(rt; !control.has_waited(&[ack(k, one, 3)], &Command::Change(k, Change::Cancel)));
+    let step = control.next_of_shard(k, &followers(0), &acks(&store, k));
     let control = taken(&rt, &mut store, control, step);
     let stood = store.records[0].stood;
-    assert!(rt; control.next_of_shard(k, &followers(stood - 1)) == NextStep::Waits);
-    let step = control.next_of_shard(k, &followers(stood));
+    assert!(rt; control.next_of_shard(k, &followers(stood - 1), &[]) == NextStep::Waits);
+    let step = control.next_of_shard(k, &followers(stood), &[]);
     let control = taken(&rt, &mut store, control, step);
     assert!(rt; store.records[0].state.stand == Stand::Serving(two));
-    assert!(rt; control.next_of_shard(k, &followers(0)) == NextStep::Nothing);
+    assert!(rt; control.next_of_shard(k, &followers(0), &acks(&store, k)) == NextStep::Nothing);
 }
 
 // An answer that didn't come: the control forgets, and reads whether its command was made.
@@ -273,7 +301,11 @@ fn restarts_under_caps(rt: HostRuntime) {
         .expect(&rt, "memory");
     control = taken(&rt, &mut store, control, step);
     for _ in 0..3 {
-        let step = control.next_of_shard(shard(&rt, 3), &followers(store.revision));
+        let step = control.next_of_shard(
+            shard(&rt, 3),
+            &followers(store.revision),
+            &acks(&store, shard(&rt, 3)),
+        );
         control = taken(&rt, &mut store, control, step);
     }
     assert!(rt; store.records[3].state.stand == Stand::Serving(ServerId::of(3)));
@@ -302,11 +334,11 @@ fn reassigns_after_a_failure(rt: HostRuntime) {
     let mut control = made(&rt, &mut store, control, Command::Fail(one));
     assert!(rt; control.fallen_server(&all[1..]) == None);
     for _ in 0..2 {
-        let step = control.next_of_shard(k, &all[1..]);
+        let step = control.next_of_shard(k, &all[1..], &[]);
         control = taken(&rt, &mut store, control, step);
     }
     assert!(rt; store.records[0].state.stand == Stand::Serving(ServerId::of(2)));
-    assert!(rt; control.next_of_shard(k, &all[1..]) == NextStep::Nothing);
+    assert!(rt; control.next_of_shard(k, &all[1..], &[]) == NextStep::Nothing);
 }
 
 // A server whose key is back before it is said to have failed stays up; no other step asks for its key.

@@ -1,6 +1,7 @@
 use sm_ownership::{Change, Mode, Record};
-use sm_permit::{HandOver, ShardReading, ShardView, has_let_go, waits_for};
+use sm_permit::{HandOver, ShardReading, ShardView};
 use sm_ranges::{ServerId, Stand};
+use sm_store::{has_let_go, waits_for};
 use std::process::Abort;
 
 // What is read of a shard at a revision, whose owner's process joined at revision 2.

@@ -11,9 +11,10 @@ pub returns-in-Ok-clause-told : goal.returns-in-Ok-clause-told
 returns-in-Ok-clause-told c =
     let found = c.in-Ok.ensures in
     let step = found.2.0
-    ∙ ap (λ (shard : ℕ). shard_step found.0 c.state_mut.result.now.followers.items shard) c.in-Some.ensures.value in
+    ∙ ap (λ (shard : ℕ). shard_step found.0 c.state_mut.result.now.followers.items
+    c.state_mut.result.now.acks.items shard) c.in-Some.ensures.value in
     λ _. subst (λ (state : Option Director). KeepsDirector (λ kept. HasControl (λ control. TellsStep
-    c.parts_of.result (shard_step control kept.followers.items c.args.shard) control) kept) state)
+    c.parts_of.result (shard_step control kept.followers.items kept.acks.items c.args.shard) control) kept) state)
     (sym c.state_mut.ensures.value) (
       found.0,
       found.1,

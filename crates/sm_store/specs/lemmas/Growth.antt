@@ -5,15 +5,16 @@ use Rattle.std.specs.Prelude.{◌==◌, if◌then◌else◌}
 use Rattle.std.proofs.lemmas.Bool.{eqb-true, cases_Bool}
 use Rattle.sm_store.specs.declared.item.Item.{Item}
 use Rattle.sm_store.specs.declared.store_key.PassingKey.{PassingKey}
-use Rattle.sm_store.specs.declared.store_key.PassingKey.TheVariants.{Leader, Server, Batch, Part, Other}
+use Rattle.sm_store.specs.declared.store_key.PassingKey.TheVariants.{Leader, Server, Ack as AckKey, Batch, Part, Other}
 use Rattle.sm_store.specs.declared.store_key.StoreKey.{StoreKey}
 use Rattle.sm_store.specs.Clients.{Automaton, AreNext, reply_in}
-use Rattle.sm_store.specs.Store.{Deletes, Transaction, head_key, made, made_by, touches}
+use Rattle.sm_store.specs.Store.{Ack, Deletes, Transaction, head_key, made, made_by, touches}
 use Rattle.sm_store.specs.Deeds.{AreRight, Charter, Deed, Electing, Expiring, Changing, Executing, Basing, Naming}
 use Rattle.sm_store.specs.Deeds.{Clearing, Following, Restarting, Settling, Checking, Foreign, HasLed, HasRequests}
-use Rattle.sm_store.specs.Deeds.{IsRight, MayClear, MayDo, MaySend}
+use Rattle.sm_store.specs.Deeds.{IsRight, MayAck, MayClear, MayDo, MaySend}
 use Rattle.sm_store.specs.Deeds.{WasFound, transaction_of}
 use Rattle.sm_store.specs.System.{Ask, Claim, Replies, Overtaken, Reads, IsSo, WasAsked}
+use Rattle.sm_store.specs.lemmas.Acks.{waited_grows}
 use Rattle.sm_store.specs.lemmas.Logs.{all_map}
 use Rattle.sm_store.specs.lemmas.Numbers.{next-append, over_grows, reply-append}
 
@@ -73,7 +74,17 @@ module _ {Q P : Type 0} (charter : Charter Q P) where
   clear_grows more log (Part shard number place) may = (may.0, may.1, found_grows _ _ more log _ _ may.2, may.3)
   clear_grows more log Leader may = may
   clear_grows more log (Server server) may = may
+  clear_grows more log (AckKey at by) may = may
   clear_grows more log Other may = may
+
+  ack_grows : (more log : List (Transaction Q P)) (server : ℕ) (ack : Ack) → MayAck log server ack
+      → MayAck (more ++ log) server ack
+  ack_grows more log server ack may = record {
+    state = may.state;
+    stood = may.stood;
+    record_was = found_grows _ _ more log _ _ may.record_was;
+    lets = may.lets;
+  }
 
   may_grow : (more log : List (Transaction Q P)) (deed : Deed Q P) → MayDo charter log deed
       → MayDo charter (more ++ log) deed
@@ -86,6 +97,7 @@ module _ {Q P : Type 0} (charter : Charter Q P) where
     placement_was = found_grows _ _ more log _ _ may.placement_was;
     allowed = may.allowed;
     changed = may.changed;
+    waited = waited_grows more log may.read shard change may.waited;
   }
   may_grow more log (Executing shard server items head stood logged) may = record {
     within = may.within;
@@ -118,7 +130,8 @@ module _ {Q P : Type 0} (charter : Charter Q P) where
     allowed = may.allowed;
   }
   may_grow more log (Settling settings) may = tt
-  may_grow more log (Following server revision) may = tt
+  may_grow more log (Following server revision acks told) may =
+      all_map (MayAck log server) (MayAck (more ++ log) server) (ack_grows more log server) acks may
   may_grow more log (Checking compares) may = tt
   may_grow more log Foreign may = tt
 
@@ -149,7 +162,7 @@ module _ {Q P : Type 0} (charter : Charter Q P) where
       next_none (made shard log) (touches {Q = Q} {P = P} (head_key shard) (Deletes keys ∷ [])) [] refl
   added_next shard log (Restarting process server state elected placed) right = tt
   added_next shard log (Settling settings) right = tt
-  added_next shard log (Following server revision) right = tt
+  added_next shard log (Following server revision acks told) right = tt
   added_next shard log (Checking compares) right = tt
   added_next shard log Foreign right = tt
 

@@ -60,7 +60,7 @@ module _ {Q P : Type 0} (charter : Charter Q P) (shard : ℕ) where
   risen_one log (Clearing keys) right = risen_same (before log)
   risen_one log (Restarting process server state elected placed) right = risen_same (before log)
   risen_one log (Settling settings) right = risen_same (before log)
-  risen_one log (Following server revision) right = risen_same (before log)
+  risen_one log (Following server revision acks told) right = risen_same (before log)
   risen_one log (Checking compares) right = risen_same (before log)
   risen_one log Foreign right = risen_same (before log)
 
@@ -115,8 +115,8 @@ module _ {Q P : Type 0} (charter : Charter Q P) (shard : ℕ) where
       (transaction_of {Q = Q} {P = P} (Restarting process server state elected placed)).writes refl)
   goes_one log (Settling settings) right = inl (no_made
       (transaction_of {Q = Q} {P = P} (Settling settings)).writes refl)
-  goes_one log (Following server revision) right = inl (no_made
-      (transaction_of {Q = Q} {P = P} (Following server revision)).writes refl)
+  goes_one log (Following server revision acks told) right = inl (no_made
+      (transaction_of {Q = Q} {P = P} (Following server revision acks told)).writes refl)
   goes_one log (Checking compares) right = inl (no_made (transaction_of {Q = Q} {P = P} (Checking compares)).writes
       refl)
   goes_one log Foreign right = inl (no_made (transaction_of {Q = Q} {P = P} Foreign).writes refl)

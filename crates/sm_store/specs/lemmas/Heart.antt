@@ -9,7 +9,7 @@ use Rattle.sm_store.specs.declared.store_key.PassingKey.{PassingKey}
 use Rattle.sm_store.specs.declared.store_key.StoreKey.{StoreKey}
 use Rattle.sm_store.specs.declared.store_key.StoreKey.TheVariants.{Lasting, Passing}
 use Rattle.sm_store.specs.Store.{Transaction, Write, Leads, Stands, Heads, Executes, Bases, Enters, Commands, Settles}
-use Rattle.sm_store.specs.Store.{Follows, Deletes, Elsewhere}
+use Rattle.sm_store.specs.Store.{Follows, Acks, Deletes, Elsewhere}
 use Rattle.sm_store.specs.Store.{all_hold, same_store_key, is_write_of, is_deletion, left_by, revised, revision_of}
 use Rattle.sm_store.specs.Store.{IsRising, last_revision, touches}
 use Rattle.sm_store.specs.Deeds.{WasFound, at}
@@ -71,6 +71,7 @@ module _ {Q P : Type 0} where
   revised_one key now before (Commands process) same = inl (cond-true _ now before same)
   revised_one key now before (Settles settings) same = inl (cond-true _ now before same)
   revised_one key now before (Follows server revision) same = inl (cond-true _ now before same)
+  revised_one key now before (Acks server acks) same = inl (cond-true _ now before same)
   revised_one key now before (Deletes keys) same =
       let deleted = list_any (λ (one : PassingKey). same_store_key (Passing one) key) keys in
       inr (cond-true deleted 0 before same, deleted_apart keys key same)

@@ -7,7 +7,7 @@ use Rattle.std.proofs.lemmas.Bool.{true≢false, and_parts, eqb-true, cases_Bool
 use Rattle.std.proofs.lemmas.Option.{none-some}
 use Rattle.sm_store.specs.declared.item.Item.{Item}
 use Rattle.sm_store.specs.declared.store_key.PassingKey.{PassingKey}
-use Rattle.sm_store.specs.declared.store_key.PassingKey.TheVariants.{Leader, Server, Batch, Part, Other}
+use Rattle.sm_store.specs.declared.store_key.PassingKey.TheVariants.{Leader, Server, Ack, Batch, Part, Other}
 use Rattle.sm_store.specs.Store.{Transaction, head_of, made_until, part_at, deletes_key, same_passing, Deletes, unmade}
 use Rattle.sm_store.specs.Deeds.{Charter, Deed, Electing, Expiring, Changing, Executing, Basing, Naming, Clearing}
 use Rattle.sm_store.specs.Deeds.{Following, Restarting, Settling, Checking, Foreign, transaction_of, is_leased}
@@ -66,7 +66,7 @@ module _ {Q P : Type 0} (charter : Charter Q P) (shard number place : ℕ) where
   written log (Clearing keys) part right is = inl (none_or (deletes_key keys (Part shard number place)) part _ is)
   written log (Restarting process server state elected placed) part right is = inl is
   written log (Settling settings) part right is = inl is
-  written log (Following server revision) part right is = inl is
+  written log (Following server revision acks told) part right is = inl is
   written log (Checking compares) part right is = inl is
   written log Foreign part right is = inl is
 
@@ -107,6 +107,7 @@ module _ {Q P : Type 0} (charter : Charter Q P) (shard number place : ℕ) where
   leased_apart : (key : PassingKey) → is_leased key ≡ true → same_passing key (Part shard number place) ≡ false
   leased_apart Leader leased = refl
   leased_apart (Server server) leased = refl
+  leased_apart (Ack at by) leased = refl
   leased_apart (Batch at n) leased = refl
   leased_apart (Part at n i) leased = absurd (true≢false (sym leased))
   leased_apart Other leased = refl
@@ -127,6 +128,7 @@ module _ {Q P : Type 0} (charter : Charter Q P) (shard number place : ℕ) where
   behind_apart log (Batch at n) behind newest = refl
   behind_apart log Leader behind newest = refl
   behind_apart log (Server server) behind newest = refl
+  behind_apart log (Ack at by) behind newest = refl
   behind_apart log Other behind newest = refl
 
   stays_one : (log : List (Transaction Q P)) (deed : Deed Q P) → IsRight charter log deed
@@ -148,7 +150,7 @@ module _ {Q P : Type 0} (charter : Charter Q P) (shard number place : ℕ) where
       (λ key behind. behind_apart log key behind newest) keys right) has
   stays_one log (Restarting process server state elected placed) right newest has = has
   stays_one log (Settling settings) right newest has = has
-  stays_one log (Following server revision) right newest has = has
+  stays_one log (Following server revision acks told) right newest has = has
   stays_one log (Checking compares) right newest has = has
   stays_one log Foreign right newest has = has
 

@@ -7,7 +7,7 @@ use Rattle.sm_store.specs.declared.head.Head.{Head}
 use Rattle.sm_store.specs.declared.item.Item.{Item}
 use Rattle.sm_store.specs.declared.store_key.PassingKey.TheVariants.{Leader, Batch, Part}
 use Rattle.sm_store.specs.declared.store_key.StoreKey.{StoreKey}
-use Rattle.sm_store.specs.Store.{Write, Leads, Stands, Heads, Executes, Bases, Enters, Commands, Settles, Follows}
+use Rattle.sm_store.specs.Store.{Write, Leads, Stands, Heads, Executes, Bases, Enters, Commands, Settles, Follows, Acks}
 use Rattle.sm_store.specs.Store.{Deletes, Elsewhere, leader_key}
 use Rattle.sm_store.specs.Store.{record_key, head_key, batch_key, part_key, deletes_key, is_write_of}
 use Rattle.sm_store.specs.Store.{left_by, view_from, touches, led, leader_of, stood, stored_record, headed, head_of}
@@ -48,6 +48,7 @@ module _ {Q P : Type 0} where
   led_local before (Commands process) apart = refl
   led_local before (Settles settings) apart = refl
   led_local before (Follows server revision) apart = refl
+  led_local before (Acks server acks) apart = refl
   led_local before (Deletes keys) apart = cond-false (deletes_key keys Leader) 0 before apart
   led_local before Elsewhere apart = refl
 
@@ -61,6 +62,7 @@ module _ {Q P : Type 0} where
   stood_local shard before (Commands process) apart = refl
   stood_local shard before (Settles settings) apart = refl
   stood_local shard before (Follows server revision) apart = refl
+  stood_local shard before (Acks server acks) apart = refl
   stood_local shard before (Deletes keys) apart = refl
   stood_local shard before Elsewhere apart = refl
 
@@ -74,6 +76,7 @@ module _ {Q P : Type 0} where
   headed_local shard before (Commands process) apart = refl
   headed_local shard before (Settles settings) apart = refl
   headed_local shard before (Follows server revision) apart = refl
+  headed_local shard before (Acks server acks) apart = refl
   headed_local shard before (Deletes keys) apart = refl
   headed_local shard before Elsewhere apart = refl
 
@@ -88,6 +91,7 @@ module _ {Q P : Type 0} where
   batched_local shard number before (Commands process) apart = refl
   batched_local shard number before (Settles settings) apart = refl
   batched_local shard number before (Follows server revision) apart = refl
+  batched_local shard number before (Acks server acks) apart = refl
   batched_local shard number before (Deletes keys) apart = cond-false
       (deletes_key keys (Batch shard number)) None before apart
   batched_local shard number before Elsewhere apart = refl
@@ -103,6 +107,7 @@ module _ {Q P : Type 0} where
   based_local shard number place before (Commands process) apart = refl
   based_local shard number place before (Settles settings) apart = refl
   based_local shard number place before (Follows server revision) apart = refl
+  based_local shard number place before (Acks server acks) apart = refl
   based_local shard number place before (Deletes keys) apart =
       cond-false (deletes_key keys (Part shard number place)) None before apart
   based_local shard number place before Elsewhere apart = refl
@@ -147,6 +152,7 @@ module _ {Q P : Type 0} where
   settled_local before (Executes at number server items) apart = refl
   settled_local before (Bases at number place part) apart = refl
   settled_local before (Follows server revision) apart = refl
+  settled_local before (Acks server acks) apart = refl
   settled_local before (Deletes keys) apart = refl
   settled_local before Elsewhere apart = refl
 
@@ -182,7 +188,7 @@ module _ {Q P : Type 0} where
   placed_apart (Basing shard number place part) earlier apart = refl
   placed_apart (Naming shard head number parts logged) earlier apart = refl
   placed_apart (Clearing keys) earlier apart = refl
-  placed_apart (Following server revision) earlier apart = refl
+  placed_apart (Following server revision acks told) earlier apart = refl
   placed_apart (Checking compares) earlier apart = refl
   placed_apart Foreign earlier apart = refl
 

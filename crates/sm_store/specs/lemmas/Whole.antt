@@ -7,7 +7,7 @@ use Rattle.std.proofs.lemmas.Bool.{cond_both, cond-true, cond-false, le-ltb}
 use Rattle.sm_store.specs.declared.head.Head.{Head}
 use Rattle.sm_store.specs.declared.item.Item.{Item}
 use Rattle.sm_store.specs.declared.store_key.PassingKey.{PassingKey}
-use Rattle.sm_store.specs.declared.store_key.PassingKey.TheVariants.{Leader, Server, Batch, Part, Other}
+use Rattle.sm_store.specs.declared.store_key.PassingKey.TheVariants.{Leader, Server, Ack, Batch, Part, Other}
 use Rattle.sm_store.specs.Store.{Transaction, batch_at, head_of, made, made_by, made_until, same_passing, Deletes}
 use Rattle.sm_store.specs.Store.{deletes_key, last_revision, unmade}
 use Rattle.sm_store.specs.Deeds.{Charter, Deed, Electing, Expiring, Changing, Executing, Basing, Naming, Clearing}
@@ -34,6 +34,7 @@ leased_apart : (shard number : ℕ) (key : PassingKey) → is_leased key ≡ tru
     ≡ false
 leased_apart shard number Leader leased = refl
 leased_apart shard number (Server server) leased = refl
+leased_apart shard number (Ack at by) leased = refl
 leased_apart shard number (Batch at n) leased = absurd (true≢false (sym leased))
 leased_apart shard number (Part at n i) leased = refl
 leased_apart shard number Other leased = refl
@@ -87,6 +88,7 @@ module _ {Q P : Type 0} (charter : Charter Q P) (shard : ℕ) where
   behind_apart log (Part at n i) number behind newest = refl
   behind_apart log Leader number behind newest = refl
   behind_apart log (Server server) number behind newest = refl
+  behind_apart log (Ack at by) number behind newest = refl
   behind_apart log Other number behind newest = refl
 
   deleted_stay : (log : List (Transaction Q P)) (keys : List PassingKey) (number : ℕ)
@@ -153,8 +155,8 @@ module _ {Q P : Type 0} (charter : Charter Q P) (shard revision : ℕ) where
       based_same log (Restarting process server state elected placed) above right rights was
   based_one log (Settling settings) above right rights was =
       based_same log (Settling settings) above right rights was
-  based_one log (Following server revision) above right rights was =
-      based_same log (Following server revision) above right rights was
+  based_one log (Following server revision acks told) above right rights was =
+      based_same log (Following server revision acks told) above right rights was
   based_one log (Checking compares) above right rights was = based_same log (Checking compares) above right rights was
   based_one log Foreign above right rights was = based_same log Foreign above right rights was
 
@@ -258,8 +260,8 @@ module _ {Q P : Type 0} (charter : Charter Q P) (shard revision : ℕ) where
       there_same log (Restarting process server state elected placed) (λ number newest below. refl) was
   there_one log (Settling settings) above right rights was =
       there_same log (Settling settings) (λ number newest below. refl) was
-  there_one log (Following server revision) above right rights was =
-      there_same log (Following server revision) (λ number newest below. refl) was
+  there_one log (Following server revision acks told) above right rights was =
+      there_same log (Following server revision acks told) (λ number newest below. refl) was
   there_one log (Checking compares) above right rights was = there_same log (Checking compares)
       (λ number newest below. refl) was
   there_one log Foreign above right rights was = there_same log Foreign (λ number newest below. refl) was

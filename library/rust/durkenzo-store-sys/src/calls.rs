@@ -258,6 +258,13 @@ extern "C" {
     pub fn durkenzo_director_lost(director: *mut Handle) -> u32;
     pub fn durkenzo_director_follower(director: *mut Handle, server: u16, revision: u64) -> u32;
     pub fn durkenzo_director_forget_followers(director: *mut Handle) -> u32;
+    pub fn durkenzo_director_ack(
+        director: *mut Handle,
+        shard: u16,
+        server: u16,
+        generation: u64,
+    ) -> u32;
+    pub fn durkenzo_director_forget_acks(director: *mut Handle) -> u32;
     pub fn durkenzo_director_next_of_shard(
         director: *mut Handle,
         shard: u16,

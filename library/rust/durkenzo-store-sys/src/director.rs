@@ -223,6 +223,18 @@ impl Director {
         })
     }
 
+    /// Forgets all acks.
+    pub fn forget_acks(&mut self) -> Result<(), Code> {
+        Code::judged(unsafe { calls::durkenzo_director_forget_acks(&mut self.handle) })
+    }
+
+    /// Adds that this server has acked the shard's records up to this generation.
+    pub fn ack(&mut self, shard: u16, server: u16, generation: u64) -> Result<(), Code> {
+        Code::judged(unsafe {
+            calls::durkenzo_director_ack(&mut self.handle, shard, server, generation)
+        })
+    }
+
     /// What comes next of the shard.
     pub fn next_of_shard(&mut self, shard: u16) -> Result<DirectorStep, Code> {
         self.next(calls::durkenzo_director_next_of_shard, shard)

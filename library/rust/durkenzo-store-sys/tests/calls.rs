@@ -139,6 +139,7 @@ fn a_shard_is_dropped_once_all_follow() -> Result<(), Code> {
         (11, DirectorStep::PREPARE_DROP_SHARD, 0),
         (12, DirectorStep::ADD_SHARD, 0),
     ] {
+        acked(&mut director)?;
         director.command(DirectorStep::of_shard(kind, 0, server))?;
         director.made(at)?;
     }
@@ -148,6 +149,44 @@ fn a_shard_is_dropped_once_all_follow() -> Result<(), Code> {
     director.forget_followers()?;
     director.follower(2, 12)?;
     director.command(drop)
+}
+
+/// Both servers have acked the first shard, as far as generations of these tests go.
+fn acked(director: &mut Director) -> Result<(), Code> {
+    director.forget_acks()?;
+    director.ack(0, 1, 9)?;
+    director.ack(0, 2, 9)
+}
+
+#[test]
+fn a_change_waits_for_who_has_to_let_go() -> Result<(), Code> {
+    let mut director = leading()?;
+    let command = |kind, server| DirectorStep::of_shard(kind, 0, server);
+    let mut made = 8;
+    let mut make = |director: &mut Director, kind, server| {
+        made += 1;
+        director.command(command(kind, server))?;
+        director.made(made)
+    };
+    make(&mut director, DirectorStep::ASSIGN, 1)?;
+    make(&mut director, DirectorStep::PREPARE_ADD_SHARD, 2)?;
+    // The next owner acks the record of generation 2, and not one before.
+    director.ack(0, 2, 1)?;
+    let drop = command(DirectorStep::PREPARE_DROP_SHARD, 0);
+    assert_eq!(director.command(drop), Err(Code::DIRECTOR_NOT_ACKED));
+    assert_eq!(director.next_of_shard(0)?.kind, DirectorStep::WAITS);
+    director.forget_acks()?;
+    director.ack(0, 2, 2)?;
+    make(&mut director, DirectorStep::PREPARE_DROP_SHARD, 0)?;
+    for kind in [DirectorStep::ADD_SHARD, DirectorStep::CANCEL] {
+        assert_eq!(
+            director.command(command(kind, 0)),
+            Err(Code::DIRECTOR_NOT_ACKED)
+        );
+    }
+    director.ack(0, 1, 3)?;
+    assert_eq!(director.next_of_shard(0)?.kind, DirectorStep::ADD_SHARD);
+    make(&mut director, DirectorStep::ADD_SHARD, 0)
 }
 
 #[test]

@@ -1,14 +1,16 @@
-use Rattle.std.proofs.Common.{◌≡◌, refl, sym, subst, List}
+use Rattle.std.proofs.Common.{◌≡◌, refl, sym, subst, List, true}
 use Rattle.std.specs.Prelude.{None}
 use Rattle.sm_place.specs.Sound.{AreSound}
 use Rattle.sm_store.specs.Deeds.{MaySend}
 use Rattle.sm_lead.specs.declared.command_write.CommandWrite.{CommandWrite}
+use Rattle.sm_lead.specs.declared.ack_read.AckRead.{AckRead}
+use Rattle.sm_lead.specs.Waits.{has_waited}
 use Rattle.sm_lead.specs.declared.follower.Follower.{Follower}
 use Rattle.sm_lead.specs.declared.store_control.StoreControl.{StoreControl}
 use Rattle.sm_lead.specs.Commands.{command_fault, write_of}
 use Rattle.sm_lead.specs.Placements.{charter_of, rows_of}
 use Rattle.sm_lead.specs.Sendings.{command_transaction, sending_of}
-use Rattle.sm_director.specs.Directors.{IsFollowed}
+use Rattle.sm_director.specs.Directors.{IsFollowed, IsPrepared}
 use Rattle.sm_director.proofs.director.Director.command.Goals as goal
 
 -- what is sent is what the law says of the control that judged it
@@ -19,6 +21,11 @@ returns-in-Sent-command-clause-sent c =
     let same = sym judged.1 in
     let sound = subst (λ (k : StoreControl). AreSound k.desk.books) same c.soundness.ensures.books in
     let allowed = subst (λ (k : StoreControl). command_fault k c.args.command ≡ None) same judged.0 in
+    let acks = c.args.self.now.acks.items in
+    let waited : has_waited c.in-Stands.control acks c.args.command ≡ true =
+    subst (λ (read : List AckRead). has_waited c.in-Stands.control read c.args.command ≡ true)
+    c.deref-in-Stands.ensures.value
+    (c.if-not-has_waited.ensures.waited refl) in
     let written = subst (λ (k : StoreControl). sent.write ≡ write_of k c.args.command) same judged.3 in (
       c.in-Stands.control,
       sent,
@@ -26,10 +33,16 @@ returns-in-Sent-command-clause-sent c =
       judged,
       subst (λ (fs : List Follower). IsFollowed c.in-Stands.control fs c.args.command) c.deref.ensures.value
           (c.if-not-is_followed.ensures refl),
-      λ parts log knows.
+      subst
+          (λ (acks : List AckRead). IsPrepared c.in-Stands.control acks c.args.command) c.deref-in-Stands.ensures.value
+          (c.if-not-has_waited.ensures.prepared refl),
+      waited,
+      λ parts log knows made.
           subst (λ (it : CommandWrite). MaySend (charter_of (rows_of sent.control.desk.books) sent.control.desk.caps
           sent.control.ceiling parts) log (command_transaction (sending_of sent.control it)))
-          (sym written) (c.commands_may_be_sent.ensures parts log sent.control c.args.command sound knows allowed),
+          (sym written)
+          (c.commands_may_be_sent.ensures parts log sent.control acks c.args.command sound knows made allowed
+          (subst (λ (k : StoreControl). has_waited k acks c.args.command ≡ true) same waited)),
       refl,
     )
 

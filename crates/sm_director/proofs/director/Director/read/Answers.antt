@@ -15,6 +15,7 @@ returns-in-Ok-clause-made c =
         caps = refl;
         lead = refl;
         followers = refl;
+        acks = refl;
         records = ap (λ (v : Vec RecordRead). v.items) c.replace-records.ensures.after ∙ c.new.ensures.items;
         states = ap (λ (v : Vec ServerState). v.items) c.replace-states.ensures.after ∙ c.new-2.ensures.items;
       },

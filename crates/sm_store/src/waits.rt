@@ -1,5 +1,5 @@
 ghost use Rattle.std.specs.Prelude.{◌≡◌};
-ghost use Rattle.sm_permit.specs.Waits.{gives_up, has_let_go};
+ghost use Rattle.sm_store.specs.Waits.{gives_up, has_let_go};
 
 use sm_ownership::change::Change;
 use sm_ownership::record::Record;
