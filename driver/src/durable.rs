@@ -5,8 +5,8 @@ use crate::proved::Core;
 use crate::recovery::ServerPlace;
 use crate::shard::{Action, Shard, Ticket};
 use crate::{
-    keys, process, recovery, Came, Chores, CompactFault, Elsewhere, Member, NotDone, OpenFault,
-    Own, StoredRecord, WorkStep,
+    keys, process, recovery, Acks, Came, Chores, CompactFault, Elsewhere, Member, NotDone,
+    OpenFault, Own, StoredRecord, WorkStep,
 };
 use durkenzo_store::{Outcome, Pair, Revision, Room, Seen, Store, Transaction, Watch, WriteError};
 use std::collections::BTreeSet;
@@ -641,7 +641,8 @@ impl DurableInner {
             if let Some(shard) = keys::shard_of_record(&it.key) {
                 let stored = StoredRecord::new(it.value, it.revision);
                 is_awaited |= stored.is_awaited();
-                let member = self.own.as_ref().map(|it| &it.member);
+                let own = self.own.as_ref().filter(|it| it.acks == Acks::AsRead);
+                let member = own.map(|it| &it.member);
                 let acked = member.and_then(|it| Some((it, stored.acked_by(it.server())?)));
                 self.with(shard, |it, actions| it.see(stored, self.now(), actions));
                 // From here on the shard goes by this record.

@@ -1,4 +1,4 @@
-use crate::{Member, WorkStep};
+use crate::{Acks, Member, WorkStep};
 use durkenzo_store::Revision;
 use std::fmt;
 use std::sync::Arc;
@@ -10,6 +10,8 @@ pub struct Own {
     pub member: Arc<Member>,
     /// Who gets work that a server elsewhere executes.
     pub elsewhere: HandOver,
+    /// When the process acks records.
+    pub acks: Acks,
 }
 
 /// Gets the steps of a client, in their order, for another server. It must not wait: it sends them there in one

@@ -6,6 +6,7 @@
 #![warn(missing_docs)]
 #![forbid(unsafe_code)]
 
+mod acks;
 mod addresses;
 mod base_parts;
 mod chores;
@@ -51,6 +52,7 @@ mod size;
 mod stored_record;
 mod work;
 
+pub use acks::Acks;
 pub use addresses::Addresses;
 pub use chores::Chores;
 pub use clock::Clock;

@@ -11,7 +11,7 @@ use crate::{
 use durkenzo::word;
 use durkenzo_control::control::Asked;
 use durkenzo_control::links::checksum;
-use durkenzo_driver::{Addresses, Durable, Member, NotDone, Own, Tuning};
+use durkenzo_driver::{Acks, Addresses, Durable, Member, NotDone, Own, Tuning};
 use durkenzo_store::Store;
 use durkenzo_store_sys::ShardView;
 use std::fmt;
@@ -236,6 +236,7 @@ impl<S: Service> FleetInner<S> {
                     .into_iter()
                     .for_each(|it| it.work.end(Err(NotDone::Busy)));
             }),
+            acks: Acks::ByService,
         };
         let (shards, tuning) = (sharding.shards(), Tuning::default());
         let durable = Durable::open_one(store, shards, tuning, own, notices.teller())?;

@@ -11,7 +11,8 @@ use crate::timeline::Column;
 use durkenzo_control::control::{Asked, Campaigner};
 use durkenzo_control::links::Links;
 use durkenzo_driver::{
-    Addresses, Chores, Clock, Durable, DurableControl, HandOver, JoinFault, Member, Own, Tuning,
+    Acks, Addresses, Chores, Clock, Durable, DurableControl, HandOver, JoinFault, Member, Own,
+    Tuning,
 };
 use std::sync::atomic::AtomicBool;
 use std::sync::Arc;
@@ -78,6 +79,7 @@ impl Process {
             Own {
                 member: member.clone(),
                 elsewhere: elsewhere.unwrap_or_else(|| posts(mails.clone(), sender)),
+                acks: Acks::AsRead,
             },
             Clock::new(move || own.now()),
         )?;

@@ -42,7 +42,7 @@ module _ {Q P : Type 0} (charter : Charter Q P) where
   by_deed past (Basing shard number place part) right = (tt, tt)
   by_deed past (Naming shard head number parts logged) right = (tt, tt)
   by_deed past (Clearing keys) right = (tt, tt)
-  by_deed past (Following server revision) right = (tt, tt)
+  by_deed past (Following server revision acks told) right = (tt, (tt, tt))
   by_deed past (Checking compares) right = tt
   by_deed past Foreign right = (tt, tt)
 

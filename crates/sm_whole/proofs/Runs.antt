@@ -27,6 +27,7 @@ use Rattle.sm_shard.specs.Bases.{Part, base_of}
 use Rattle.sm_shard.specs.Fleet.{Act, AllAskFor, AsksForAct, Fleet, MayAct, MightAct, Otherwise, Starts, Steps}
 use Rattle.sm_shard.specs.Fleet.{AsksForEvent, Running, events_of, fleet_acted, fleet_after}
 use Rattle.sm_shard.specs.ShardServers.{IsTrueOf, StoreLog}
+use Rattle.sm_lead.specs.declared.ack_read.AckRead.{AckRead}
 use Rattle.sm_lead.specs.declared.command_write.CommandWrite.{CommandWrite}
 use Rattle.sm_lead.specs.declared.leadership.Leadership.{Leadership}
 use Rattle.sm_lead.specs.declared.record_read.RecordRead.{RecordRead}
@@ -39,6 +40,7 @@ use Rattle.sm_lead.specs.Commands.{IsAfter, command_fault, write_of}
 use Rattle.sm_lead.specs.Controls.{CommandWasMade, IsLoaded, IsReadOf, KnowsStore}
 use Rattle.sm_lead.specs.Placements.{HasRowsOf, books_in, charter_of, rows_of}
 use Rattle.sm_lead.specs.Sendings.{command_transaction, sending_of}
+use Rattle.sm_lead.specs.Waits.{WereMade, has_waited}
 use Rattle.sm_whole.specs.Runs.{AreGivenAsked, Given, IsRun, MayBeActed, MayOccur, WholeAct, charter_given}
 use Rattle.sm_whole.specs.Runs.{Serves, Loads, Judges, Hears, command_sent, desk_given, fleet_acts, is_of_world}
 use Rattle.sm_whole.specs.Runs.{AreByExecutors, IsGivenAsked, IsConcluded, IsToldSo, MayServe, first_books}
@@ -57,8 +59,8 @@ pub record ControlLaws (Q R : Type 0) : Type 0 where
       → AreSound control.desk.books → IsLoaded desk lead ceiling reads states placed control
       → IsReadOf log desk lead reads states placed → KnowsStore log control
   pub sending : (parts : List (Item Q) → List (Part R)) (log : StoreLog Q R) (control : StoreControl)
-      (command : Command) → AreSound control.desk.books → KnowsStore log control
-      → command_fault control command ≡ None
+      (acks : List AckRead) (command : Command) → AreSound control.desk.books → KnowsStore log control
+      → WereMade log acks → command_fault control command ≡ None → has_waited control acks command ≡ true
       → MaySend (charter_of (rows_of control.desk.books) control.desk.caps control.ceiling parts) log
       (command_transaction (sending_of control (write_of control command)))
   pub outcome : (charter : Charter Q (Part R)) (log : StoreLog Q R) (control new : StoreControl) (command : Command)
@@ -99,7 +101,9 @@ module _ {Q P : Type 0} (asked : List (Ask Q)) where
   world_asks (Expiring keys) so =
       λ shard. none_asked asked shard (touches {Q = Q} {P = P} (head_key shard) (Deletes keys ∷ []))
   world_asks (Settling settings) so = λ shard. tt
-  world_asks (Following server revision) so = λ shard. tt
+  world_asks (Following server revision acks told) so =
+      λ shard. none_asked asked shard (touches {Q = Q} {P = P} (head_key shard) (transaction_of {Q = Q} {P = P}
+      (Following server revision acks told)).writes)
   world_asks (Checking compares) so = λ shard. tt
   world_asks Foreign so = λ shard. tt
   world_asks (Changing process shard change next elected placed) so = absurd (true≢false (sym so))
@@ -115,9 +119,9 @@ module _ {M Q R : Type 0} where
   fleet_is [] = refl
   fleet_is (Serves act ∷ acts) = ap (λ (fleet : Fleet M Q R). fleet_acted fleet act) (fleet_is acts)
   fleet_is (Loads lead reads states placed control ∷ acts) = fleet_is acts
-  fleet_is (Judges control command (Sent sent) ∷ acts) =
+  fleet_is (Judges control acks command (Sent sent) ∷ acts) =
       ap (λ (fleet : Fleet M Q R). fleet_acted fleet (Otherwise (Sends (command_sent sent)))) (fleet_is acts)
-  fleet_is (Judges control command (Refused kept fault) ∷ acts) = fleet_is acts
+  fleet_is (Judges control acks command (Refused kept fault) ∷ acts) = fleet_is acts
   fleet_is (Hears sent outcome left ∷ acts) = fleet_is acts
 
   fleet_grows : (fleet : Fleet M Q R) (act : Act M Q R)
@@ -221,12 +225,12 @@ module _ {M Q R : Type 0} (service : Automaton M Q R) (given : Given) where
         );
         commands = run.commands;
       }
-  run_acts laws fleets acts (Judges control command (Sent sent)) run may =
+  run_acts laws fleets acts (Judges control acks command (Sent sent)) run may =
       let whole = whole_after acts in
       let log = whole.fleet.system.log in
       let good : IsGoodControl given log control =
       all_among (IsGoodControl given log) whole.controls control run.controls may.0 in
-      let judged = may.1 in
+      let judged = may.3 in
       let mine : IsGoodCommand given log sent = record {
         by = subst (IsGoodControl given log) (sym judged.1) good;
         allowed = subst (λ (c : StoreControl). command_fault c sent.command ≡ None) (sym judged.1)
@@ -237,7 +241,9 @@ module _ {M Q R : Type 0} (service : Automaton M Q R) (given : Given) where
       } in
       let sends : MaySend charter log (command_sent sent) =
       sent_may (base_of service) given log sent mine
-      (laws.sending (base_of service) log sent.control sent.command mine.by.sound mine.by.knows mine.allowed) in
+      (laws.sending (base_of service) log sent.control acks sent.command mine.by.sound mine.by.knows may.1 mine.allowed
+      (subst (λ (c : StoreControl). has_waited c acks sent.command ≡ true) (sym judged.1)
+      (subst (λ (c : Command). has_waited control acks c ≡ true) (sym judged.2) may.2))) in
       record {
         might = (
           subst (λ (fleet : Fleet M Q R). MaySend charter fleet.system.log (command_sent sent)) (fleet_is acts) sends,
@@ -246,7 +252,7 @@ module _ {M Q R : Type 0} (service : Automaton M Q R) (given : Given) where
         controls = run.controls;
         commands = (mine, run.commands);
       }
-  run_acts laws fleets acts (Judges control command (Refused kept fault)) run may = record {
+  run_acts laws fleets acts (Judges control acks command (Refused kept fault)) run may = record {
     might = run.might;
     controls = run.controls;
     commands = run.commands;
@@ -298,14 +304,14 @@ module _ {M Q R : Type 0} (service : Automaton M Q R) (given : Given) where
     all_ask laws acts run.1 asked.1,
   )
   all_ask laws (Loads lead reads states placed control ∷ acts) run asked = all_ask laws acts run.1 asked
-  all_ask laws (Judges control command (Sent sent) ∷ acts) run asked =
-      let judged = run.0.1 in (
+  all_ask laws (Judges control acks command (Sent sent) ∷ acts) run asked =
+      let judged = run.0.3 in (
         laws.asks (fleet_after (fleet_acts acts)).system.asked control command (command_sent sent)
             (ap (λ (c : StoreControl). command_transaction (sending_of c sent.write)) judged.1
             ∙ ap (λ (w : CommandWrite). command_transaction (sending_of control w)) judged.3),
         all_ask laws acts run.1 asked,
       )
-  all_ask laws (Judges control command (Refused kept fault) ∷ acts) run asked = all_ask laws acts run.1 asked
+  all_ask laws (Judges control acks command (Refused kept fault) ∷ acts) run asked = all_ask laws acts run.1 asked
   all_ask laws (Hears sent outcome left ∷ acts) run asked = all_ask laws acts run.1 asked
 
   -- what holds of all runs of servers holds with controls

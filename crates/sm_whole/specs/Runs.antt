@@ -17,6 +17,7 @@ use Rattle.sm_store.specs.System.{Event, Sends, Claims, IsAmong, May, System}
 use Rattle.sm_shard.specs.Bases.{Part, base_of}
 use Rattle.sm_shard.specs.Fleet.{Act, Fleet, Starts, Steps, Otherwise, MayAct, fleet_acted, fleet_after}
 use Rattle.sm_shard.specs.Steps.{IsRequestAsked, KeepsAsked}
+use Rattle.sm_lead.specs.declared.ack_read.AckRead.{AckRead}
 use Rattle.sm_lead.specs.declared.leadership.Leadership.{Leadership}
 use Rattle.sm_lead.specs.declared.record_read.RecordRead.{RecordRead}
 use Rattle.sm_lead.specs.declared.sent_command.Judged.{Judged}
@@ -29,6 +30,7 @@ use Rattle.sm_lead.specs.Commands.{IsAfter}
 use Rattle.sm_lead.specs.Controls.{CommandWasMade, IsLoaded, IsReadOf}
 use Rattle.sm_lead.specs.Placements.{SettingsRows, charter_of, rows_of}
 use Rattle.sm_lead.specs.Sendings.{IsJudged, command_transaction, sending_of}
+use Rattle.sm_lead.specs.Waits.{WereMade, has_waited}
 
 -- what all processes were given: the rows of the settings, the caps by which restarts are approved, and the greatest
 -- generation of a record
@@ -63,8 +65,8 @@ pub data WholeAct (M Q R : Type 0) : Type 0 where
   -- a control is made of what was read
   Loads : (lead : Leadership) (reads : List RecordRead) (states : List ServerState) (placed : ℕ)
       (control : StoreControl) → WholeAct M Q R
-  -- a control judges a command, and sends it or refuses it
-  Judges : (control : StoreControl) (command : Command) (judged : Judged) → WholeAct M Q R
+  -- a control that has read these acks judges a command, and sends it or refuses it
+  Judges : (control : StoreControl) (acks : List AckRead) (command : Command) (judged : Judged) → WholeAct M Q R
   -- a control is told what became of its command, and is left with what it knows then, if anything
   Hears : (sent : SentCommand) (outcome : SendOutcome) (left : Option StoreControl) → WholeAct M Q R
 
@@ -83,13 +85,13 @@ whole_acted whole (Serves act) =
     record { fleet = fleet_acted whole.fleet act; controls = whole.controls; commands = whole.commands }
 whole_acted whole (Loads lead reads states placed control) =
     record { fleet = whole.fleet; controls = control ∷ whole.controls; commands = whole.commands }
-whole_acted whole (Judges control command (Sent sent)) =
+whole_acted whole (Judges control acks command (Sent sent)) =
     record {
       fleet = fleet_acted whole.fleet (Otherwise (Sends (command_sent sent)));
       controls = whole.controls;
       commands = sent ∷ whole.commands;
     }
-whole_acted whole (Judges control command (Refused kept fault)) = whole
+whole_acted whole (Judges control acks command (Refused kept fault)) = whole
 whole_acted whole (Hears sent outcome left) =
     record { fleet = whole.fleet; controls = with_left left whole.controls; commands = whole.commands }
 
@@ -99,12 +101,12 @@ abbrev pub is_of_world : {Q P : Type 0} → Deed Q P → Bool
 is_of_world (Electing process) = true
 is_of_world (Expiring keys) = true
 is_of_world (Settling settings) = true
-is_of_world (Following server revision) = true
+is_of_world (Following server revision acks told) = true
 is_of_world (Checking compares) = true
 is_of_world Foreign = true
 is_of_world _ = false
 
--- what was sent is such a deed, by which only keys under leases go
+-- what was sent is such a deed: only keys under leases go by it, and a server acks only what it may
 pub record IsOfWorld {Q P : Type 0} (charter : Charter Q P) (log : List (Transaction Q P))
     (txn : Transaction Q P) : Type 0 where
   pub deed : Deed Q P
@@ -139,15 +141,16 @@ IsConcluded sent Lost left = left ≡ None
 IsConcluded sent Unknown left = left ≡ None
 
 -- it may happen: a server acts as it may, a control is made of what stood in the store at one moment, judges a command
--- as its contract says, or goes on from what it is told
+-- as its contract says, once whoever it waits for has let go by acks that were made, or goes on from what it is told
 abbrev pub MayBeActed : {M Q R : Type 0} → Automaton M Q R → Given → Whole M Q R → WholeAct M Q R → Type 0
 MayBeActed service given whole (Serves act) = MayServe service (charter_given service given) whole.fleet act
 MayBeActed service given whole (Loads lead reads states placed control) =
     AreSound control.desk.books
     × IsLoaded (desk_given given) lead given.ceiling reads states placed control
     × IsReadOf whole.fleet.system.log (desk_given given) lead reads states placed
-MayBeActed service given whole (Judges control command judged) =
-    IsAmong control whole.controls × IsJudged control command judged
+MayBeActed service given whole (Judges control acks command judged) =
+    IsAmong control whole.controls × WereMade whole.fleet.system.log acks
+    × (has_waited control acks command ≡ true) × IsJudged control command judged
 MayBeActed service given whole (Hears sent outcome left) =
     IsAmong sent whole.commands × IsToldSo whole.fleet.system.log sent outcome × IsConcluded sent outcome left
 
@@ -165,7 +168,7 @@ IsRun service given (act ∷ earlier) = MayBeActed service given (whole_after ea
 abbrev pub fleet_acts : {M Q R : Type 0} → List (WholeAct M Q R) → List (Act M Q R)
 fleet_acts [] = []
 fleet_acts (Serves act ∷ earlier) = act ∷ fleet_acts earlier
-fleet_acts (Judges control command (Sent sent) ∷ earlier) =
+fleet_acts (Judges control acks command (Sent sent) ∷ earlier) =
     Otherwise (Sends (command_sent sent)) ∷ fleet_acts earlier
 fleet_acts (_ ∷ earlier) = fleet_acts earlier
 

@@ -2,8 +2,9 @@
 use super::handing::{Handed, Handing};
 use super::{ask, Decide, Told};
 use durkenzo_driver::{
-    Addresses, Begin, CommandFault, ControlCommand, Durable, DurableControl, Elsewhere, MapReply,
-    MapRequest, Member, Next, NotDone, Own, Reads, Refused, Tuning, Work, WorkOutcome, WorkStep,
+    Acks, Addresses, Begin, CommandFault, ControlCommand, Durable, DurableControl, Elsewhere,
+    MapReply, MapRequest, Member, Next, NotDone, Own, Reads, Refused, Tuning, Work, WorkOutcome,
+    WorkStep,
 };
 use durkenzo_store::{
     Done, LeaseError, LeaseId, ReadError, Reading, Store, Transaction, Watch, Watcher, WriteError,
@@ -226,6 +227,7 @@ impl Net {
         let own = Own {
             member: Arc::new(self.member(&store, server)),
             elsewhere: Box::new(elsewhere),
+            acks: Acks::AsRead,
         };
         let durable = Durable::open_one(store, shards, self.tuning(), own, Box::new(|| {}));
         let durable = Arc::new(durable.expect("shards"));

@@ -11,7 +11,7 @@ use crate::works::Peers;
 use durkenzo::Stand;
 use durkenzo_control::control::{FIRST_WAIT, TURN};
 use durkenzo_control::links::{Identity, Terms};
-use durkenzo_driver::{keys, Addresses, Durable, DurableControl, Member, Own};
+use durkenzo_driver::{keys, Acks, Addresses, Durable, DurableControl, Member, Own};
 use durkenzo_store::{
     CompactError, Done, Embedded, LeaseError, LeaseId, ReadError, Reading, Store, Sync as SyncTime,
     Transaction, Watch, Watcher, WriteError,
@@ -227,7 +227,11 @@ impl Process {
         };
         let peers = Arc::new(Peers::new(terms, member.clone(), configuration.wait));
         let elsewhere = peers.hand_over();
-        let own = Own { member, elsewhere };
+        let own = Own {
+            member,
+            elsewhere,
+            acks: Acks::AsRead,
+        };
         let (shards, tuning) = (configuration.rule.shards(), configuration.tuning());
         let durable = Durable::open_one(way.clone(), shards, tuning, own, Box::new(|| {}));
         let durable = Arc::new(durable.unwrap());

@@ -9,7 +9,7 @@ use crate::settings;
 use crate::storage::OnEtcd;
 use crate::works::Peers;
 use durkenzo_control::links::{checksum, Identity, Terms};
-use durkenzo_driver::{Durable, Member, Own};
+use durkenzo_driver::{Acks, Durable, Member, Own};
 use durkenzo_store::{Etcd, Store, WriteError};
 use std::net::{SocketAddr, TcpListener};
 use std::sync::mpsc::SyncSender;
@@ -60,7 +60,11 @@ impl Joined {
         let terms = terms(&member, settings, &configuration.safety);
         let peers = Arc::new(Peers::new(terms, member.clone(), configuration.wait));
         let elsewhere = peers.hand_over();
-        let own = Own { member, elsewhere };
+        let own = Own {
+            member,
+            elsewhere,
+            acks: Acks::AsRead,
+        };
         let (shards, tuning) = (configuration.rule.shards(), configuration.tuning());
         let durable = Durable::open_one(store, shards, tuning, own, Box::new(|| {}))?;
         Ok(Joined {
