@@ -48,6 +48,8 @@ pub enum CommandFault {
     AlreadyFailed,
     /// A follower hasn't read that the shard is taken.
     NotFollowed,
+    /// The server's process is the one that was stopped, or none was seen.
+    EarlierProcess,
     /// The library answered this code, which this version doesn't know.
     Other(u32),
 }
@@ -76,6 +78,7 @@ impl CommandFault {
             48 => CommandFault::AlreadyUp,
             49 => CommandFault::AlreadyFailed,
             96 => CommandFault::NotFollowed,
+            98 => CommandFault::EarlierProcess,
             code => CommandFault::Other(code),
         }
     }
@@ -108,6 +111,9 @@ impl fmt::Display for CommandFault {
             CommandFault::AlreadyUp => "the server is up already",
             CommandFault::AlreadyFailed => "the server has failed already",
             CommandFault::NotFollowed => "a follower hasn't read that the shard is taken",
+            CommandFault::EarlierProcess => {
+                "the server's process is the one that was stopped, or none was seen"
+            }
             CommandFault::Other(code) => return write!(f, "the library answered code {code}"),
         })
     }
@@ -139,6 +145,7 @@ impl CommandFault {
             | CommandFault::AlreadyUp
             | CommandFault::AlreadyFailed
             | CommandFault::NotFollowed
+            | CommandFault::EarlierProcess
             | CommandFault::Other(_) => return None,
         })
     }
@@ -166,6 +173,7 @@ impl CommandFault {
             | CommandFault::NoCapacity
             | CommandFault::DomainLimit
             | CommandFault::NotFollowed
+            | CommandFault::EarlierProcess
             | CommandFault::Other(_) => return None,
         })
     }

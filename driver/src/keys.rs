@@ -8,7 +8,7 @@
 //! | `server/SERVER` | a process that runs this server, under its lease: where it is, and how far it follows records |
 //! | `lowest/SERVER` | the process that ran it last, and the first of the numbers by which it still has requests |
 //! | `commands` | the process that sent the latest command |
-//! | `state/SERVER` | how far a server's restart has come |
+//! | `state/SERVER` | how far a server's restart has come, and of which process that is said |
 //! | `drain/SERVER` | that the server's shards go elsewhere, until they have |
 //! | `home/SHARD` | the server to which the shard comes home, which it left for that one's restart |
 //! | `record/SHARD` | who executes the shard |

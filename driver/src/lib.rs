@@ -41,6 +41,7 @@ mod request;
 mod round;
 mod round_step;
 mod run;
+mod server_run;
 mod server_state;
 #[deny(clippy::disallowed_methods)]
 mod shard;
@@ -66,6 +67,7 @@ pub use open_fault::OpenFault;
 pub use planner::Planner;
 pub use refused::Refused;
 pub use request::{Key, MapReply, MapRequest, Range};
+pub use server_run::ServerRun;
 pub use server_state::ServerState;
 pub use stored_record::StoredRecord;
 pub use work::{Begin, NotDone, Numbered, Work, WorkOutcome, WorkStep};

@@ -101,7 +101,9 @@ impl Planner {
     ///
     /// `Judged` by the first fault that applies. The planner is then as it was.
     pub fn judge(&mut self, command: ControlCommand) -> Result<(), Refused> {
-        self.director.command(command).map_err(Refused::of)
+        // A server begins anew with each step, as no process of its own does.
+        let runs = self.made + 1;
+        self.director.command(command, runs).map_err(Refused::of)
     }
 
     /// Learns that the command that was judged was made.
@@ -152,7 +154,8 @@ impl Planner {
     ///
     /// `Judged` if there is no such server.
     pub fn state_of(&mut self, server: u16) -> Result<ServerState, Refused> {
-        self.director.state_of(server).map_err(Refused::of)
+        let run = self.director.run_of(server).map_err(Refused::of)?;
+        Ok(run.state)
     }
 }
 

@@ -3,7 +3,7 @@ use Rattle.std.specs.Prelude.{ℕ, ◌≡◌, ◌<◌, ◌++◌, ◌∷◌, [], 
 use Rattle.std.specs.Global.{Vec}
 use Rattle.sm_codec.specs.declared.stored_record.StoredRecord.{StoredRecord}
 use Rattle.sm_codec.specs.declared.stored_state.StoredState.{StoredState}
-use Rattle.sm_codec.specs.Spelling.{record_bytes, state_bytes}
+use Rattle.sm_codec.specs.Spelling.{SpellsState, record_bytes}
 use Rattle.sm_desk.specs.declared.command.Command.{Command}
 use Rattle.sm_desk.specs.declared.command.Command.TheVariants.{Change as ChangeOf}
 use Rattle.sm_desk.specs.declared.command.CommandFault.{CommandFault}
@@ -20,10 +20,10 @@ use Rattle.sm_lead.specs.NextSteps.{all_follow, step_of_drain, step_of_vacant, u
 use Rattle.sm_lead.specs.Placements.{charter_of, rows_of}
 use Rattle.sm_lead.specs.Sendings.{IsJudged, command_transaction, sending_of}
 use Rattle.sm_ownership.specs.declared.change.Change.TheVariants.{DropShard}
-use Rattle.sm_place.specs.declared.server_state.ServerState.{ServerState}
 use Rattle.sm_place.specs.Books.{new_books}
 use Rattle.sm_settings.specs.SettingsLine.{settings_of, values_of}
 use Rattle.sm_store.specs.declared.item.Item.{Item}
+use Rattle.sm_store.specs.declared.server_run.ServerRun.{ServerRun}
 use Rattle.sm_store.specs.Deeds.{MaySend}
 use Rattle.sm_store.specs.Store.{Transaction}
 use Rattle.sm_director.specs.declared.director.Director.{Director}
@@ -40,7 +40,7 @@ pub record IsNewDirector (line : List ℕ) (process elected : ℕ) (director : D
   pub process_is : director.lead.process ≡ process
   pub elected_is : director.lead.elected ≡ elected
   pub records : director.records.items ≡ []
-  pub states : director.states.items ≡ []
+  pub runs : director.runs.items ≡ []
   pub followers : director.followers.items ≡ []
   pub stage : director.stage ≡ Unread
 
@@ -52,20 +52,20 @@ with_records director records =
       caps = director.caps;
       lead = director.lead;
       records = records;
-      states = director.states;
+      runs = director.runs;
       followers = director.followers;
       stage = director.stage;
     }
 
 -- the director with other states that were added
-abbrev pub with_states : Director → Vec ServerState → Director
-with_states director states =
+abbrev pub with_runs : Director → Vec ServerRun → Director
+with_runs director runs =
     record {
       settings = director.settings;
       caps = director.caps;
       lead = director.lead;
       records = director.records;
-      states = states;
+      runs = runs;
       followers = director.followers;
       stage = director.stage;
     }
@@ -78,7 +78,7 @@ with_followers director followers =
       caps = director.caps;
       lead = director.lead;
       records = director.records;
-      states = director.states;
+      runs = director.runs;
       followers = followers;
       stage = director.stage;
     }
@@ -91,7 +91,7 @@ with_stage director stage =
       caps = director.caps;
       lead = director.lead;
       records = director.records;
-      states = director.states;
+      runs = director.runs;
       followers = director.followers;
       stage = stage;
     }
@@ -102,7 +102,7 @@ pub record KeepsAll (old new : Director) : Type 0 where
   pub caps : new.caps ≡ old.caps
   pub lead : new.lead ≡ old.lead
   pub records : new.records.items ≡ old.records.items
-  pub states : new.states.items ≡ old.states.items
+  pub runs : new.runs.items ≡ old.runs.items
   pub followers : new.followers.items ≡ old.followers.items
   pub stage : new.stage ≡ old.stage
 
@@ -116,8 +116,8 @@ AddsRecord bytes stood old new =
 -- the bytes spell the state that was added
 abbrev pub AddsState : List ℕ → Director → Director → Type 0
 AddsState bytes old new =
-    (stored : StoredState) × (states : Vec ServerState) × (bytes ≡ state_bytes stored)
-    × (states.items ≡ old.states.items ++ stored.state ∷ []) × (new ≡ with_states old states)
+    (stored : StoredState) × (runs : Vec ServerRun) × SpellsState bytes stored
+    × (runs.items ≡ old.runs.items ++ stored.run ∷ []) × (new ≡ with_runs old runs)
 
 -- the follower was added
 abbrev pub AddsFollower : ℕ → ℕ → Director → Director → Type 0
@@ -147,13 +147,13 @@ pub record LetsGo (old new : Director) : Type 0 where
   pub lead : new.lead ≡ old.lead
   pub followers : new.followers ≡ old.followers
   pub records : new.records.items ≡ []
-  pub states : new.states.items ≡ []
+  pub runs : new.runs.items ≡ []
 
 -- the control stands that is made of what was added
 abbrev pub LoadsControl : ℕ → Director → Director → Type 0
 LoadsControl placed old new =
     LetsGo old new × (control : StoreControl) × (new.stage ≡ Stands control)
-    × IsLoaded (desk_of_settings old) old.lead old.settings.ceiling old.records.items old.states.items placed control
+    × IsLoaded (desk_of_settings old) old.lead old.settings.ceiling old.records.items old.runs.items placed control
 
 -- nothing is read any more
 abbrev pub ForgetsAll : Director → Director → Type 0
@@ -173,17 +173,22 @@ IsFollowed control followers (ChangeOf k DropShard) =
     IsTrue (all_follow followers (read_at control.records.items k).stood)
 IsFollowed control followers command = Unit {0}
 
--- the control that stands doesn't refuse the command, and has sent it
-abbrev pub SendsCommand : Command → Director → Director → Type 0
-SendsCommand command old new =
+-- the control that stands doesn't refuse the command, and has sent it, where this process runs the server
+abbrev pub SendsCommand : ℕ → Command → Director → Director → Type 0
+SendsCommand process command old new =
     (control : StoreControl) × (sent : SentCommand) × (old.stage ≡ Stands control)
-    × IsJudged control command (JudgedSent sent) × IsFollowed control old.followers.items command × IsAllowedSend sent
-    × (new ≡ with_stage old (Sent sent))
+    × IsJudged control process command (JudgedSent sent) × IsFollowed control old.followers.items command
+    × IsAllowedSend sent × (new ≡ with_stage old (Sent sent))
 
 -- it refuses it, for this first fault
 abbrev pub RefusesCommand : Command → CommandFault → Director → Type 0
 RefusesCommand command fault director =
     (control : StoreControl) × (director.stage ≡ Stands control) × (command_fault control command ≡ Some fault)
+
+-- the control refuses the command by this fault, where it is a command's
+abbrev pub RefusesWith : StoreControl → Command → DirectorFault → Type 0
+RefusesWith control command (CommandRefused why) = command_fault control command ≡ Some why
+RefusesWith control command fault = Unit {0}
 
 -- where the fault is a command's, it refuses the command for that
 abbrev pub RefusesFor : Command → Director → DirectorFault → Type 0

@@ -104,6 +104,9 @@ pub(crate) const DIFFERENT: u32 = 95;
 
 /// A follower hasn't read that the shard is taken.
 pub(crate) const NOT_FOLLOWED: u32 = 96;
+
+/// The server's process is the one that was stopped, or none was seen.
+pub(crate) const EARLIER_PROCESS: u32 = 98;
 // End of them.
 
 /// The code of why a call on a director did nothing.
@@ -122,6 +125,7 @@ pub(crate) fn code_of(fault: DirectorFault) -> u32
         DirectorFault::Unread => UNREAD,
         DirectorFault::UnderWay => UNDER_WAY,
         DirectorFault::NotFollowed => NOT_FOLLOWED,
+        DirectorFault::EarlierProcess => EARLIER_PROCESS,
         DirectorFault::NotSent => NOT_SENT,
         DirectorFault::TooShort => TOO_SHORT,
     }

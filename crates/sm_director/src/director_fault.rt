@@ -28,6 +28,9 @@ pub enum DirectorFault {
     /// A follower hasn't read that the shard is taken.
     #[error("a follower hasn't read that the shard is taken")]
     NotFollowed,
+    /// The process that runs the server isn't later than the one that was stopped, or isn't known.
+    #[error("the server's process is the one that was stopped, or isn't known")]
+    EarlierProcess,
     /// No command was sent.
     #[error("no command was sent")]
     NotSent,

@@ -58,11 +58,11 @@ fn written_by(alloc: Global, process: u64, write: &CommandWrite) -> Result<Vec<u
             )?;
             Ok(bytes)
         }
-        CommandWrite::State { state, .. } => {
+        CommandWrite::State { run, .. } => {
             let bytes = write_state(
                 alloc,
                 &StoredState {
-                    state: *state,
+                    run: *run,
                     process,
                 },
             )?;

@@ -9,8 +9,9 @@ use Rattle.sm_ownership.specs.declared.record.Record.{Record}
 use Rattle.sm_ownership.specs.History.{after_change, change_fits}
 use Rattle.sm_ownership.specs.Rules.{stand_after}
 use Rattle.sm_place.specs.declared.server_state.ServerState.TheVariants.{Failed}
+use Rattle.sm_store.specs.declared.server_run.ServerRun.{ServerRun}
 use Rattle.sm_store.specs.Store.{Transaction, Write, Commands, Stands, made_at, revision_of, server_key, stored_record}
-use Rattle.sm_store.specs.Store.{stored_state}
+use Rattle.sm_store.specs.Store.{stored_run, stored_state}
 use Rattle.sm_store.specs.Deeds.{AreRight, Charter, Deed, Electing, Expiring, Changing, Restarting, Settling, Executing}
 use Rattle.sm_store.specs.Deeds.{Basing, Naming, Clearing, Following, Checking, Foreign, IsRight, WasRight}
 use Rattle.sm_store.specs.Deeds.{done_at}
@@ -92,8 +93,8 @@ module _ {Q P : Type 0} (charter : Charter Q P) (server revision : ℕ) where
   state_deed : (log : List (Transaction Q P)) (deed : Deed Q P) → IsRight charter log deed
       → 0 < revision_of (server_key server) log → stored_state server log ≢ Failed
       → stored_state server (done_at revision deed ∷ log) ≢ Failed
-  state_deed log (Restarting process at state elected placed) right there was =
-      cond_both (at == server) state (stored_state server log) (λ k. k ≢ Failed)
+  state_deed log (Restarting process at run elected placed) right there was =
+      cond_both (at == server) run (stored_run server log) (λ (k : ServerRun). k.state ≢ Failed)
       (λ same fails.
       let gone = subst (λ (n : ℕ). revision_of (server_key n) log ≡ 0) (eqb-true at server same)
       (right.absent fails) in

@@ -20,9 +20,11 @@ pub mod compare;
 pub mod head;
 pub mod item;
 pub mod laws;
+pub mod server_run;
 pub mod store_key;
 
 pub use compare::Compare;
 pub use head::Head;
 pub use item::Item;
+pub use server_run::ServerRun;
 pub use store_key::{LastingKey, PassingKey, StoreKey};

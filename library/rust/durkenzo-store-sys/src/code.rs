@@ -100,6 +100,8 @@ impl Code {
     pub const DIRECTOR_DIFFERENT: Code = Code(95);
     /// A follower hasn't read that the shard is taken.
     pub const DIRECTOR_NOT_FOLLOWED: Code = Code(96);
+    /// The server's process is the one that was stopped, or none was seen.
+    pub const DIRECTOR_EARLIER_PROCESS: Code = Code(98);
     /// The first of the control's codes of a line of settings.
     pub const FIRST_OF_SETTINGS: Code = Code(70);
     /// The last of them.

@@ -139,21 +139,21 @@ fn a_shard_is_dropped_once_all_follow() -> Result<(), Code> {
         (11, DirectorStep::PREPARE_DROP_SHARD, 0),
         (12, DirectorStep::ADD_SHARD, 0),
     ] {
-        director.command(DirectorStep::of_shard(kind, 0, server))?;
+        director.command(DirectorStep::of_shard(kind, 0, server), 0)?;
         director.made(at)?;
     }
     let drop = DirectorStep::of_shard(DirectorStep::DROP_SHARD, 0, 0);
     director.follower(2, 11)?;
-    assert_eq!(director.command(drop), Err(NOT_FOLLOWED));
+    assert_eq!(director.command(drop, 0), Err(NOT_FOLLOWED));
     director.forget_followers()?;
     director.follower(2, 12)?;
-    director.command(drop)
+    director.command(drop, 0)
 }
 
 #[test]
 fn a_command_compares_the_election_by_which_it_leads() -> Result<(), Code> {
     let mut director = leading()?;
-    director.command(DirectorStep::of_shard(DirectorStep::ASSIGN, 0, 1))?;
+    director.command(DirectorStep::of_shard(DirectorStep::ASSIGN, 0, 1), 0)?;
     let sending = director.sending()?;
     assert_eq!((sending.elected, sending.placed), (3, 0));
     Ok(())
@@ -162,7 +162,7 @@ fn a_command_compares_the_election_by_which_it_leads() -> Result<(), Code> {
 #[test]
 fn what_was_lost_is_to_be_read_again() -> Result<(), Code> {
     let mut director = leading()?;
-    director.command(DirectorStep::of_shard(DirectorStep::ASSIGN, 0, 1))?;
+    director.command(DirectorStep::of_shard(DirectorStep::ASSIGN, 0, 1), 0)?;
     director.lost()?;
     assert_eq!(director.next_of_shard(0).err(), Some(UNREAD));
     Ok(())

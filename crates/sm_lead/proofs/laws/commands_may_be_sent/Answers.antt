@@ -2,5 +2,5 @@ use Rattle.sm_lead.proofs.Knowing.{may_be_sent}
 use Rattle.sm_lead.proofs.laws.commands_may_be_sent.Goals as goal
 
 pub returns : goal.returns
-returns g c = λ parts log control command sound knows none.
-    may_be_sent parts log control sound knows c.change_refused_exactly.ensures command none
+returns g c = λ parts log control process command sound knows none named.
+    may_be_sent parts log control sound knows c.change_refused_exactly.ensures process command none named

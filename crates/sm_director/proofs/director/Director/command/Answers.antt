@@ -1,14 +1,15 @@
-use Rattle.std.proofs.Common.{◌≡◌, refl, sym, subst, List}
+use Rattle.std.proofs.Common.{◌≡◌, true, refl, sym, subst, List}
 use Rattle.std.specs.Prelude.{None}
 use Rattle.sm_place.specs.Sound.{AreSound}
 use Rattle.sm_store.specs.Deeds.{MaySend}
 use Rattle.sm_lead.specs.declared.command_write.CommandWrite.{CommandWrite}
 use Rattle.sm_lead.specs.declared.follower.Follower.{Follower}
 use Rattle.sm_lead.specs.declared.store_control.StoreControl.{StoreControl}
-use Rattle.sm_lead.specs.Commands.{command_fault, write_of}
+use Rattle.sm_lead.specs.Commands.{command_fault, may_name, write_of}
 use Rattle.sm_lead.specs.Placements.{charter_of, rows_of}
 use Rattle.sm_lead.specs.Sendings.{command_transaction, sending_of}
 use Rattle.sm_director.specs.Directors.{IsFollowed}
+use Rattle.sm_director.proofs.Refusals.{refuses}
 use Rattle.sm_director.proofs.director.Director.command.Goals as goal
 
 -- what is sent is what the law says of the control that judged it
@@ -19,7 +20,9 @@ returns-in-Sent-command-clause-sent c =
     let same = sym judged.1 in
     let sound = subst (λ (k : StoreControl). AreSound k.desk.books) same c.soundness.ensures.books in
     let allowed = subst (λ (k : StoreControl). command_fault k c.args.command ≡ None) same judged.0 in
-    let written = subst (λ (k : StoreControl). sent.write ≡ write_of k c.args.command) same judged.3 in (
+    let written = subst (λ (k : StoreControl). sent.write ≡ write_of k c.args.process c.args.command) same judged.3 in
+    let named = subst (λ (k : StoreControl). may_name k (write_of k c.args.process c.args.command) ≡ true) same
+    (sym c.if-not-is_named.ensures) in (
       c.in-Stands.control,
       sent,
       sym c.in-Stands.ensures.value,
@@ -29,9 +32,15 @@ returns-in-Sent-command-clause-sent c =
       λ parts log knows.
           subst (λ (it : CommandWrite). MaySend (charter_of (rows_of sent.control.desk.books) sent.control.desk.caps
           sent.control.ceiling parts) log (command_transaction (sending_of sent.control it)))
-          (sym written) (c.commands_may_be_sent.ensures parts log sent.control c.args.command sound knows allowed),
+          (sym written) (c.commands_may_be_sent.ensures parts log sent.control c.args.process c.args.command sound
+          knows allowed named),
       refl,
     )
+
+pub returns-then-not-is_named-clause-refused : goal.returns-then-not-is_named-clause-refused
+returns-then-not-is_named-clause-refused c =
+    refuses c.in-Stands.control c.args.command c.args.self.now c.unnamed-refused.result
+    (sym c.in-Stands.ensures.value) c.unnamed-refused.ensures
 
 pub returns-in-Refused-clause-refused : goal.returns-in-Refused-clause-refused
 returns-in-Refused-clause-refused c =
