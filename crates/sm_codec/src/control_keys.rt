@@ -104,10 +104,7 @@ fn nameless_state_of(bytes: &[u8]) -> Result<StoredState, ReadError>
     let (number, process) = pair_of(bytes)?;
     match state_named(number) {
         Some(state) => Ok(StoredState {
-            run: ServerRun {
-                state,
-                process: 0,
-            },
+            run: ServerRun { state, process: 0 },
             process,
         }),
         None => Err(ReadError::Fault(Fault::State)),

@@ -59,13 +59,7 @@ fn written_by(alloc: Global, process: u64, write: &CommandWrite) -> Result<Vec<u
             Ok(bytes)
         }
         CommandWrite::State { run, .. } => {
-            let bytes = write_state(
-                alloc,
-                &StoredState {
-                    run: *run,
-                    process,
-                },
-            )?;
+            let bytes = write_state(alloc, &StoredState { run: *run, process })?;
             Ok(bytes)
         }
     }

@@ -78,11 +78,11 @@ module _ {Q P : Type 0} where
       let servers : books.servers ≡ desk.books.servers = ap (λ rows. rows.servers) loaded.rows.rows in
       let many = loaded.states_are.count in
       let own : (a : ℕ) → IsKnown books.servers a
-          → get_or runs (place_of books.servers a) unentered ≡ stored_run a read.past = λ a known.
-          let place = place_of books.servers a in
-          read.runs_were place (omega arith)
-          ∙ ap (λ (id : ℕ). stored_run id read.past)
-          (ap (λ rows. (get_or rows place no_server).id) (sym servers) ∙ id-at_place books.servers a known) in
+      → get_or runs (place_of books.servers a) unentered ≡ stored_run a read.past = λ a known.
+      let place = place_of books.servers a in
+      read.runs_were place (omega arith)
+      ∙ ap (λ (id : ℕ). stored_run id read.past)
+      (ap (λ rows. (get_or rows place no_server).id) (sym servers) ∙ id-at_place books.servers a known) in
       record {
         led = subst (λ (l : Leadership). HasLed log l.process l.elected) (sym loaded.lead_is) read.led;
         read = placement_of read.past;

@@ -95,11 +95,7 @@ impl StoreControl {
         let named = self.process_of(server);
         ServerRun {
             state,
-            process: if named < process {
-                process
-            } else {
-                named
-            },
+            process: if named < process { process } else { named },
         }
     }
 
@@ -176,17 +172,15 @@ pub(crate) fn place_of(desk: &Desk, server: ServerId) -> usize
 fn row_of(desk: &Desk, server: ServerId) -> Option<usize>
     ensures { result ≡ position (λ row. row.id == server) desk.now.books.servers }
 {
-    desk.books()
-        .rows()
-        .iter()
-        .position(|row| row.id == server)
+    desk.books().rows().iter().position(|row| row.id == server)
 }
 
 // Whether a state may be said of the process after the one before.
 fn is_next_run(before: &ServerRun, next: &ServerRun) -> bool
     ensures { result ≡ is_next_run before.now next.now }
 {
-    let is_back = matches!(before.state, ServerState::Stopped) && matches!(next.state, ServerState::Up);
+    let is_back = matches!(before.state, ServerState::Stopped)
+        && matches!(next.state, ServerState::Up);
     let is_named = next.process > 0 || !matches!(next.state, ServerState::Stopped);
     before.process <= next.process && (!is_back || before.process < next.process) && is_named
 }
