@@ -40,7 +40,7 @@ use Rattle.sm_lead.specs.Commands.{IsAfter, command_fault, write_of}
 use Rattle.sm_lead.specs.Controls.{CommandWasMade, IsLoaded, IsReadOf, KnowsStore}
 use Rattle.sm_lead.specs.Placements.{HasRowsOf, books_in, charter_of, rows_of}
 use Rattle.sm_lead.specs.Sendings.{command_transaction, sending_of}
-use Rattle.sm_lead.specs.Waits.{WereMade, has_waited}
+use Rattle.sm_lead.specs.Waits.{AreAcksMade, has_waited}
 use Rattle.sm_whole.specs.Runs.{AreGivenAsked, Given, IsRun, MayBeActed, MayOccur, WholeAct, charter_given}
 use Rattle.sm_whole.specs.Runs.{Serves, Loads, Judges, Hears, command_sent, desk_given, fleet_acts, is_of_world}
 use Rattle.sm_whole.specs.Runs.{AreByExecutors, IsGivenAsked, IsConcluded, IsToldSo, MayServe, first_books}
@@ -60,7 +60,7 @@ pub record ControlLaws (Q R : Type 0) : Type 0 where
       → IsReadOf log desk lead reads states placed → KnowsStore log control
   pub sending : (parts : List (Item Q) → List (Part R)) (log : StoreLog Q R) (control : StoreControl)
       (acks : List AckRead) (command : Command) → AreSound control.desk.books → KnowsStore log control
-      → WereMade log acks → command_fault control command ≡ None → has_waited control acks command ≡ true
+      → AreAcksMade log acks → command_fault control command ≡ None → has_waited control acks command ≡ true
       → MaySend (charter_of (rows_of control.desk.books) control.desk.caps control.ceiling parts) log
       (command_transaction (sending_of control (write_of control command)))
   pub outcome : (charter : Charter Q (Part R)) (log : StoreLog Q R) (control new : StoreControl) (command : Command)

@@ -30,7 +30,7 @@ use Rattle.sm_lead.specs.Commands.{IsAfter}
 use Rattle.sm_lead.specs.Controls.{CommandWasMade, IsLoaded, IsReadOf}
 use Rattle.sm_lead.specs.Placements.{SettingsRows, charter_of, rows_of}
 use Rattle.sm_lead.specs.Sendings.{IsJudged, command_transaction, sending_of}
-use Rattle.sm_lead.specs.Waits.{WereMade, has_waited}
+use Rattle.sm_lead.specs.Waits.{AreAcksMade, has_waited}
 
 -- what all processes were given: the rows of the settings, the caps by which restarts are approved, and the greatest
 -- generation of a record
@@ -149,7 +149,7 @@ MayBeActed service given whole (Loads lead reads states placed control) =
     × IsLoaded (desk_given given) lead given.ceiling reads states placed control
     × IsReadOf whole.fleet.system.log (desk_given given) lead reads states placed
 MayBeActed service given whole (Judges control acks command judged) =
-    IsAmong control whole.controls × WereMade whole.fleet.system.log acks
+    IsAmong control whole.controls × AreAcksMade whole.fleet.system.log acks
     × (has_waited control acks command ≡ true) × IsJudged control command judged
 MayBeActed service given whole (Hears sent outcome left) =
     IsAmong sent whole.commands × IsToldSo whole.fleet.system.log sent outcome × IsConcluded sent outcome left
