@@ -137,7 +137,6 @@ latest_admits history number shard server mode =
     let mine : (number == number) ≡ true = eq-eqb number number refl in
     rw (reverse-append history (entry_of number shard (Admit server mode) ∷ [])) (rw (here, mine) refl)
 
-
 -- a pass has seen what the other one had, and the other one then all that it has
 module _ {S Q : Type 0} (board : BoardValue) (mine mine' theirs theirs' theirs'' : PassValue Q)
     (permit other : PermitValue S) (on : mine.board ≡ board) (also_on : theirs.board ≡ board)

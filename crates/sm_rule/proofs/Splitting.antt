@@ -78,7 +78,7 @@ module _ {S Q : Type 0} (rests : S → ℕ → List Q → Type 0) (limit : S →
       let number = (holds.fit id view at live).number_is in
       let below = below_end views id view at in (
         subst (λ n. n < length after) (sym number) (subst (λ many. id < many) (sym (length-set views id (cutting view)))
-        below),
+            below),
         λ one there acts.
             let same : cutting view ≡ one =
             some-injective (cutting view) one (sym (set_here views id (cutting view) below)

@@ -647,8 +647,10 @@ module _ {M Q R : Type 0} (service : Automaton M Q R) where
       → (others : List (Claim Q R)) → AllByRecursion (MayClaim service system) others
       → AllByRecursion (MayClaim service system)
       (claimed_read shard item.request item.client item.number
-      (if b then Some (service.reply ready.replica.machine item.request,
-      service.text ready.replica.machine item.request) else None) others)
+      (if b then Some (
+        service.reply ready.replica.machine item.request,
+        service.text ready.replica.machine item.request,
+      ) else None) others)
   read_one system since me shard ready knows did item asked false is others all = all
   read_one system since me shard ready knows did item asked true is others all =
       (read_may system since me shard ready knows did item asked is, all)

@@ -484,7 +484,9 @@ pub fn unsettle<Q: Drop, R: Copy + Drop, M: StoreMachine<Q, R>>(ready: &mut Shar
 }
 
 /// Has the server catch up with the log before it decides, and forget the base that it makes.
-pub fn stop_deciding<Q: Drop, R: Copy + Drop, M: StoreMachine<Q, R>>(ready: &mut ShardState<M, Q, R>)
+pub fn stop_deciding<Q: Drop, R: Copy + Drop, M: StoreMachine<Q, R>>(
+    ready: &mut ShardState<M, Q, R>,
+)
     ensures { ready.new ≡ record ready.old { work = None; decides = false } }
 {
     ready.work = None;

@@ -79,7 +79,10 @@ impl<S: Service> Board<S> {
     }
 
     // A new seat with a number of its own, which has seen all that this one has. It names this one as its parent.
-    pub(super) fn cut(&self, seat: &mut Seat<Option<S>, View<S::Request>>) -> Seat<Option<S>, View<S::Request>>
+    pub(super) fn cut(
+        &self,
+        seat: &mut Seat<Option<S>, View<S::Request>>,
+    ) -> Seat<Option<S>, View<S::Request>>
         requires table { seat.old.table_id ≡ self.now.id }
         requires live { seat.old.me.0.stage ≡ Acting }
         ensures table { seat.new.table_id ≡ seat.old.table_id }
