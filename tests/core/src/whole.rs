@@ -1,4 +1,4 @@
-use crate::lead::desk;
+use crate::lead::{desk, in_state};
 use crate::shard::{HEAD, LIMITS, item};
 use crate::sum::Sum;
 use sm_desk::Command;
@@ -22,15 +22,9 @@ fn elected(rt: &impl Abort, alloc: Global) -> StoreControl {
         stood: 0,
     };
     let records = Vec::from_slice(alloc, &[unwritten; 4]).expect(rt, "memory");
+    let runs = Vec::from_slice(alloc, &[in_state(ServerState::Up); 3]).expect(rt, "memory");
     let lead = Leadership::new(9, 1).expect(rt, "a revision");
-    let read = StoreControl::read(
-        desk(rt, alloc),
-        lead,
-        100,
-        records,
-        &[ServerState::Up; 3],
-        0,
-    );
+    let read = StoreControl::read(desk(rt, alloc), lead, 100, records, runs, 0);
     read.ok().expect(rt, "a control")
 }
 
@@ -44,7 +38,7 @@ fn started(rt: &impl Abort, me: ServerId) -> ShardServer<Sum, u64, u64> {
 // The control sends the change, which is made at this revision.
 fn made(rt: &impl Abort, control: StoreControl, change: Change, revision: u64) -> StoreControl {
     let shard = ShardId::new(0).expect(rt, "a shard");
-    match control.command(Command::Change(shard, change)) {
+    match control.command(0, Command::Change(shard, change)) {
         Judged::Sent(sent) => {
             let outcome = SendOutcome::Made(revision);
             sent.outcome(outcome).expect(rt, "a command that is made")
@@ -63,7 +57,8 @@ fn executes_once_it_is_assigned(rt: HostRuntime) {
     let (item, head) = (item(7, 5), HEAD);
     let mut server = started(&rt, one);
     let control = elected(&rt, rt.alloc());
-    let Judged::Sent(sent) = control.command(Command::Change(shard, Change::Assign(one))) else {
+    let assign = Command::Change(shard, Change::Assign(one));
+    let Judged::Sent(sent) = control.command(0, assign) else {
         return;
     };
     let control = sent.outcome(SendOutcome::Made(2)).expect(&rt, "made");
