@@ -1,7 +1,7 @@
 use sm_desk::{Command, CommandFault, Desk};
 use sm_lead::{
-    AckRead, CommandSending, CommandWrite, Follower, Judged, Leadership, LoadFault, NextStep, RecordRead,
-    SendOutcome, StoreControl,
+    AckRead, CommandSending, CommandWrite, Follower, Judged, Leadership, LoadFault, NextStep,
+    RecordRead, SendOutcome, StoreControl,
 };
 use sm_ownership::{Change, Record};
 use sm_place::{Books, ServerState};
@@ -212,7 +212,9 @@ fn migrates_across_leaders(rt: HostRuntime) {
     // The next owner isn't prepared yet: it acked another shard, or an earlier record.
     assert!(rt; control.next_of_shard(k, &followers(0), &[]) == NextStep::Waits);
     let other = ack(shard(&rt, 1), two, 9);
-    assert!(rt; control.next_of_shard(k, &followers(0), &[other, ack(k, two, 1)]) == NextStep::Waits);
+    assert!(rt;
+        control.next_of_shard(k, &followers(0), &[other, ack(k, two, 1)]) == NextStep::Waits
+    );
     assert!(rt; !control.is_prepared(&[other], k));
     let step = control.next_of_shard(k, &followers(0), &acks(&store, k));
     let old = taken(&rt, &mut store, control, step);
