@@ -72,7 +72,7 @@ pub(crate) fn server_of(key: &[u8]) -> Option<u16> {
     number_behind(key, SERVERS)
 }
 
-/// The shard and the server of this key, where it is that of an ack.
+/// The shard and the server of this key, if it is that of an ack.
 pub(crate) fn shard_and_server_of_ack(key: &[u8]) -> Option<(u16, u16)> {
     let numbers = std::str::from_utf8(key.strip_prefix(ACKS)?).ok()?;
     let (shard, server) = numbers.split_once('/')?;

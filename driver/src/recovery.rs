@@ -201,7 +201,7 @@ fn read_whole(store: &dyn Store, place: ServerPlace) -> Result<Recovered, Recove
 }
 
 /// The server with what was added to the log since; none if that isn't there, or the server can't go on from it. It
-/// keeps what it had made where the store doesn't answer.
+/// keeps what it had made if the store doesn't answer.
 fn caught_up(
     store: &dyn Store,
     mut core: Core,
@@ -246,7 +246,7 @@ fn recovered(core: Core, now: Moment, log: LogRead) -> Recovered {
     }
 }
 
-/// The value and the revision of a key, or these bytes where it was never written.
+/// The value and the revision of a key, or these bytes if it was never written.
 fn found(reading: &Reading, key: &[u8], never: &[u8]) -> (Vec<u8>, Revision) {
     reading.get(key).map_or_else(
         || (never.to_vec(), Revision::NEVER),

@@ -35,7 +35,7 @@ impl RouteMap {
     ///
     /// # Errors
     ///
-    /// Where the store can't be read.
+    /// If the store can't be read.
     pub fn watch(store: &dyn Store) -> Result<RouteMap, ReadError> {
         let seen = Arc::<RwLock<SeenRoutes>>::default();
         let watch = |prefix| {

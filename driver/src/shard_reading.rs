@@ -22,7 +22,7 @@ impl ShardReading {
     ///
     /// # Errors
     ///
-    /// Where the store can't be read.
+    /// If the store can't be read.
     pub fn read(
         store: &dyn Store,
         server: u16,

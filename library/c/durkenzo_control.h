@@ -199,7 +199,8 @@ uint32_t durkenzo_director_forget_acks(durkenzo_director_handle *director);
 /* What comes next of a shard: its migration takes the next step once its next owner has acked that it is prepared, and
  * then once its owner has acked that it let go; it ends once each follower has read that the shard is taken. One to a
  * server that is leaving is given up before it forwards, and one to a server that has failed before the shard is taken.
- * What a failed server owns is paused, and goes to another. A command that it names isn't refused. Errors: WRONG_HANDLE, UNKNOWN_SHARD, UNREAD, UNDER_WAY. */
+ * What a failed server owns is paused, and goes to another. A command that it names isn't refused.
+ * Errors: WRONG_HANDLE, UNKNOWN_SHARD, UNREAD, UNDER_WAY. */
 uint32_t durkenzo_director_next_of_shard(durkenzo_director_handle *director, uint16_t shard, durkenzo_step *step);
 
 /* What comes next of a server's restart: one that was asked for is approved as soon as the caps allow it, one that was

@@ -207,7 +207,7 @@ IsFollowed control followers (ChangeOf k DropShard) =
     IsTrue (all_follow followers (read_at control.records.items k).stood)
 IsFollowed control followers command = Unit {0}
 
--- where by the command the owner of a shard begins to forward, the next owner has acked the record
+-- if by the command the owner of a shard begins to forward, the next owner has acked the record
 abbrev pub IsPrepared : StoreControl → List AckRead → Command → Type 0
 IsPrepared control acks (ChangeOf k PrepareDropShard) = IsTrue (is_prepared control acks k)
 IsPrepared control acks command = Unit {0}

@@ -380,7 +380,22 @@ fn has_waited(control: &StoreControl, acks: &[AckRead], command: &Command) -> bo
 {
     let is_prepared = match command {
         Command::Change(k, Change::PrepareDropShard) => control.is_prepared(acks, *k),
-        _ => true,
+        Command::Change(
+            _,
+            Change::Assign(_)
+            | Change::PrepareAddShard(_)
+            | Change::AddShard
+            | Change::DropShard
+            | Change::Cancel
+            | Change::Pause
+            | Change::Resume
+            | Change::Reassign(_),
+        )
+        | Command::Ask(_)
+        | Command::Approve(_)
+        | Command::Stopped(_)
+        | Command::Back(_)
+        | Command::Fail(_) => true,
     };
     is_prepared && control.has_waited(acks, command)
 }

@@ -33,8 +33,8 @@ impl StoreControl {
         }
     }
 
-    /// Returns whether the server that the command waits for has let go: one that may execute by the record as it is,
-    /// and doesn't by the next one.
+    /// Returns whether the server that the command waits for has acked the record, or has failed. Commands wait for a
+    /// server if they are `AddShard`, `Reassign`, or `Cancel` once the shard forwards.
     pub fn has_waited(&self, acks: &[AckRead], command: &Command) -> bool
         ensures { result ≡ has_waited self.now acks.now command.now }
     {

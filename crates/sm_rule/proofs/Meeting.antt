@@ -1,5 +1,5 @@
 -- A seat that takes in another keeps the rule, and so does the load that looks at the history then.
-use Rattle.std.proofs.Common.{◌≡◌, ◌≢◌, ℕ, ◌<◌, ◌≤◌, List, length, refl, sym, ap, ◌∙◌, subst, inl, inr, le_refl, ⊎_elim}
+use Rattle.std.proofs.Common.{◌≡◌, ◌≢◌, ℕ, ◌<◌, ◌≤◌, List, refl, sym, ap, ◌∙◌, subst, inl, inr, le_refl, ⊎_elim}
 use Rattle.std.specs.Prelude.{Option, Some, reverse, slice_set}
 use Rattle.std.proofs.lemmas.List.{length-set, reverse-reverse}
 use mathlib.Core.Option as math

@@ -1,6 +1,6 @@
 -- A seat that is cut in two keeps the rule, and so does the first load of its second half.
 use Rattle.std.proofs.Common.{◌≡◌, ◌≢◌, ℕ, ◌<◌, ◌≤◌, List, [], ◌∷◌, ◌++◌, length, refl, sym, ap, ◌∙◌, subst, arith}
-use Rattle.std.proofs.Common.{inl, le_refl, length-append, ◌+◌, ◌⊎◌, ⊎_elim}
+use Rattle.std.proofs.Common.{inl, le_refl, length-append, ◌+◌, ⊎_elim}
 use Rattle.std.specs.Prelude.{Option, Some, None, reverse, slice_index, slice_set}
 use Rattle.std.proofs.lemmas.List.{length-set, reverse-reverse, set-get_or}
 use Rattle.std.proofs.lemmas.List.Elements.{All-nil}

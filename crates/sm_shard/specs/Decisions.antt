@@ -121,7 +121,7 @@ abbrev pub waiting_after : {M Q R : Type 0} → ShardLimits → (Q → ℕ) → 
 waiting_after limits size ready me item =
     if is_taken limits size ready me item then ready.waiting.items ++ item ∷ [] else ready.waiting.items
 
--- what is decided where the server has read, and where it hasn't, or is to catch up first
+-- what is decided if the server has read, and if it hasn't, or is to catch up first
 abbrev pub server_decision : {M Q R : Type 0} → ShardLimits → (Q → ℕ) → Option (ShardState M Q R) → ℕ → Item Q
     → Decision R
 server_decision limits size None me item = NotRead
@@ -143,7 +143,7 @@ asking_after limits ready me item =
     then ready.asking.items ++ item ∷ []
     else ready.asking.items
 
--- what is decided of one that only reads, where the server has read, and where it hasn't, or is to catch up first
+-- what is decided of one that only reads, if the server has read, and if it hasn't, or is to catch up first
 abbrev pub server_read_decision : {M Q R : Type 0} → ShardLimits → Option (ShardState M Q R) → ℕ → Item Q → Decision R
 server_read_decision limits None me item = NotRead
 server_read_decision limits (Some ready) me item =

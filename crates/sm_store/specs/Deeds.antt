@@ -275,7 +275,7 @@ IsHonest charter (txn ∷ earlier) = WasHonest charter earlier txn × IsHonest c
 -- below, `log` is the store before the deed
 
 -- the change is made by who leads, and the rule allows it of the record, and the control of all records and states;
--- whoever may execute by the record before, and doesn't by the next one, has let go
+-- `AddShard`, `Reassign`, and `Cancel` once it forwards, wait until the server that gives up has acked or failed
 pub record IsRightChange {Q P : Type 0} (charter : Charter Q P) (log : List (Transaction Q P)) (process shard : ℕ)
     (change : Change)
     (next : Record) : Type 0 where

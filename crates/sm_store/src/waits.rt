@@ -15,11 +15,24 @@ pub fn waits_for(stand: Stand, change: Change) -> Option<ServerId>
         Stand::Forwarding { owner, next } => match change {
             Change::AddShard => Some(owner),
             Change::Cancel => Some(next),
-            _ => None,
+            Change::Assign(_)
+            | Change::PrepareAddShard(_)
+            | Change::PrepareDropShard
+            | Change::DropShard
+            | Change::Pause
+            | Change::Resume
+            | Change::Reassign(_) => None,
         },
         Stand::Paused(owner) => match change {
             Change::Reassign(_) => Some(owner),
-            _ => None,
+            Change::Assign(_)
+            | Change::PrepareAddShard(_)
+            | Change::PrepareDropShard
+            | Change::AddShard
+            | Change::DropShard
+            | Change::Cancel
+            | Change::Pause
+            | Change::Resume => None,
         },
         Stand::Vacant | Stand::Serving(_) | Stand::Prepared { .. } | Stand::Taken { .. } => None,
     }

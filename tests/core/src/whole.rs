@@ -2,7 +2,7 @@ use crate::lead::{desk, in_state};
 use crate::shard::{HEAD, LIMITS, item};
 use crate::sum::Sum;
 use sm_desk::Command;
-use sm_lead::{Judged, Leadership, RecordRead, SendOutcome, StoreControl, read_at};
+use sm_lead::{AckRead, Judged, Leadership, RecordRead, SendOutcome, StoreControl, read_at};
 use sm_ownership::{Change, Record};
 use sm_place::ServerState;
 use sm_ranges::{ServerId, ShardId, Stand};
@@ -35,10 +35,18 @@ fn started(rt: &impl Abort, me: ServerId) -> ShardServer<Sum, u64, u64> {
     made.expect(rt, "one of four shards")
 }
 
-// The control sends the change, which is made at this revision.
-fn made(rt: &impl Abort, control: StoreControl, change: Change, revision: u64) -> StoreControl {
+// The control sends the change, for which it has waited by these acks, and which is made at this revision.
+fn made(
+    rt: &impl Abort,
+    control: StoreControl,
+    acks: &[AckRead],
+    change: Change,
+    revision: u64,
+) -> StoreControl {
     let shard = ShardId::new(0).expect(rt, "a shard");
-    match control.command(0, Command::Change(shard, change)) {
+    let command = Command::Change(shard, change);
+    assert!(rt; control.has_waited(acks, &command));
+    match control.command(0, command) {
         Judged::Sent(sent) => {
             let outcome = SendOutcome::Made(revision);
             sent.outcome(outcome).expect(rt, "a command that is made")
@@ -58,6 +66,7 @@ fn executes_once_it_is_assigned(rt: HostRuntime) {
     let mut server = started(&rt, one);
     let control = elected(&rt, rt.alloc());
     let assign = Command::Change(shard, Change::Assign(one));
+    assert!(rt; control.has_waited(&[], &assign));
     let Judged::Sent(sent) = control.command(0, assign) else {
         return;
     };
@@ -76,10 +85,17 @@ fn executes_once_it_is_assigned(rt: HostRuntime) {
 fn moves_with_what_was_made(rt: HostRuntime) {
     let (one, two) = (ServerId::of(1), ServerId::of(2));
     let shard = ShardId::new(0).expect(&rt, "a shard");
-    let control = made(&rt, elected(&rt, rt.alloc()), Change::Assign(one), 2);
-    let control = made(&rt, control, Change::PrepareAddShard(two), 4);
-    let control = made(&rt, control, Change::PrepareDropShard, 5);
-    let control = made(&rt, control, Change::AddShard, 6);
+    let control = made(&rt, elected(&rt, rt.alloc()), &[], Change::Assign(one), 2);
+    let control = made(&rt, control, &[], Change::PrepareAddShard(two), 4);
+    let control = made(&rt, control, &[], Change::PrepareDropShard, 5);
+    let generation = read_at(&control.records, shard).state.generation;
+    assert!(rt; !control.has_waited(&[], &Command::Change(shard, Change::AddShard)));
+    let acked = AckRead {
+        shard,
+        server: one,
+        generation,
+    };
+    let control = made(&rt, control, &[acked], Change::AddShard, 6);
     let read = read_at(&control.records, shard);
     let mut items = Vec::new(rt.alloc());
     assert!(rt; items.push(item(7, 5)).is_ok());

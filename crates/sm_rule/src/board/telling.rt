@@ -78,7 +78,8 @@ impl<S: Service> Board<S> {
         self.take_in(&mut pass.seat, seat);
     }
 
-    // A new seat with a number of its own, which has seen all that this one has. It names this one as its parent.
+    // A new seat with a number of its own, which has seen all that this one has.
+    // It names this one as its parent.
     pub(super) fn cut(
         &self,
         seat: &mut Seat<Option<S>, View<S::Request>>,

@@ -1,10 +1,11 @@
 //! What two passes of one board know of each other.
-ghost use Rattle.std.specs.Prelude.{◌≡◌, ◌≢◌, ◌<◌, None, IfOk, OnOk};
+ghost use Rattle.std.specs.Prelude.{◌≡◌, ◌≢◌, ◌<◌, None, IfErr, IfOk, OnOk};
 ghost use Rattle.sm_ownership.specs.declared.entry.Ending.{Ending};
 ghost use Rattle.sm_ownership.specs.declared.entry.Kind.TheVariants.{Done};
-ghost use Rattle.sm_rule.specs.Admissions.{HoldsPermit, PassAdmitted};
+ghost use Rattle.sm_ownership.specs.History.{all_of, first_of, kept};
+ghost use Rattle.sm_rule.specs.Admissions.{HoldsPermit, PassAdmitted, RefusedBy};
 ghost use Rattle.sm_rule.specs.Boards.{limit_at};
-ghost use Rattle.sm_rule.specs.Bodies.{Keeps};
+ghost use Rattle.sm_rule.specs.Bodies.{Keeps, all_after};
 ghost use Rattle.sm_rule.specs.Passes.{HoldsInSeen, PassAdds, PassLooks, record_of};
 ghost use Rattle.sm_rule.specs.Views.{Begins, EndsWith, all_held, first_held};
 
@@ -89,6 +90,13 @@ impl<S: Service> Board<S> {
         ensures done { (ending : Ending S.Request)
             → EndsWith (Keeps S.initial S.next S.base S.before S.requests) mine.old.held permit.body ending
             → PassAdds mine.old permit.shard (Done ending) mine.new }
+        ensures body { Keeps S.initial S.next S.base S.before S.requests permit.body
+            (first_of mine.new.seen permit.shard) (all_of mine.new.seen permit.shard) }
+        ensures all { (ending : Ending S.Request)
+            → EndsWith (Keeps S.initial S.next S.base S.before S.requests) mine.old.held permit.body ending
+            → all_of mine.new.seen permit.shard ≡ all_after (all_held mine.old.held) ending }
+        ensures kept { kept mine.new.seen permit.shard ≡ S.requests permit.body }
+        ensures board { mine.new.board ≡ mine.old.board }
         ensures theirs { PassLooks theirs.old theirs.new }
         ensures free { mine.new.held ≡ None }
         ensures shard { result.shard ≡ permit.shard }
@@ -120,10 +128,18 @@ impl<S: Service> Board<S> {
         ensures apart { OnOk result (k ≢ other.now.shard) }
         ensures admitted { OnOk result (PassAdmitted mine.old k mode mine.new) }
         ensures permit { IfOk result (λ permit. (permit.shard ≡ k) × HoldsPermit mine.new permit) }
+        ensures body { IfOk result (λ permit.
+            Keeps S.initial S.next S.base S.before S.requests permit.body (first_of mine.new.seen k)
+            (all_of mine.new.seen k)) }
+        ensures kept { IfOk result (λ permit. S.requests permit.body ≡ kept mine.new.seen k) }
         ensures held { IfOk result (λ permit.
             Keeps S.initial S.next S.base S.before S.requests permit.body (first_held mine.new.held)
             (all_held mine.new.held)) }
+        ensures all { OnOk result (all_held mine.new.held ≡ all_of mine.new.seen k) }
+        ensures first { OnOk result (first_held mine.new.held ≡ first_of mine.new.seen k) }
         ensures limit { IfOk result (λ permit. S.limit permit.body ≡ limit_at self.now.limits permit.shard) }
+        ensures refused { IfErr result
+            (λ refusal. PassLooks mine.old mine.new × RefusedBy mine.old mine.new k mode refusal) }
         ensures theirs { PassLooks theirs.old theirs.new }
     {
         self.one_history(mine, theirs);

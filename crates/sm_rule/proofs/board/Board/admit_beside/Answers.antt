@@ -1,7 +1,7 @@
 use Rattle.std.proofs.Common.{subst, sym}
 use Rattle.sm_rule.specs.Admissions.{PassAdmitted}
 use Rattle.sm_rule.specs.Passes.{PassLooks, PassValue}
-use Rattle.sm_rule.specs.lemmas.Passing.{looks_admits, looks_looks}
+use Rattle.sm_rule.specs.lemmas.Passing.{looks_admits, looks_looks, looks_refused}
 use Rattle.sm_rule.proofs.Apart.{admitted_apart}
 use Rattle.sm_rule.proofs.board.Board.admit_beside.Goals as goal
 
@@ -30,3 +30,13 @@ returns-in-Ok-clause-theirs g c =
     looks_looks c.args.theirs.now c.one_history.new.other c.one_history-in-Ok.new.other c.one_history.ensures.looks
     (subst (λ (pass : PassValue g.row.S-Request.Denot). PassLooks pass c.one_history-in-Ok.new.other)
     c.one_history-2.ensures.unchanged c.one_history-in-Ok.ensures.looks)
+
+pub returns-in-Err-clause-refused : goal.returns-in-Err-clause-refused
+returns-in-Err-clause-refused g c =
+    let looked = subst (λ (pass : PassValue g.row.S-Request.Denot). PassLooks pass c.one_history-2.new.other)
+    c.one_history.ensures.unchanged c.one_history-2.ensures.looks in
+    let refused = c.in-Err.ensures.refused in (
+      looks_looks c.args.mine.now c.one_history-2.new.other c.admit.new.pass looked refused.0,
+      looks_refused c.args.mine.now c.one_history-2.new.other c.admit.new.pass looked c.args.k c.args.mode
+          c.in-Err.refusal refused.1,
+    )

@@ -1,7 +1,9 @@
-use Rattle.std.proofs.Common.{subst, sym}
+use Rattle.std.proofs.Common.{ap, subst, sym, ◌∙◌}
 use Rattle.sm_ownership.specs.declared.entry.Kind.TheVariants.{Done}
-use Rattle.sm_rule.specs.Bodies.{Keeps}
+use Rattle.sm_ownership.specs.History.{all_of}
+use Rattle.sm_rule.specs.Bodies.{Keeps, all_after}
 use Rattle.sm_rule.specs.Passes.{PassAdds, PassLooks, PassValue}
+use Rattle.sm_rule.specs.Views.{all_held}
 use Rattle.sm_rule.specs.lemmas.Passing.{looks_adds, looks_looks}
 use Rattle.sm_rule.proofs.Apart.{ended_apart, held_ends}
 use Rattle.sm_rule.proofs.board.Board.finish_beside.Goals as goal
@@ -33,6 +35,17 @@ returns-clause-done g c = λ ending ends.
     (Done ending) (c.finish-front.ensures.done ending
     (held_ends (Keeps g.S.Service.initial g.S.Service.next g.S.Service.base g.S.Service.before g.S.Service.requests)
     c.args.mine.now c.one_history-2.new.other looked c.args.permit.body ending ends)))
+
+pub returns-clause-all : goal.returns-clause-all
+returns-clause-all g c = λ ending ends.
+    let looked = subst (λ (pass : PassValue g.row.S-Request.Denot). PassLooks pass c.one_history-2.new.other)
+    c.one_history.ensures.unchanged c.one_history-2.ensures.looks in
+    ap (λ (pass : PassValue g.row.S-Request.Denot). all_of pass.seen c.args.permit.shard)
+    c.one_history-3.ensures.unchanged
+    ∙ (c.finish-front.ensures.all ending
+    (held_ends (Keeps g.S.Service.initial g.S.Service.next g.S.Service.base g.S.Service.before g.S.Service.requests)
+    c.args.mine.now c.one_history-2.new.other looked c.args.permit.body ending ends)
+    ∙ ap (λ (pass : PassValue g.row.S-Request.Denot). all_after (all_held pass.held) ending) looked.1)
 
 pub returns-clause-theirs : goal.returns-clause-theirs
 returns-clause-theirs g c =
