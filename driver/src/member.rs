@@ -609,7 +609,13 @@ impl MemberInner {
             if is_told && state.untold.is_empty() || state.is_over {
                 return true;
             }
-            (state.followed, state.written, state.acks_due())
+            // Acks are told over a key that is there already. Once the key was written anew, they are due at once.
+            let acks = if state.written > Revision::NEVER {
+                state.acks_due()
+            } else {
+                Vec::new()
+            };
+            (state.followed, state.written, acks)
         };
         // A store that hangs doesn't keep the lease from being kept. What it makes late is found at the next write.
         let (live, patience) = (self.live(followed), self.length / PARTS);
@@ -859,6 +865,8 @@ mod tests {
         assert_eq!(one.joined(), Revision::NEVER);
         one.tell_followed();
         assert!(one.joined() > joined);
+        assert_eq!(two.acked(17, 1), None);
+        one.tell_followed();
         until(|| two.acked(17, 1) == Some(2));
     }
 }

@@ -213,17 +213,22 @@ impl Refusal {
 
     /// That the store's control refuses for this reason what it may do later.
     fn for_now(why: CommandFault) -> Refusal {
-        let reason = match why {
-            CommandFault::NotFollowed => {
-                "a process hasn't read yet that the shard was taken".to_owned()
-            }
-            CommandFault::NotAcked => {
+        let (reason, advice) = match why {
+            CommandFault::NotFollowed => (
+                "a process hasn't read yet that the shard was taken".to_owned(),
+                "try again",
+            ),
+            CommandFault::NotAcked => (
                 "the server that executes, or is to be ready, hasn't acked the shard's record yet"
-                    .to_owned()
-            }
-            why => format!("the control refuses it for now: {why}"),
+                    .to_owned(),
+                "try again; if that server is gone, SM FAIL a",
+            ),
+            why => (
+                format!("the control refuses it for now: {why}"),
+                "try again",
+            ),
         };
-        Refusal::new(NOT_NOW, reason, "try again")
+        Refusal::new(NOT_NOW, reason, advice)
     }
 
     /// Why the store doesn't let the control go on.
@@ -431,6 +436,8 @@ mod tests {
             unread.to_string(),
             "REFUSED NotNow: a process hasn't read yet that the shard was taken; try: try again"
         );
+        let gone = of(CommandFault::NotAcked);
+        assert!(gone.is_for_now() && gone.advice.ends_with("SM FAIL a"));
         let wrong = of(CommandFault::WrongPhase).to_string();
         assert!(wrong.starts_with("REFUSED WrongPhase: "));
         let spent = of(CommandFault::ChangeSpent);

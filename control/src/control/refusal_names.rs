@@ -9,7 +9,8 @@ pub const NAMES: [(&str, &str, &str); 28] = [
       "look how far it is by SM SERVERS, and try again"),
     ("NotMoved", "the shard isn't at the server to which it was to go: that one failed, or somebody had the shard \
       stay, or go elsewhere", "SM LOOK k tells where it is"),
-    ("NotNow", "a process hasn't read yet that the shard was taken", "try again"),
+    ("NotNow", "a process hasn't read yet that the shard was taken, or a server hasn't acked the shard's record yet",
+      "try again; if that server is gone, SM FAIL a"),
     ("StillThere", "the server has a process that keeps its lease, so it hasn't failed",
       "SM RESTART a, or end its process"),
     ("StillStopped", "the process of the server is the one that was stopped, or none was seen",

@@ -353,7 +353,8 @@ mod tests {
     fn words_and_names_have_a_meaning() {
         assert_eq!(meanings("look"), ["SM LOOK k: how shard k stands"]);
         assert_eq!(meanings("RESTART").len(), 2);
-        let told = "NotNow: a process hasn't read yet that the shard was taken; try: try again";
+        let told = "NotNow: a process hasn't read yet that the shard was taken, or a server hasn't acked the shard's \
+                    record yet; try: try again; if that server is gone, SM FAIL a";
         assert_eq!(meanings("notnow"), [told]);
         assert!(meanings("LOO").is_empty());
     }

@@ -48,7 +48,7 @@ impl DurableControl {
     ///
     /// # Errors
     ///
-    /// As for [`DurableControl::lead`]; `NotLeader` where the process has no server with a lease now.
+    /// As for [`DurableControl::lead`]; `NotLeader` if the process has no server with a lease now.
     pub fn campaign(durable: Arc<Durable>, line: &str) -> Result<Option<DurableControl>, Refused> {
         match election::campaigned(&durable)? {
             Some(elected) => DurableControl::elected(durable, line, elected).map(Some),
@@ -103,13 +103,13 @@ impl DurableControl {
         self.durable.shards()
     }
 
-    /// Reads records and states where that is due, once nothing may still be made that was given up.
+    /// Reads records and states if that is due, once nothing may still be made that was given up.
     fn catch_up(&mut self) -> Result<(), Refused> {
         self.outdate()?;
         self.read_again()
     }
 
-    /// Reads records and states where that is due. A command may still be made that is tried again.
+    /// Reads records and states if that is due. A command may still be made that is tried again.
     fn read_again(&mut self) -> Result<(), Refused> {
         self.look_at_member()?;
         if self.is_behind {
@@ -206,15 +206,17 @@ impl DurableControl {
         }
     }
 
-    /// Tells the director which of the servers that the shard's record names have acked it, where it waits for one: as
+    /// Tells the director which of the servers that the shard's record names have acked it, if it waits for one: as
     /// this process has seen acks, which count once they were made. Without a server of its own all are of this process.
     fn hear_acks(&mut self, shard: u16) -> Result<(), Refused> {
         let Some(record) = self.record_read(shard)? else {
             return Ok(());
         };
         let named = match record.stand {
-            Stand::Prepared { owner, next } | Stand::Forwarding { owner, next } => [owner, next],
-            Stand::Paused(owner) => [owner; 2],
+            Stand::Prepared { owner, next } | Stand::Forwarding { owner, next } => {
+                [Some(owner), Some(next)]
+            }
+            Stand::Paused(owner) => [Some(owner), None],
             Stand::Vacant | Stand::Serving(_) | Stand::Taken { .. } => return Ok(()),
         };
         let heard = match self.durable.member() {
@@ -222,7 +224,7 @@ impl DurableControl {
             Some(member) => {
                 let acked = |it| Some((it, member.acked(shard, it)?));
                 self.director
-                    .acked(shard, named.into_iter().filter_map(acked))
+                    .acked(shard, named.into_iter().flatten().filter_map(acked))
             }
         };
         heard.map_err(Refused::of)
@@ -313,7 +315,7 @@ impl DurableControl {
         }
     }
 
-    /// Refuses where another process leads, or the server's key was there that must not be: with one that is back
+    /// Refuses if another process leads, or the server's key was there that must not be: with one that is back
     /// nothing is to be done.
     fn look_at_lost(&self, absent: Option<u16>, found: &Reading) -> Result<(), Refused> {
         self.look_at_leader()?;
