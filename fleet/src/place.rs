@@ -188,3 +188,46 @@ impl Known {
         Ok(())
     }
 }
+
+#[cfg(test)]
+mod tests {
+    use super::*;
+    use durkenzo::Stand;
+
+    /// What is known under a lease of this revision, once a record of this generation was read.
+    fn known(joined: u64, generation: u64) -> Known {
+        let view = ShardView::new(1, joined, 100).unwrap();
+        let mut known = Place::<()>::new(view).known.into_inner().unwrap();
+        let mut record = word::record(0).unwrap();
+        (record.stand, record.generation) = (Stand::Serving(1), generation);
+        known.word = word::of(&record).unwrap();
+        known
+    }
+
+    #[test]
+    fn a_body_is_held_on_unless_both_the_lease_and_the_record_have_changed() {
+        let before = known(5, 7).holding();
+        for (joined, generation, holds) in [(5, 9, true), (6, 7, true), (6, 9, false)] {
+            let known = known(joined, generation);
+            let held = known.held_on(before);
+            assert_eq!(held, holds.then(|| known.holding()));
+        }
+        // The next owner has got it.
+        let mut known = known(5, 8);
+        known.handed = 7;
+        assert_eq!(known.held_on(before), None);
+        assert_eq!(known.held_on(known.holding()), Some(known.holding()));
+    }
+
+    #[test]
+    fn fences_tell_processes_of_a_server_apart_and_only_a_first_record_is_new() {
+        let (mut first, mut second) = (known(5, 1), known(9, 1));
+        (first.stood, second.stood) = (7, 7);
+        assert!(first.fence() < second.fence());
+        assert!(first.is_new() && !second.is_new());
+        first.had_body = true;
+        assert!(!first.is_new());
+        second.stood = 12;
+        assert_eq!(second.fence(), 12);
+    }
+}
