@@ -8,6 +8,7 @@
 // Controls and links are told the time, so that they can be simulated: clippy.toml names what they don't call.
 #[deny(clippy::disallowed_methods)]
 pub mod control;
+pub mod descriptors;
 #[deny(clippy::disallowed_methods)]
 pub mod links;
 pub mod tls;

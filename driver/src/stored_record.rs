@@ -30,10 +30,15 @@ impl StoredRecord {
         self.revision
     }
 
+    /// Returns the record's word, if the bytes have one.
+    pub fn word(&self) -> Option<u64> {
+        let word = self.bytes.get(1..9)?.try_into().ok()?;
+        Some(u64::from_be_bytes(word))
+    }
+
     /// The record, where the bytes are one's.
     pub fn record(&self) -> Option<Record> {
-        let word = self.bytes.get(1..9)?.try_into().ok()?;
-        word::record(u64::from_be_bytes(word))
+        word::record(self.word()?)
     }
 
     /// Whether whoever leads waits until all servers go by it, before the previous owner may drop the shard.

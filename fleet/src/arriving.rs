@@ -18,11 +18,17 @@ pub(crate) enum Taken {
     Whole(Vec<u8>),
     /// It doesn't follow on what has come. The sender begins anew.
     Unexpected,
+    /// It is longer than a body may be, or than it was said to be.
+    TooLong,
 }
 
 impl Arriving {
-    /// Takes a piece, if it is the next one.
-    pub(crate) fn take(&mut self, frame: &HandFrame<'_>) -> Taken {
+    /// Takes a piece, if it is the next one of what has at most so many bytes.
+    pub(crate) fn take(&mut self, frame: &HandFrame<'_>, most: u64) -> Taken {
+        let end = frame.at.saturating_add(frame.bytes.len() as u64);
+        if frame.total > most || end > frame.total {
+            return Taken::TooLong;
+        }
         if frame.at == 0 {
             self.hand = Some((frame.hand, frame.is_changes, Vec::new()));
         }
@@ -68,16 +74,19 @@ mod tests {
     #[test]
     fn pieces_are_taken_in_their_order() {
         let mut arriving = Arriving::default();
-        assert!(matches!(arriving.take(&piece(2, b"cd")), Taken::Unexpected));
-        assert!(matches!(arriving.take(&piece(0, b"ab")), Taken::Part));
-        assert!(matches!(arriving.take(&piece(3, b"de")), Taken::Unexpected));
+        let mut take = |piece: &HandFrame<'_>| arriving.take(piece, 5);
+        assert!(matches!(take(&piece(2, b"cd")), Taken::Unexpected));
+        assert!(matches!(take(&piece(0, b"ab")), Taken::Part));
+        assert!(matches!(take(&piece(3, b"de")), Taken::Unexpected));
         // The sender begins anew.
-        assert!(matches!(arriving.take(&piece(0, b"abc")), Taken::Part));
+        assert!(matches!(take(&piece(0, b"abc")), Taken::Part));
         let other = HandFrame {
             is_changes: true,
             ..piece(3, b"de")
         };
-        assert!(matches!(arriving.take(&other), Taken::Unexpected));
-        assert!(matches!(arriving.take(&piece(3, b"de")), Taken::Whole(it) if it == b"abcde"));
+        assert!(matches!(take(&other), Taken::Unexpected));
+        assert!(matches!(take(&piece(3, b"def")), Taken::TooLong));
+        assert!(matches!(take(&piece(3, b"de")), Taken::Whole(it) if it == b"abcde"));
+        assert!(matches!(arriving.take(&piece(0, b"ab"), 4), Taken::TooLong));
     }
 }

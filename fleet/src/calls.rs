@@ -18,6 +18,8 @@ enum Step {
     Done,
     /// Nothing was done yet, for this reason.
     Waits(String),
+    /// The record by which it was sent isn't read yet. Calls behind it may go on.
+    Unread,
 }
 
 impl<S: Service> FleetInner<S> {
@@ -25,7 +27,9 @@ impl<S: Service> FleetInner<S> {
     pub(crate) fn call(&self, call: &CallFrame<'_>, client: &TcpStream, out: &mut Vec<u8>) {
         let began = Instant::now();
         let budget = Duration::from_millis(u64::from(call.budget));
-        let (end, waits) = (began + budget, began + budget.min(self.options.patience()));
+        // The client hears in time that nothing was done.
+        let patience = (budget - budget / 8).min(self.options.patience());
+        let (end, waits) = (began + budget, began + patience);
         let Some(place) = self.places.get(usize::from(call.shard)) else {
             return Response::Again("there is no such shard").write(out);
         };
@@ -46,6 +50,13 @@ impl<S: Service> FleetInner<S> {
                 match self.look(call, client, end, &mut turn, out) {
                     Step::Done => return,
                     Step::Waits(reason) => why = reason,
+                    Step::Unread => {
+                        why = "the record by which it was sent isn't read yet".to_owned();
+                        drop(turn.take());
+                        std::thread::sleep(
+                            PAUSE.min(waits.saturating_duration_since(Instant::now())),
+                        );
+                    }
                 }
             }
             if Instant::now() >= waits || self.is_stopping() {
@@ -72,7 +83,7 @@ impl<S: Service> FleetInner<S> {
     ) -> Step {
         let place = &self.places[usize::from(call.shard)];
         if place.known().stood < call.revision {
-            return Step::Waits("the record by which it was sent isn't read yet".to_owned());
+            return Step::Unread;
         }
         let mode = if call.from == 0 {
             Mode::Direct
@@ -126,7 +137,13 @@ impl<S: Service> FleetInner<S> {
             ..*call
         };
         match self.connections.ask(address, &Request::Call(onward), left) {
-            Ok(bytes) => returned(&bytes, out),
+            Ok(bytes) => {
+                let step = returned(&bytes, out);
+                if matches!(step, Step::Waits(_)) {
+                    std::thread::sleep(PAUSE.min(left));
+                }
+                step
+            }
             Err(error @ NotAnswered::Lost(..)) => {
                 Response::Unsure(&error.to_string()).write(out);
                 Step::Done

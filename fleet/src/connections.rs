@@ -1,4 +1,4 @@
-use crate::frame::{self, Request, MAGIC};
+use crate::frame::{self, Request, MAGIC, WRITTEN};
 use std::collections::HashMap;
 use std::io::{self, Write};
 use std::net::{TcpStream, ToSocketAddrs};
@@ -52,10 +52,14 @@ impl Connections {
             Some(stream) => stream,
             None => self.connect(address, within).map_err(unreached)?,
         };
+        let within = within.max(Duration::from_millis(1));
         // A server that gets only a part of a frame does nothing of it.
-        stream.write_all(&bytes).map_err(unreached)?;
+        let written = stream
+            .set_write_timeout(Some(within.min(WRITTEN)))
+            .and_then(|()| stream.write_all(&bytes));
+        written.map_err(unreached)?;
         let received = stream
-            .set_read_timeout(Some(within.max(Duration::from_millis(1))))
+            .set_read_timeout(Some(within))
             .and_then(|()| frame::receive(&mut stream, &mut bytes));
         received.map_err(|error| NotAnswered::Lost(address.to_owned(), error))?;
         let mut idle = self.idle.lock().unwrap_or_else(PoisonError::into_inner);

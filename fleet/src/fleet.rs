@@ -4,12 +4,14 @@ use crate::leading;
 use crate::listener::Listener;
 use crate::permit::BodyGuard;
 use crate::place::{Known, Place};
+use crate::retry::end_of;
 use crate::{
     settings, Destination, Enter, JoinError, Mode, Options, Permit, Refused, Service, Shard,
     Sharding,
 };
 use durkenzo::word;
 use durkenzo_control::control::Asked;
+use durkenzo_control::descriptors::raise_limit;
 use durkenzo_control::links::checksum;
 use durkenzo_driver::{Acks, Addresses, Durable, Member, NotDone, Own, Tuning};
 use durkenzo_store::Store;
@@ -18,7 +20,7 @@ use std::fmt;
 use std::io;
 use std::net::SocketAddr;
 use std::sync::atomic::{AtomicBool, Ordering};
-use std::sync::mpsc::Sender;
+use std::sync::mpsc::{sync_channel, Receiver, Sender};
 use std::sync::{Arc, Mutex, PoisonError};
 use std::thread;
 use std::time::{Duration, Instant};
@@ -28,6 +30,8 @@ use tokio::sync::Notify;
 
 /// How often it is looked whether the control has stopped this server.
 const LOOK: Duration = Duration::from_millis(20);
+/// How long a server waits until it asks again to be stopped.
+const ASK_AGAIN: Duration = Duration::from_millis(250);
 /// How long a server that was stopped forwards what still comes.
 const LINGER: Duration = Duration::from_millis(500);
 
@@ -80,6 +84,8 @@ impl<S: Service> Fleet<S> {
         if !options.listen.ip().is_loopback() && !options.open {
             return Err(JoinError::Open(options.listen));
         }
+        // Each connection has a descriptor.
+        raise_limit();
         let (listener, address) = Listener::bind(options.listen)?;
         let at = options
             .advertise
@@ -152,13 +158,8 @@ impl<S: Service> Fleet<S> {
     /// Asks that this server be stopped, which has its shards go to others, waits until they have or for so long, and
     /// leaves. No call is refused meanwhile, if others have room.
     pub fn stop(&self, grace: Duration) {
-        let end = Instant::now() + grace;
-        let (server, asking) = (self.server(), self.inner.clone());
-        // It is answered only once the process was begun again.
-        thread::spawn(move || asking.command(&["RESTART", &server.to_string()]));
-        while !self.inner.durable.is_away(server) && Instant::now() < end {
-            thread::sleep(LOOK);
-        }
+        let end = end_of(grace);
+        self.give_shards_away(end);
         // Clients whose maps are old have it forward a little longer. Who still comes then is told to ask elsewhere, so
         // that no call is under way as connections end.
         let linger = || thread::sleep(LINGER.min(end.saturating_duration_since(Instant::now())));
@@ -168,17 +169,36 @@ impl<S: Service> Fleet<S> {
         self.leave();
     }
 
+    /// Asks the control to stop this server, again if it refuses, until the server is stopped or the time is over.
+    fn give_shards_away(&self, end: Instant) {
+        let server = self.server();
+        let (mut told, mut again) = (None, Instant::now());
+        while !self.inner.durable.is_away(server) && Instant::now() < end {
+            if told.is_none() && Instant::now() >= again {
+                told = Some(self.ask_to_stop(server));
+            }
+            // It is answered well only once the process was begun again.
+            if let Some(Ok(Err(refusal))) = told.as_ref().map(Receiver::try_recv) {
+                tracing::warn!(refusal, "the control doesn't stop this server yet");
+                (told, again) = (None, Instant::now() + ASK_AGAIN);
+            }
+            thread::sleep(LOOK);
+        }
+    }
+
+    /// Has a thread give the control the command, and returns where its answer comes.
+    fn ask_to_stop(&self, server: u16) -> Receiver<Result<Vec<String>, String>> {
+        let (asking, (tell, told)) = (self.inner.clone(), sync_channel(1));
+        let words = move || tell.send(asking.command(&["RESTART", &server.to_string()]));
+        thread::spawn(words);
+        told
+    }
+
     /// Leaves at once. Others take this server's shards over, and what it kept of them in memory is lost.
     pub fn leave(&self) {
         let inner = &self.inner;
         inner.stopping.store(true, Ordering::Release);
-        for place in &inner.places {
-            // Calls under way find that they hold no permit any more.
-            let mut known = place.known();
-            if let Ok(ended) = known.view.kept(0) {
-                known.view = ended;
-            }
-        }
+        inner.end_views();
         *inner.control.lock().unwrap_or_else(PoisonError::into_inner) = None;
         inner.member.leave();
         self.listener.end(self.address);
@@ -266,6 +286,16 @@ impl<S: Service> FleetInner<S> {
         self.stopping.load(Ordering::Acquire)
     }
 
+    /// Ends all views: calls that are under way find that they hold no permit any more.
+    pub(crate) fn end_views(&self) {
+        for place in &self.places {
+            let mut known = place.known();
+            if let Ok(ended) = known.view.kept(0) {
+                known.view = ended;
+            }
+        }
+    }
+
     /// This moment, in nanoseconds of the clock that judges the lease.
     fn now(&self) -> u64 {
         #[cfg(test)]
@@ -295,13 +325,13 @@ impl<S: Service> FleetInner<S> {
         if !self.may_execute(&known, from) {
             return self.onward(&known, from);
         }
-        match BodyGuard::new(body) {
+        match BodyGuard::new(body).filter(|_| known.body_is_of.is_some()) {
             Some(body) => Enter::Here(Permit {
                 fleet: self,
                 body,
                 view: known.view,
                 from,
-                shard: Shard::new(shard, known.record().generation),
+                shard: Shard::new(shard, known.fence()),
             }),
             None => Enter::Wait("what the previous owner kept of the shard is on its way"),
         }

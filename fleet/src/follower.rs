@@ -104,10 +104,11 @@ impl<S: Service> FleetInner<S> {
         nanoseconds(kept.asked + self.options.allowed(kept.length))
     }
 
-    /// Tells the views that the lease was kept. A view of an earlier lease ends with that one.
+    /// Tells the views that the lease was kept. A view of an earlier lease ends with that one. All views end if the
+    /// store says that the lease has ended.
     fn keep(&self) {
         let Some(kept) = self.member.kept_lease() else {
-            return;
+            return self.end_views();
         };
         let until = self.until(&kept);
         for place in &self.places {

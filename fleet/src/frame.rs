@@ -2,6 +2,7 @@
 use durkenzo_control::links::{Fields, WireFault};
 use durkenzo_store_sys::HandOver;
 use std::io::{self, Read};
+use std::time::Duration;
 
 /// What a connection begins with, before the checksum of the fleet's settings.
 pub(crate) const MAGIC: [u8; 4] = *b"DKF1";
@@ -11,6 +12,8 @@ pub(crate) const CHUNK: usize = 256 << 10;
 pub(crate) const MOST: usize = 1 << 20;
 /// How long a frame is at most: it has fields beside its payload.
 pub(crate) const LONGEST: usize = MOST + 64;
+/// How long it takes at most until a frame is written to a connection.
+pub(crate) const WRITTEN: Duration = Duration::from_secs(5);
 /// How many words a command has at most.
 const WORDS: u32 = 64;
 
@@ -280,8 +283,12 @@ pub(crate) fn receive(from: &mut impl Read, room: &mut Vec<u8>) -> io::Result<()
         ));
     }
     room.clear();
-    room.resize(length, 0);
-    from.read_exact(room)
+    // There is room for what has come, not for what is said to come.
+    from.take(length as u64).read_to_end(room)?;
+    match room.len() == length {
+        true => Ok(()),
+        false => Err(io::ErrorKind::UnexpectedEof.into()),
+    }
 }
 
 #[cfg(test)]
@@ -361,6 +368,9 @@ mod tests {
         let endless = receive(&mut &[0xff; 8][..], &mut room);
         assert_eq!(endless.unwrap_err().kind(), io::ErrorKind::InvalidData);
         assert_eq!(room.capacity(), 0);
+        let cut = receive(&mut &[0, 16, 0, 0, 1, 2][..], &mut room);
+        assert_eq!(cut.unwrap_err().kind(), io::ErrorKind::UnexpectedEof);
+        assert!(room.capacity() < 1 << 10, "{}", room.capacity());
         assert_eq!(Request::read(&[9]), Err(WireFault::Kind(9)));
         assert_eq!(Request::read(&[1, 0]), Err(WireFault::TooShort));
         assert_eq!(Response::read(&[2, 0xff]), Err(WireFault::Text));

@@ -1,5 +1,5 @@
 //! The control of this process: it leads, or has the process that leads answer.
-use crate::commands::{Reply, REFUSED};
+use crate::commands::{Reply, Told, REFUSED};
 use crate::connections::{Connections, NotAnswered};
 use crate::fleet::FleetInner;
 use crate::follower::spawn;
@@ -7,8 +7,8 @@ use crate::frame::{spelled, Request, Response};
 use crate::settings::line;
 use crate::{JoinError, Service};
 use durkenzo_control::control::{
-    Again, Asked, Campaigner, ControlAnswer, ControlHost, Doing, OtherControls, Refusal, ReplyTo,
-    Words,
+    is_decided, Again, Asked, Campaigner, ControlAnswer, ControlHost, Doing, OtherControls,
+    Refusal, ReplyTo, Words,
 };
 use durkenzo_driver::{ControlCommand, Durable, Member, ServerState};
 use std::sync::atomic::{AtomicBool, Ordering};
@@ -156,11 +156,8 @@ impl OtherControls for Host {
         self.ask(leader, asked, None);
         let decided = move || {
             let is_decided = match told.recv() {
-                Ok(crate::commands::Told::Answer(answer)) => {
-                    let text = String::from_utf8_lossy(&answer);
-                    text.starts_with("-REFUSED AlreadyUp") || !text.starts_with(REFUSED)
-                }
-                _ => false,
+                Ok(Told::Answer(answer)) => is_decided(&answer),
+                Ok(Told::NotHere) | Err(_) => false,
             };
             tell(is_decided);
         };

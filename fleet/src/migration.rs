@@ -1,11 +1,12 @@
 //! What a record asks of this process: to prepare for a shard, to hand it over, to begin it, or to drop it.
-use crate::arriving::Taken;
+use crate::arriving::{Arriving, Taken};
 use crate::fleet::FleetInner;
 use crate::frame::{HandFrame, Request, Response, CHUNK};
 use crate::place::{FirstCopy, Known, Place};
 use crate::{Came, Service, Shard};
 use durkenzo::{Record, Stand};
 use durkenzo_store_sys::HandOver;
+use std::panic::{catch_unwind, AssertUnwindSafe};
 use std::sync::Arc;
 use std::time::{Duration, Instant};
 
@@ -24,7 +25,11 @@ impl<S: Service> FleetInner<S> {
             let known = place.known();
             (known.word, known.view.is_freed(), known.record())
         };
-        let is_done = self.settled(shard, place, record, is_freed);
+        let settled = AssertUnwindSafe(|| self.settled(shard, place, record, is_freed));
+        let is_done = catch_unwind(settled).unwrap_or_else(|_| {
+            tracing::warn!(shard, "a callback of the service has panicked");
+            false
+        });
         let mut known = place.known();
         known.settles = false;
         known.settled = is_done.then_some((word, is_freed));
@@ -38,9 +43,11 @@ impl<S: Service> FleetInner<S> {
             Stand::Serving(owner) | Stand::Prepared { owner, .. } | Stand::Taken { owner, .. }
                 if owner == own =>
             {
-                self.begin(shard, place, generation)
+                self.begin(shard, place)
             }
             Stand::Prepared { owner, next } if next == own => {
+                // A body of before is of no use, and the control waits for the ack.
+                self.drop_body(shard, place, generation);
                 self.prepare(shard, place, (owner, generation));
                 self.ack(shard, place, generation)
             }
@@ -52,7 +59,7 @@ impl<S: Service> FleetInner<S> {
                 let is_freed =
                     is_freed || self.options.plant == Some(crate::plant::Plant::NextBeginsAnew);
                 // The owner let go of it, and what it had isn't here: another process of this server had it, or none.
-                !is_freed || self.begin(shard, place, generation)
+                !is_freed || self.begin(shard, place)
             }
             // The process that waits for it may go on: nothing is under way here.
             Stand::Paused(owner) if owner == own => self.ack(shard, place, generation),
@@ -68,22 +75,29 @@ impl<S: Service> FleetInner<S> {
         }
     }
 
-    /// Begins the shard, if what is kept of it isn't here.
-    fn begin(&self, shard: u16, place: &Place<S::Body>, generation: u64) -> bool {
+    /// Begins the shard, if what is kept of it isn't here, or is of before others may have executed.
+    fn begin(&self, shard: u16, place: &Place<S::Body>) -> bool {
         let mut body = place.body();
+        self.drop_stale(shard, place, &mut body);
+        let (holding, is_new, fence) = {
+            let mut known = place.known();
+            let holding = known.holding();
+            known.copy.take_if(|it| it.generation < holding.generation);
+            (holding, known.is_new(), known.fence())
+        };
         if body.is_some() {
             return true;
         }
-        let came = if generation == 1 {
-            Came::New
-        } else {
-            Came::Lost
-        };
-        match self.service.add(Shard::new(shard, generation), came) {
+        let came = if is_new { Came::New } else { Came::Lost };
+        match self.service.add(Shard::new(shard, fence), came) {
             Ok(made) => {
-                tracing::info!(shard, generation, ?came, "a shard begins here");
+                tracing::info!(shard, fence, ?came, "a shard begins here");
                 *body = Some(made);
-                true
+                let mut known = place.known();
+                known.had_body = true;
+                // If the record and the lease have changed meanwhile, it begins again.
+                known.body_is_of = known.held_on(holding);
+                known.body_is_of.is_some()
             }
             Err(error) => {
                 tracing::warn!(shard, %error, "a shard isn't added");
@@ -92,10 +106,23 @@ impl<S: Service> FleetInner<S> {
         }
     }
 
+    /// Drops the body if it is of before another process may have executed.
+    fn drop_stale(&self, shard: u16, place: &Place<S::Body>, body: &mut Option<S::Body>) {
+        let (is_held, fence) = {
+            let known = place.known();
+            (known.body_is_of.is_some(), known.fence())
+        };
+        if let Some(stale) = body.take_if(|_| !is_held) {
+            tracing::warn!(shard, "what was kept of the shard is too old");
+            self.service.dropped(Shard::new(shard, fence), stale);
+        }
+    }
+
     /// Has the service prepare for a shard, and fetches a first copy, if the service makes one.
     fn prepare(&self, shard: u16, place: &Place<S::Body>, (owner, generation): (u16, u64)) {
+        let fence = place.known().fence();
         self.service
-            .prepare_add(Shard::new(shard, generation), Some(owner));
+            .prepare_add(Shard::new(shard, fence), Some(owner));
         if self.service.changes().is_none() {
             return;
         }
@@ -124,6 +151,9 @@ impl<S: Service> FleetInner<S> {
                     total,
                     bytes: piece,
                 } => {
+                    if total > self.options.body || (bytes.len() + piece.len()) as u64 > total {
+                        return Err("it is longer than --body lets it be".to_owned());
+                    }
                     bytes.extend(piece);
                     if bytes.len() as u64 >= total {
                         return Ok(bytes);
@@ -174,6 +204,7 @@ impl<S: Service> FleetInner<S> {
         let is_owner =
             matches!(record.stand, Stand::Prepared { owner, .. } if owner == self.server());
         let is_meant = is_owner && record.generation == generation;
+        self.drop_stale(shard, place, &mut body);
         let bytes = Arc::new(changes.first_copy(body.as_mut().filter(|_| is_meant)?));
         place.known().copy = Some(FirstCopy {
             generation,
@@ -192,6 +223,7 @@ impl<S: Service> FleetInner<S> {
         let Some((hand, has_copy)) = self.let_go(place, generation) else {
             return false;
         };
+        self.drop_stale(shard, place, &mut body);
         #[cfg(test)]
         if self.options.plant == Some(crate::plant::Plant::EarlyAck) {
             self.member.ack(shard, generation);
@@ -221,6 +253,10 @@ impl<S: Service> FleetInner<S> {
     /// whether the next owner has a first copy.
     fn let_go(&self, place: &Place<S::Body>, generation: u64) -> Option<(HandOver, bool)> {
         let mut known = place.known();
+        // The control may have taken the record back meanwhile.
+        if known.record().generation != generation {
+            return None;
+        }
         known.let_go().ok()?;
         let copy = known.copy.take();
         let has_copy = copy.is_some_and(|it| it.is_whole && it.generation + 1 == generation);
@@ -255,7 +291,14 @@ impl<S: Service> FleetInner<S> {
                 bytes: &bytes[at..end],
             };
             let response = self.connections.ask(&address, &Request::Hand(frame), PIECE);
-            let is_taken = response.is_ok_and(|it| Response::read(&it) == Ok(Response::Taken));
+            let is_taken = match response.as_deref().map(Response::read) {
+                Ok(Ok(Response::Taken)) => true,
+                Ok(Ok(Response::Again(why))) => {
+                    tracing::info!(shard, next, why, "the next owner doesn't take the body yet");
+                    false
+                }
+                _ => false,
+            };
             if !is_taken || end == bytes.len() {
                 return is_taken;
             }
@@ -275,8 +318,9 @@ impl<S: Service> FleetInner<S> {
             if !self.is_meant(&known, frame) {
                 return Err("it isn't for this process, by the record that it has read");
             }
-            match known.arriving.take(frame) {
+            match known.arriving.take(frame, self.options.body) {
                 Taken::Part => return Ok(()),
+                Taken::TooLong => return Err("it is longer than --body lets it be"),
                 Taken::Unexpected => return Err("it doesn't follow on the piece before"),
                 Taken::Whole(bytes) => {
                     let first = known.arriving.first.take();
@@ -296,11 +340,15 @@ impl<S: Service> FleetInner<S> {
     }
 
     /// Whether the shard comes to this process by the record, from the process that this names. That one has let go by
-    /// the proved view.
+    /// the proved view. A frame of an earlier record is too late, though the owner has let go of the record.
     fn is_meant(&self, known: &Known, frame: &HandFrame<'_>) -> bool {
-        let is_next =
-            matches!(known.record().stand, Stand::Forwarding { next, .. } if next == self.server());
-        is_next && known.view.handed(&frame.hand).is_ok_and(|it| it.is_freed())
+        let (record, hand) = (known.record(), &frame.hand);
+        let stand = Stand::Forwarding {
+            owner: hand.server,
+            next: self.server(),
+        };
+        let is_of_record = record.stand == stand && record.generation == hand.generation;
+        is_of_record && known.view.handed(hand).is_ok_and(|it| it.is_freed())
     }
 
     /// Begins the shard by what was handed over, if it didn't begin before.
@@ -311,27 +359,39 @@ impl<S: Service> FleetInner<S> {
         came: Came<'_>,
     ) -> Result<(), &'static str> {
         let mut body = place.body();
-        if body.is_none() {
-            let shard = Shard::new(frame.shard, frame.hand.generation);
-            match self.service.add(shard, came) {
-                Ok(made) => *body = Some(made),
-                Err(error) => {
-                    tracing::warn!(shard = frame.shard, %error, "a shard that was handed over isn't added");
-                    return Err("the service doesn't add it");
-                }
-            }
-        }
+        self.drop_stale(frame.shard, place, &mut body);
+        let shard = Shard::new(frame.shard, place.known().fence());
+        let made = match body.is_some() {
+            true => None,
+            false => Some(self.added(shard, came)?),
+        };
         let mut known = place.known();
         if !self.is_meant(&known, frame) {
+            drop((known, body));
+            made.into_iter()
+                .for_each(|it| self.service.dropped(shard, it));
             return Err("the record has changed since");
         }
         if let Ok(view) = known.view.handed(&frame.hand) {
             known.view = view;
         }
         known.hand = Some(frame.hand);
+        if made.is_some() {
+            (known.body_is_of, known.had_body) = (Some(known.holding()), true);
+            *body = made;
+        }
         drop((known, body));
         place.queue.wake();
         Ok(())
+    }
+
+    /// Has the service make a body of what was handed over.
+    fn added(&self, shard: Shard, came: Came<'_>) -> Result<S::Body, &'static str> {
+        self.service.add(shard, came).map_err(|error| {
+            let shard = shard.number();
+            tracing::warn!(shard, %error, "a shard that was handed over isn't added");
+            "the service doesn't add it"
+        })
     }
 
     /// Lets go of the record, once nothing is under way, and acks it. Returns whether that was done, or is no more to be.
@@ -351,11 +411,15 @@ impl<S: Service> FleetInner<S> {
     /// Drops what is kept of a shard that is another server's.
     fn drop_body(&self, shard: u16, place: &Place<S::Body>, generation: u64) {
         let mut body = place.body();
-        let is_latest = place.known().record().generation == generation;
-        let dropped = body.take_if(|_| is_latest);
-        drop(body);
+        let mut known = place.known();
+        if known.record().generation != generation {
+            return;
+        }
+        (known.body_is_of, known.arriving, known.copy) = (None, Arriving::default(), None);
+        let (fence, dropped) = (known.fence(), body.take());
+        drop((known, body));
         if let Some(dropped) = dropped {
-            self.service.dropped(Shard::new(shard, generation), dropped);
+            self.service.dropped(Shard::new(shard, fence), dropped);
         }
     }
 

@@ -115,7 +115,16 @@ pub struct Options {
     )]
     pub waiting: usize,
 
-    /// How many connections are served at once
+    /// How many bytes the next owner of a shard takes of its body at most
+    #[arg(
+        long,
+        env = "DURKENZO_BODY",
+        value_name = "BYTES",
+        default_value_t = 1 << 30
+    )]
+    pub body: u64,
+
+    /// How many connections of clients are served at once, and how many of others
     #[arg(
         long,
         env = "DURKENZO_CONNECTIONS",

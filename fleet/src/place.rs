@@ -35,6 +35,10 @@ pub(crate) struct Known {
     pub(crate) copy: Option<FirstCopy>,
     /// What comes from the owner.
     pub(crate) arriving: Arriving,
+    /// By what the body is of this moment, if it is. No call uses another body, and the settler drops it.
+    pub(crate) body_is_of: Option<Holding>,
+    /// Whether this process has ever had a body of the shard.
+    pub(crate) had_body: bool,
     /// Whether a thread does what the record asks for.
     pub(crate) settles: bool,
     /// The word by which that was done, and whether the owner before had let go.
@@ -49,6 +53,13 @@ pub(crate) struct Basis {
     pub(crate) is_away: bool,
     pub(crate) owner_joined: Option<Revision>,
     pub(crate) owner_is_away: bool,
+}
+
+/// The lease and the generation by which this process holds a body.
+#[derive(Clone, Copy, Debug, PartialEq, Eq)]
+pub(crate) struct Holding {
+    pub(crate) joined: u64,
+    pub(crate) generation: u64,
 }
 
 /// A first copy of a body.
@@ -72,6 +83,8 @@ impl<B> Place<B> {
             let_go: 0,
             copy: None,
             arriving: Arriving::default(),
+            body_is_of: None,
+            had_body: false,
             settles: false,
             settled: None,
         };
@@ -86,9 +99,18 @@ impl<B> Place<B> {
         self.known.lock().unwrap_or_else(PoisonError::into_inner)
     }
 
-    /// Locks the body, once the call that is under way is over.
+    /// Locks the body, once the call that is under way is over. If a callback has panicked with the body, the body may
+    /// be half changed: it is dropped, and the shard begins again without it.
     pub(crate) fn body(&self) -> MutexGuard<'_, Option<B>> {
-        self.body.lock().unwrap_or_else(PoisonError::into_inner)
+        self.body.lock().unwrap_or_else(|poisoned| {
+            self.body.clear_poison();
+            let mut body = poisoned.into_inner();
+            *body = None;
+            let mut known = self.known();
+            (known.body_is_of, known.settled) = (None, None);
+            drop(known);
+            body
+        })
     }
 }
 
@@ -107,10 +129,7 @@ impl Known {
 
     /// Takes what was read. What was handed over, and what was let go, is told again to the view.
     pub(crate) fn take(&mut self, reading: &ShardReading, basis: Basis) -> Result<(), Code> {
-        let word = reading.stored.bytes().get(1..9);
-        let word = word
-            .and_then(|it| it.try_into().ok())
-            .map_or(0, u64::from_be_bytes);
+        let word = reading.stored.word().unwrap_or(0);
         let read = durkenzo_store_sys::ShardReading {
             revision: reading.revision.0,
             word,
@@ -120,6 +139,7 @@ impl Known {
         };
         let mut view = self.view.read(&read)?;
         (self.word, self.stood) = (word, reading.stored.revision().0);
+        self.body_is_of = self.body_is_of.and_then(|it| self.held_on(it));
         if let Some(hand) = &self.hand {
             // It counts only by the record of its generation, and only if it is of the process that was read.
             view = view.handed(hand)?;
@@ -131,10 +151,83 @@ impl Known {
         Ok(())
     }
 
+    /// Returns the fencing token: the revision of the record or of the server's key, whichever is later. Another process
+    /// executes only by a later record, or under a later key.
+    pub(crate) fn fence(&self) -> u64 {
+        self.stood.max(self.view.joined())
+    }
+
+    /// Returns by what this process holds a body of the shard that it has now.
+    pub(crate) fn holding(&self) -> Holding {
+        Holding {
+            joined: self.view.joined(),
+            generation: self.record().generation,
+        }
+    }
+
+    /// Returns by what a body is held now that was held so. If both the lease and the record have changed, another
+    /// process may have executed in between. If the next owner got the body, it may have executed what was forwarded.
+    pub(crate) fn held_on(&self, before: Holding) -> Option<Holding> {
+        let now = self.holding();
+        let is_same_record = now.generation == before.generation;
+        let is_handed = self.handed >= before.generation;
+        let holds = is_same_record || (now.joined == before.joined && !is_handed);
+        holds.then_some(now)
+    }
+
+    /// Returns whether a shard that begins here by this record was never begun before. A process that joined after the
+    /// record was written can't know that.
+    pub(crate) fn is_new(&self) -> bool {
+        self.record().generation == 1 && self.stood > self.view.joined() && !self.had_body
+    }
+
     /// Lets go of the record.
     pub(crate) fn let_go(&mut self) -> Result<(), Code> {
         self.view = self.view.let_go()?;
         self.let_go = self.let_go.max(self.record().generation);
         Ok(())
+    }
+}
+
+#[cfg(test)]
+mod tests {
+    use super::*;
+    use durkenzo::Stand;
+
+    /// What is known under a lease of this revision, once a record of this generation was read.
+    fn known(joined: u64, generation: u64) -> Known {
+        let view = ShardView::new(1, joined, 100).unwrap();
+        let mut known = Place::<()>::new(view).known.into_inner().unwrap();
+        let mut record = word::record(0).unwrap();
+        (record.stand, record.generation) = (Stand::Serving(1), generation);
+        known.word = word::of(&record).unwrap();
+        known
+    }
+
+    #[test]
+    fn a_body_is_held_on_unless_both_the_lease_and_the_record_have_changed() {
+        let before = known(5, 7).holding();
+        for (joined, generation, holds) in [(5, 9, true), (6, 7, true), (6, 9, false)] {
+            let known = known(joined, generation);
+            let held = known.held_on(before);
+            assert_eq!(held, holds.then(|| known.holding()));
+        }
+        // The next owner has got it.
+        let mut known = known(5, 8);
+        known.handed = 7;
+        assert_eq!(known.held_on(before), None);
+        assert_eq!(known.held_on(known.holding()), Some(known.holding()));
+    }
+
+    #[test]
+    fn fences_tell_processes_of_a_server_apart_and_only_a_first_record_is_new() {
+        let (mut first, mut second) = (known(5, 1), known(9, 1));
+        (first.stood, second.stood) = (7, 7);
+        assert!(first.fence() < second.fence());
+        assert!(first.is_new() && !second.is_new());
+        first.had_body = true;
+        assert!(!first.is_new());
+        second.stood = 12;
+        assert_eq!(second.fence(), 12);
     }
 }

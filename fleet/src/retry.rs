@@ -1,4 +1,7 @@
-use std::time::Duration;
+use std::time::{Duration, Instant};
+
+/// How long anything is waited for at most. A clock has no time that is much later.
+const LONGEST: Duration = Duration::from_secs(365 * 24 * 60 * 60);
 
 /// How long a caller waits, and whether a call is sent again of which nothing was done.
 #[derive(Clone, Copy, Debug, PartialEq, Eq)]
@@ -15,5 +18,21 @@ impl Retry {
         match self {
             Retry::Once(budget) | Retry::Until(budget) => budget,
         }
+    }
+}
+
+/// Returns the time at which so long has passed from now on.
+pub(crate) fn end_of(length: Duration) -> Instant {
+    Instant::now() + length.min(LONGEST)
+}
+
+#[cfg(test)]
+mod tests {
+    use super::*;
+
+    #[test]
+    fn the_longest_time_has_an_end() {
+        assert!(end_of(Duration::MAX) > Instant::now());
+        assert!(end_of(Duration::ZERO) <= Instant::now());
     }
 }

@@ -1,5 +1,6 @@
 use crate::connections::{Connections, NotAnswered};
 use crate::frame::{spelled, CallFrame, Request, Response, MOST};
+use crate::retry::end_of;
 use crate::{commands, CallError, JoinError, Retry, Sharding};
 use durkenzo_control::links::checksum;
 use durkenzo_driver::{keys, RouteMap};
@@ -16,6 +17,8 @@ const PAUSE: Duration = Duration::from_millis(5);
 const AGAIN: Duration = Duration::from_millis(20);
 /// How long a server may take to tell its map.
 const MAP: Duration = Duration::from_secs(5);
+/// How many addresses of servers are kept at most.
+const ADDRESSES: usize = 256;
 
 /// A client of a fleet, for any threads. Its map never goes back, and an old map costs a call one hop.
 pub struct Router {
@@ -79,7 +82,7 @@ impl Router {
             .strip_prefix("http://")
             .unwrap_or(url)
             .trim_end_matches('/');
-        let text = map_of(&Connections::new(0), address);
+        let text = map_of(&Connections::new(0), address, MAP);
         let text =
             text.map_err(|error| JoinError::Address(address.to_owned(), io::Error::other(error)))?;
         let mut told = Told {
@@ -122,13 +125,13 @@ impl Router {
                 "a request has at most {MOST} bytes"
             )));
         }
-        let (shard, end) = (self.sharding.shard_of(key), Instant::now() + retry.budget());
+        let (shard, end) = (self.sharding.shard_of(key), end_of(retry.budget()));
         loop {
             let why = match self.call_once(shard, request, end) {
                 Ok(answer) => {
                     // A call that was forwarded went by an old map.
                     if answer.hops > 0 {
-                        self.refresh();
+                        self.refresh(end);
                     }
                     return Ok(answer);
                 }
@@ -140,7 +143,7 @@ impl Router {
                 return Err(CallError::NotMade(why));
             }
             std::thread::sleep(PAUSE.min(left));
-            self.refresh();
+            self.refresh(end);
         }
     }
 
@@ -217,8 +220,9 @@ impl Router {
         }
     }
 
-    /// Asks servers for the map again, if none tells of its changes.
-    fn refresh(&self) {
+    /// Asks servers for the map again until this time, if none tells of its changes. Another one is asked first each
+    /// time, because the map of a server that is cut from the store is old.
+    fn refresh(&self, end: Instant) {
         let Source::Servers(told) = &self.source else {
             return;
         };
@@ -228,11 +232,14 @@ impl Router {
                 return;
             }
             told.asked = Some(Instant::now());
+            told.addresses.rotate_left(1);
             told.addresses.clone()
         };
-        let answered = addresses
-            .iter()
-            .find_map(|it| map_of(&self.connections, it).ok());
+        let answered = addresses.iter().find_map(|it| {
+            let left = end.saturating_duration_since(Instant::now());
+            let is_left = !left.is_zero();
+            is_left.then(|| map_of(&self.connections, it, left.min(MAP)).ok())?
+        });
         if let Some(text) = answered {
             locked(told).note(&text);
         }
@@ -263,10 +270,10 @@ fn answer_of(bytes: &[u8]) -> Result<Answer, CallError> {
     }
 }
 
-/// The map that the server there tells.
-fn map_of(connections: &Connections, address: &str) -> Result<String, String> {
+/// The map that the server there tells, within this time.
+fn map_of(connections: &Connections, address: &str, within: Duration) -> Result<String, String> {
     let bytes = connections
-        .ask(address, &Request::Routes, MAP)
+        .ask(address, &Request::Routes, within)
         .map_err(|it| it.to_string())?;
     match Response::read(&bytes) {
         Ok(Response::Text(text)) => Ok(String::from_utf8_lossy(text).into_owned()),
@@ -289,7 +296,9 @@ impl Told {
                 self.routes.insert(shard, (revision, address.to_owned()));
             }
             if !self.addresses.iter().any(|it| it == address) {
-                self.addresses.push(address.to_owned());
+                // The one that was asked last is the first one to go.
+                self.addresses.truncate(ADDRESSES - 1);
+                self.addresses.insert(0, address.to_owned());
             }
         }
     }

@@ -50,7 +50,8 @@ pub trait Changes<B> {
 /// How a shard comes to a process.
 #[derive(Clone, Copy, Debug, PartialEq, Eq)]
 pub enum Came<'a> {
-    /// Nobody had it before.
+    /// The shard begins by the first record that it ever had, which was written while this process was there. Nobody
+    /// had it before.
     New,
     /// The previous owner handed this over by [`Service::hand_over`].
     Handed(&'a [u8]),
@@ -61,7 +62,8 @@ pub enum Came<'a> {
         /// What has changed since.
         since: &'a [u8],
     },
-    /// The previous owner has failed, and what it kept in memory is lost. A service with a database reads it there.
+    /// The previous owner has failed, or this process can't know that there was none: what was kept in memory is lost.
+    /// A service with a database reads it there.
     Lost,
 }
 

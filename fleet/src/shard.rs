@@ -15,8 +15,9 @@ impl Shard {
         self.number
     }
 
-    /// Returns the generation of its record: the fencing token. It never goes back, and a record of one generation has
-    /// one server execute. A database that refuses writes with a smaller token keeps out whoever is late.
+    /// Returns the fencing token: a revision of the store that never goes back, and by which one process executes. A
+    /// database that refuses writes with a smaller token keeps out whoever is late, an earlier process of the same
+    /// server too.
     pub fn fence(self) -> u64 {
         self.fence
     }

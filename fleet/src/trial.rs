@@ -1,7 +1,7 @@
 //! Several processes of a service that counts, in one process of a test. Its clients know which count comes next, so a
 //! count that is lost or made twice is found, and so is each wrong rule that is planted.
 use crate::connections::Connections;
-use crate::frame::{HandFrame, Request, Response};
+use crate::frame::{CallFrame, HandFrame, Request, Response};
 use crate::plant::Plant;
 use crate::{
     Call, CallError, Came, Changes, Enter, Fault, Fleet, Mode, Options, Refused, Retry, Router,
@@ -22,6 +22,8 @@ use std::time::{Duration, Instant};
 const SERVERS: u16 = 3;
 const SHARDS: u16 = 6;
 const CLIENTS: usize = 6;
+/// A request by which the service panics.
+const PANICS: &[u8] = b"panic";
 /// How long a client waits for an answer.
 const PATIENCE: Duration = Duration::from_secs(20);
 /// How long the test waits for what comes.
@@ -82,6 +84,7 @@ impl Service for Counter {
     }
 
     fn answer(&self, body: &mut Counts, call: Call<'_>) -> Vec<u8> {
+        assert_ne!(call.request(), PANICS);
         let key = call.request().to_vec();
         if let Some(changed) = &mut body.changed {
             changed.insert(key.clone());
@@ -121,6 +124,8 @@ struct Cuttable {
 #[derive(Default)]
 struct Cut {
     is_cut: AtomicBool,
+    /// Whether what is read isn't answered for now.
+    hangs: AtomicBool,
     held: Mutex<Vec<Box<dyn FnOnce() + Send>>>,
 }
 
@@ -149,6 +154,9 @@ impl Store for Cuttable {
     }
 
     fn read(&self, keys: &[&[u8]]) -> Result<Reading, ReadError> {
+        while self.cut.hangs.load(Ordering::SeqCst) {
+            thread::sleep(Duration::from_millis(1));
+        }
         match self.cut.is_cut() {
             true => Err(ReadError::Unavailable("cut".to_owned())),
             false => self.store.read(keys),
@@ -251,7 +259,11 @@ fn options(server: u16, lease: u64, plant: Option<Plant>) -> Options {
 impl Trial {
     /// Begins a fleet with leases of so many seconds, each process of which has this wrong rule planted.
     fn new(lease: u64, keeps_changes: bool, plant: Option<Plant>) -> Trial {
-        let store: Arc<dyn Store> = Arc::new(Embedded::in_memory());
+        Trial::over(Arc::new(Embedded::in_memory()), lease, keeps_changes, plant)
+    }
+
+    /// Begins such a fleet over this store.
+    fn over(store: Arc<dyn Store>, lease: u64, keeps_changes: bool, plant: Option<Plant>) -> Trial {
         let came = Arc::<Mutex<Vec<_>>>::default();
         let cuts: Vec<Arc<Cut>> = (0..SERVERS).map(|_| Arc::default()).collect();
         let fleets = (1..=SERVERS).zip(&cuts).map(|(server, cut)| {
@@ -321,30 +333,38 @@ impl Trial {
 
     /// Has the shard go to the server, step by step, each once the server that it waits for has acked.
     fn migrate(&self, shard: u16, server: u16) {
-        let (member, durable) = (&self.fleets[0].inner.member, &self.fleets[0].inner.durable);
+        self.hand_over(shard, server);
+        self.add(shard);
+    }
+
+    /// Has the shard's owner hand it over to the server, which isn't the owner yet.
+    fn hand_over(&self, shard: u16, server: u16) {
         let owner = self.owner(shard).unwrap();
-        let generation = || {
-            durable
-                .standing(shard)
-                .unwrap()
-                .record()
-                .unwrap()
-                .generation
-        };
-        let before = generation();
         let (named, to) = (shard.to_string(), server.to_string());
-        let steps = [
-            (&["PREPARE_ADD", &named, &to][..], Some(server)),
-            (&["PREPARE_DROP", &named], Some(owner)),
-            (&["ADD", &named], None),
-            (&["DROP", &named], None),
-        ];
-        for (step, (words, acks)) in (1..).zip(steps) {
-            self.command(words);
-            self.wait_until("the record is seen", || generation() >= before + step);
-            let has_acked = |by| member.acked(shard, by) >= Some(before + step);
-            self.wait_until("it is acked", || acks.is_none_or(has_acked));
-        }
+        self.step(shard, &["PREPARE_ADD", &named, &to], Some(server));
+        self.step(shard, &["PREPARE_DROP", &named], Some(owner));
+    }
+
+    /// Has the server be the owner to which the shard was handed over.
+    fn add(&self, shard: u16) {
+        let named = shard.to_string();
+        self.step(shard, &["ADD", &named], None);
+        self.step(shard, &["DROP", &named], None);
+    }
+
+    /// Gives the control the command of a step, and waits until the server has acked that.
+    fn step(&self, shard: u16, words: &[&str], acks: Option<u16>) {
+        let member = &self.fleets[0].inner.member;
+        let before = self.generation(shard);
+        self.command(words);
+        self.wait_until("the record is seen", || self.generation(shard) > before);
+        let has_acked = |by| member.acked(shard, by) > Some(before);
+        self.wait_until("it is acked", || acks.is_none_or(has_acked));
+    }
+
+    fn generation(&self, shard: u16) -> u64 {
+        let stored = self.fleets[0].inner.durable.standing(shard).unwrap();
+        stored.record().unwrap().generation
     }
 
     /// Gives the control a command, again while a process hasn't read what it has to.
@@ -517,6 +537,9 @@ fn a_call_of_a_paused_shard_ends_with_its_budget_and_fences_rise() {
     let late = router.call(&key, &key, Retry::Until(Duration::from_millis(300)));
     assert!(matches!(late, Err(CallError::NotMade(_))), "{late:?}");
     assert!(began.elapsed() >= Duration::from_millis(290));
+    // The server tells in time that it did nothing.
+    let once = router.call(&key, &key, Retry::Once(Duration::from_millis(300)));
+    assert!(matches!(once, Err(CallError::NotMade(_))), "{once:?}");
     trial.command(&["RESUME", "0"]);
     let second = router.call(&key, &key, Retry::Until(PATIENCE)).unwrap();
     assert_eq!(second.bytes, 2_u64.to_be_bytes());
@@ -578,5 +601,134 @@ fn what_another_process_hands_over_is_refused() {
     let other = Connections::new(7);
     let refused = other.ask(&fleet.address().to_string(), &Request::Routes, SOON);
     assert!(refused.is_err());
+    trial.end();
+}
+
+/// Has the service count by this key, and returns the count.
+fn count(router: &Router, key: &[u8]) -> u64 {
+    let answer = router.call(key, key, Retry::Until(PATIENCE)).unwrap();
+    u64::from_be_bytes(answer.bytes.try_into().unwrap())
+}
+
+#[test]
+fn a_body_of_before_isnt_kept_when_the_shard_comes_back() {
+    let trial = Trial::new(30, false, None);
+    let router = Router::watch(&*trial.store).unwrap();
+    let (owner, other) = (2, 3);
+    let mut shards = 0..SHARDS;
+    let shard = shards.find(|it| trial.owner(*it) == Some(owner)).unwrap();
+    let key = key_of(&router, shard);
+    assert_eq!(count(&router, &key), 1);
+    trial.hand_over(shard, other);
+    // The owner before doesn't learn that the shard is the other one's, and so it drops nothing.
+    let hangs = &trial.cuts[usize::from(owner) - 1].hangs;
+    hangs.store(true, Ordering::SeqCst);
+    trial.add(shard);
+    assert_eq!(count(&router, &key), 2);
+    let (named, to) = (shard.to_string(), owner.to_string());
+    trial.step(shard, &["PREPARE_ADD", &named, &to], None);
+    hangs.store(false, Ordering::SeqCst);
+    trial.wait_until("it is prepared", || {
+        let member = &trial.fleets[0].inner.member;
+        member.acked(shard, owner) == Some(trial.generation(shard))
+    });
+    trial.step(shard, &["PREPARE_DROP", &named], Some(other));
+    trial.add(shard);
+    assert_eq!(count(&router, &key), 3);
+    trial.end();
+}
+
+#[test]
+fn an_owner_that_gets_a_shard_back_after_it_handed_over_begins_without_its_body() {
+    let trial = Trial::new(2, false, None);
+    let router = Router::watch(&*trial.store).unwrap();
+    let shard = (0..SHARDS).find(|it| trial.owner(*it) == Some(1)).unwrap();
+    let key = key_of(&router, shard);
+    assert_eq!(count(&router, &key), 1);
+    trial.hand_over(shard, 2);
+    let answer = router.call(&key, &key, Retry::Until(PATIENCE)).unwrap();
+    assert_eq!(
+        (answer.server, answer.bytes),
+        (2, 2_u64.to_be_bytes().to_vec())
+    );
+    // What was sent by an earlier record is too late.
+    let next = &trial.fleets[1].inner;
+    let late = HandFrame {
+        shard,
+        hand: HandOver {
+            joined: 1,
+            generation: trial.generation(shard) - 1,
+            server: 1,
+        },
+        is_changes: false,
+        at: 0,
+        total: 0,
+        bytes: b"",
+    };
+    assert!(next.take_hand_over(&late).is_err());
+    trial.fleets[1].leave();
+    trial.wait_until("the owner has it back", || trial.owner(shard) == Some(1));
+    assert_eq!(count(&router, &key), 1);
+    assert!(trial.came.lock().unwrap().contains(&"lost"));
+    trial.end();
+}
+
+#[test]
+fn a_fleet_that_begins_again_has_lost_what_it_kept_and_has_later_fences() {
+    let trial = Trial::new(30, false, None);
+    let (store, router) = (trial.store.clone(), Router::watch(&*trial.store).unwrap());
+    let key = key_of(&router, 0);
+    let before = router.call(&key, &key, Retry::Until(PATIENCE)).unwrap();
+    assert!(trial.came.lock().unwrap().iter().all(|it| *it == "new"));
+    trial.end();
+    let trial = Trial::over(store, 30, false, None);
+    let after = router.call(&key, &key, Retry::Until(PATIENCE)).unwrap();
+    assert_eq!(after.bytes, 1_u64.to_be_bytes());
+    assert!(before.fence < after.fence, "{before:?} {after:?}");
+    let came = trial.came.clone();
+    trial.end();
+    assert!(came.lock().unwrap().iter().all(|it| *it == "lost"));
+}
+
+#[test]
+fn a_body_with_which_the_service_panicked_is_lost() {
+    let trial = Trial::new(30, false, None);
+    let router = Router::watch(&*trial.store).unwrap();
+    let key = key_of(&router, 0);
+    assert_eq!(count(&router, &key), 1);
+    let unsure = router.call(&key, PANICS, Retry::Until(PATIENCE));
+    assert!(matches!(unsure, Err(CallError::Unsure(_))), "{unsure:?}");
+    assert_eq!(count(&router, &key), 1);
+    assert_eq!(trial.came.lock().unwrap().last(), Some(&"lost"));
+    trial.end();
+}
+
+#[test]
+fn calls_by_records_that_are_never_read_stop_nobody() {
+    let trial = Trial::new(30, false, None);
+    let router = Router::watch(&*trial.store).unwrap();
+    let key = key_of(&router, 0);
+    count(&router, &key);
+    let owner = &trial.fleets[usize::from(trial.owner(0).unwrap()) - 1];
+    let (at, settings) = (owner.address().to_string(), &owner.inner.settings);
+    let connections = Connections::new(checksum(settings.as_bytes()));
+    let call = CallFrame {
+        shard: 0,
+        from: 0,
+        hops: 0,
+        revision: u64::MAX,
+        budget: 2_000,
+        request: b"never",
+    };
+    thread::scope(|scope| {
+        for _ in 0..3 {
+            scope.spawn(|| connections.ask(&at, &Request::Call(call), SOON).unwrap());
+        }
+        thread::sleep(Duration::from_millis(200));
+        let soon = Retry::Until(Duration::from_millis(400));
+        for _ in 0..20 {
+            router.call(&key, &key, soon).unwrap();
+        }
+    });
     trial.end();
 }

@@ -1,5 +1,5 @@
 //! How many files the system lets the process have open, and for what some of them are kept.
-use rustix::process::{getrlimit, setrlimit, Resource, Rlimit};
+use durkenzo_control::descriptors::raise_limit;
 
 /// Kept for what the process opens by itself: its log, listeners, files of the store and of dumps.
 const OWN: usize = 64;
@@ -46,7 +46,7 @@ pub struct Descriptors {
 impl Descriptors {
     /// Raises the process' soft limit to its hard one, as Redis does, and shares out what there is then.
     pub fn raised(needs: Needs) -> Descriptors {
-        Descriptors::shared(raised(), needs)
+        Descriptors::shared(raise_limit(), needs)
     }
 
     /// Shares out so many. Clients get at least half, however few there are.
@@ -60,27 +60,10 @@ impl Descriptors {
     }
 }
 
-/// How many descriptors the process may have, once that is as many as it may ask for.
-fn raised() -> usize {
-    let Rlimit { current, maximum } = getrlimit(Resource::Nofile);
-    let raised = Rlimit {
-        current: maximum,
-        maximum,
-    };
-    let current = match setrlimit(Resource::Nofile, raised) {
-        Ok(()) => maximum,
-        Err(error) => {
-            tracing::warn!(%error, "the soft limit of open files stays");
-            current
-        }
-    };
-    // None is no limit.
-    current.map_or(usize::MAX, |it| usize::try_from(it).unwrap_or(usize::MAX))
-}
-
 #[cfg(test)]
 mod tests {
     use super::*;
+    use rustix::process::{getrlimit, Resource};
 
     const NEEDS: Needs = Needs {
         threads: 3,
@@ -115,7 +98,7 @@ mod tests {
 
     #[test]
     fn the_soft_limit_is_the_hard_one() {
-        let most = raised();
+        let most = raise_limit();
         let limit = getrlimit(Resource::Nofile);
         assert_eq!(limit.current, limit.maximum);
         assert!(limit.current.is_none_or(|it| it as usize == most));

@@ -70,7 +70,7 @@ pub use control_host::ControlHost;
 pub use controller::{Controller, TURN};
 pub use held_command::{Again, Waiting};
 pub use leader::FIRST_WAIT;
-pub use other_controls::OtherControls;
+pub use other_controls::{is_decided, OtherControls};
 pub use progress::{Doing, Progress, Share};
 pub use refusal::Refusal;
 pub use reply_to::ReplyTo;

@@ -1,6 +1,19 @@
 use super::{Again, Asked};
 use durkenzo_driver::Member;
 
+/// How answers begin by which nobody has decided on a command, or may not have.
+const UNDECIDED: [&[u8]; 4] = [
+    b"-UNKNOWN",
+    b"-PEERDOWN",
+    b"-REFUSED NotLeader",
+    b"-REFUSED St",
+];
+
+/// Returns whether a control has decided on a command, by the answer that another process passed on.
+pub fn is_decided(answer: &[u8]) -> bool {
+    !UNDECIDED.iter().any(|it| answer.starts_with(it))
+}
+
 /// The controls in the other processes of a cluster. Its calls don't wait.
 pub trait OtherControls: Send + Sync {
     /// Returns this process's server, and the others that are there.

@@ -388,7 +388,9 @@ impl Shard {
             }
             RecoveryFault::Damaged(why) => {
                 self.base_demand.is_wanted = false;
-                self.replicas.insert(server, ReplicaState::Unread(None));
+                // The next owner reads ahead. It doesn't read all of a damaged log again at once.
+                let again = ReplicaState::later(None, now + READ_AGAIN);
+                self.replicas.insert(server, again);
                 self.give_up(&NotDone::Damaged(why), actions);
             }
         }

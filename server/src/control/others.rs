@@ -2,16 +2,8 @@
 use super::{Again, Asked, Words};
 use crate::io::ReplyAddress;
 use crate::works::Peers;
-use durkenzo_control::control::OtherControls;
+use durkenzo_control::control::{is_decided, OtherControls};
 use durkenzo_driver::Member;
-
-/// How answers begin by which nobody has decided on a command, or may not have.
-const UNDECIDED: [&[u8]; 4] = [
-    b"-UNKNOWN",
-    b"-PEERDOWN",
-    b"-REFUSED NotLeader",
-    b"-REFUSED St",
-];
 
 impl OtherControls for Peers {
     fn member(&self) -> &Member {
@@ -28,7 +20,7 @@ impl OtherControls for Peers {
 
     fn ask_to_be_back(&self, leader: u16, tell: Box<dyn FnOnce(bool) + Send>) {
         let reply_to = ReplyAddress::process(move |told| {
-            tell(!UNDECIDED.iter().any(|it| told.starts_with(it)));
+            tell(is_decided(&told));
             // Whoever leads may have it up before it asks.
             if told.starts_with(b"-REFUSED AlreadyUp") {
                 return tracing::info!("this server is up");
