@@ -71,9 +71,8 @@ fn executes_once_it_is_assigned(rt: HostRuntime) {
     let (item, head) = (item(7, 5), HEAD);
     let mut server = started(&rt, one);
     let control = elected(&rt, rt.alloc());
-    let assign = Command::Change(shard, Change::Assign(one));
-    assert!(rt; control.has_waited(&[], &assign));
-    let Judged::Sent(sent) = control.command(assign) else {
+    assert!(rt; control.has_waited(&[], &Command::Change(shard, Change::Assign(one))));
+    let Judged::Sent(sent) = control.command(Command::Change(shard, Change::Assign(one))) else {
         return;
     };
     let control = sent.outcome(SendOutcome::Made(2)).expect(&rt, "made");
