@@ -50,6 +50,8 @@ pub enum CommandFault {
     NotFollowed,
     /// A server that the command waits for hasn't acked the shard's record.
     NotAcked,
+    /// The server's process is the one that was stopped, or none was seen.
+    EarlierProcess,
     /// The library answered this code, which this version doesn't know.
     Other(u32),
 }
@@ -79,6 +81,7 @@ impl CommandFault {
             49 => CommandFault::AlreadyFailed,
             96 => CommandFault::NotFollowed,
             97 => CommandFault::NotAcked,
+            98 => CommandFault::EarlierProcess,
             code => CommandFault::Other(code),
         }
     }
@@ -114,6 +117,9 @@ impl fmt::Display for CommandFault {
             CommandFault::NotAcked => {
                 "a server that the command waits for hasn't acked the shard's record"
             }
+            CommandFault::EarlierProcess => {
+                "the server's process is the one that was stopped, or none was seen"
+            }
             CommandFault::Other(code) => return write!(f, "the library answered code {code}"),
         })
     }
@@ -146,6 +152,7 @@ impl CommandFault {
             | CommandFault::AlreadyFailed
             | CommandFault::NotFollowed
             | CommandFault::NotAcked
+            | CommandFault::EarlierProcess
             | CommandFault::Other(_) => return None,
         })
     }
@@ -174,6 +181,7 @@ impl CommandFault {
             | CommandFault::DomainLimit
             | CommandFault::NotFollowed
             | CommandFault::NotAcked
+            | CommandFault::EarlierProcess
             | CommandFault::Other(_) => return None,
         })
     }

@@ -9,7 +9,7 @@
 //! | `ack/SHARD/SERVER` | the generation up to which that process let go of the shard, or is prepared for it |
 //! | `lowest/SERVER` | the process that ran it last, and the first of the numbers by which it still has requests |
 //! | `commands` | the process that sent the latest command |
-//! | `state/SERVER` | how far a server's restart has come |
+//! | `state/SERVER` | how far a server's restart has come, and of which process that is said |
 //! | `drain/SERVER` | that the server's shards go elsewhere, until they have |
 //! | `home/SHARD` | the server to which the shard comes home, which it left for that one's restart |
 //! | `record/SHARD` | who executes the shard |

@@ -44,6 +44,7 @@ mod round;
 mod round_step;
 mod route_map;
 mod run;
+mod server_run;
 mod server_state;
 #[deny(clippy::disallowed_methods)]
 mod shard;
@@ -73,6 +74,7 @@ pub use planner::Planner;
 pub use refused::Refused;
 pub use request::{Key, MapReply, MapRequest, Range};
 pub use route_map::{RouteMap, SeenRoute};
+pub use server_run::ServerRun;
 pub use server_state::ServerState;
 pub use shard_reading::ShardReading;
 pub use stored_record::StoredRecord;

@@ -104,7 +104,9 @@ impl Planner {
         if let Subject::Shard(shard) = command.subject() {
             self.have_acked(shard)?;
         }
-        self.director.command(command).map_err(Refused::of)
+        // A server begins anew with each step, as no process of its own does.
+        let runs = self.made + 1;
+        self.director.command(command, runs).map_err(Refused::of)
     }
 
     /// Has the servers that the shard's record names ack it: data in memory is used by one thread at a time, so a server
@@ -162,7 +164,8 @@ impl Planner {
     ///
     /// `Judged` if there is no such server.
     pub fn state_of(&mut self, server: u16) -> Result<ServerState, Refused> {
-        self.director.state_of(server).map_err(Refused::of)
+        let run = self.director.run_of(server).map_err(Refused::of)?;
+        Ok(run.state)
     }
 }
 

@@ -1,5 +1,5 @@
 use crate::core_fault::CoreFault;
-use crate::CommandFault;
+use crate::{CommandFault, OpenFault};
 use durkenzo_store::{ReadError, WriteError};
 use durkenzo_store_sys::Code;
 use thiserror::Error;
@@ -28,6 +28,16 @@ pub enum Refused {
     /// The store doesn't make it.
     #[error("{0}")]
     Write(#[from] WriteError),
+}
+
+impl From<OpenFault> for Refused {
+    fn from(fault: OpenFault) -> Refused {
+        match fault {
+            OpenFault::Read(error) => Refused::Read(error),
+            OpenFault::Write(error) => Refused::Write(error),
+            OpenFault::BadProcess | OpenFault::Thread(_) => Refused::Damaged(fault.to_string()),
+        }
+    }
 }
 
 impl Refused {

@@ -1,7 +1,7 @@
 //! What a server reads of the store: all of a shard once, and then only what it lacks.
 mod common;
 
-use common::cluster::{campaign, kill, settle, until, Net, Node};
+use common::cluster::{campaign, kill, settle, soon, until, Net, Node};
 use common::counting::{Counting, Counts, Loss};
 use common::{add, held, write};
 use durkenzo_driver::{ControlCommand, DurableControl, MapReply, MapRequest};
@@ -231,8 +231,7 @@ fn a_large_shard_moves_without_a_wait() {
     // Server 1 is gone when its shard comes back to server 3, which has read nothing.
     kill(&trio.nodes[0]);
     trio.control.command(ControlCommand::Pause(0)).unwrap();
-    let reassign = ControlCommand::Reassign(0, 3);
-    trio.control.command(reassign).unwrap();
+    soon(&mut trio.control, ControlCommand::Reassign(0, 3));
     let cold = waits(&trio.nodes[2]);
     assert!(2 * warm < cold, "{warm:?} and {cold:?}");
 }

@@ -77,7 +77,8 @@ enum durkenzo_director_code {
     DURKENZO_DIRECTOR_UNREACHED = 94,      /* no commands lead to the records and states that were read */
     DURKENZO_DIRECTOR_DIFFERENT = 95,      /* the records or states are others than commands lead to, or of another number */
     DURKENZO_DIRECTOR_NOT_FOLLOWED = 96,   /* a follower hasn't read that the shard is taken */
-    DURKENZO_DIRECTOR_NOT_ACKED = 97       /* a server that the command waits for hasn't acked the shard's record */
+    DURKENZO_DIRECTOR_NOT_ACKED = 97,      /* a server that the command waits for hasn't acked the shard's record */
+    DURKENZO_DIRECTOR_EARLIER_PROCESS = 98 /* the server's process is the one that was stopped, or none was seen */
     /* End of them. */
 };
 
@@ -159,13 +160,15 @@ uint32_t durkenzo_director_state(durkenzo_director_handle *director, const uint8
  * nothing. Errors: WRONG_HANDLE, NO_MEMORY, UNREACHED and DIFFERENT, which tell of a store to which others write. */
 uint32_t durkenzo_director_read(durkenzo_director_handle *director, uint64_t placed);
 
-/* Judges the command of this kind, for the shard and the server that it names: 0 where it is to be sent, and nothing
- * else until its outcome is told; or else the first fault that applies. Errors: WRONG_HANDLE, BAD_ARGUMENT (also where
- * what isn't named isn't 0), UNREAD, UNDER_WAY, NOT_FOLLOWED for DROP_SHARD, NOT_ACKED for a change that waits for a
- * server, and the faults 10 to 14 and 30 to 49. */
-uint32_t durkenzo_director_command(durkenzo_director_handle *director, uint8_t kind, uint16_t shard, uint16_t server);
+/* Judges the command of this kind, for the shard and the server that it names, where this process runs the server, 0 if
+ * none was seen: 0 where it is to be sent, and nothing else until its outcome is told; or else the first fault that
+ * applies. Errors: WRONG_HANDLE, BAD_ARGUMENT (also where what isn't named isn't 0), UNREAD, UNDER_WAY, NOT_FOLLOWED for
+ * DROP_SHARD, NOT_ACKED for a change that waits for a server, the faults 10 to 14 and 30 to 49, and EARLIER_PROCESS: if
+ * STOPPED has no process to name, or BACK is of the process that was stopped. */
+uint32_t durkenzo_director_command(durkenzo_director_handle *director, uint8_t kind, uint16_t shard, uint16_t server,
+                                   uint64_t process);
 
-/* Writes what is sent: the bytes for the record or the state, and behind them those for the key of commands; 26 bytes
+/* Writes what is sent: the bytes for the record or the state, and behind them those for the key of commands; 34 bytes
  * are always enough. It may be asked again. Errors: WRONG_HANDLE, NOT_SENT, NO_MEMORY, TOO_SHORT. */
 uint32_t durkenzo_director_sending(durkenzo_director_handle *director, durkenzo_command_numbers *sent, uint8_t *into,
                                    size_t room);
@@ -218,9 +221,10 @@ uint32_t durkenzo_director_fallen(durkenzo_director_handle *director, uint16_t *
 uint32_t durkenzo_director_record_of(durkenzo_director_handle *director, uint16_t shard, uint64_t *word,
                                      uint64_t *stood);
 
-/* The server's state: 0 Up, 1 Asked, 2 Approved, 3 Stopped, 4 Failed. Errors: WRONG_HANDLE, BAD_ARGUMENT,
- * UNKNOWN_SERVER, UNREAD, UNDER_WAY. */
-uint32_t durkenzo_director_state_of(durkenzo_director_handle *director, uint16_t server, uint8_t *state);
+/* The server's state: 0 Up, 1 Asked, 2 Approved, 3 Stopped, 4 Failed; and the process of which it is said, 0 for none.
+ * Errors: WRONG_HANDLE, BAD_ARGUMENT, UNKNOWN_SERVER, UNREAD, UNDER_WAY. */
+uint32_t durkenzo_director_state_of(durkenzo_director_handle *director, uint16_t server, uint8_t *state,
+                                    uint64_t *process);
 
 /* Lets go the control that the handle keeps. */
 void durkenzo_director_close(durkenzo_director_handle *director);

@@ -838,6 +838,27 @@ def restarts_are_told_when_a_process_may_end(program):
         return f"{load.checked(client)} additions, {len(load.errors)} of unknown outcome"
 
 
+def the_next_leader_knows_which_process_was_stopped(program):
+    """A restart may be asked for again, and the process that was stopped isn't taken for the next one, whoever leads."""
+    with cluster(program) as several:
+        leader = several.leader()
+        server, other = (it for it in several.processes if it != leader)
+        with several.client(other) as client:
+            assert "is stopped" in client.ask("SM", "RESTART", server)
+            assert several.processes.pop(leader).kill(signal.SIGTERM) == 0
+            several.begin(leader)
+            for _ in range(2):
+                told = str(served_answer(client, ("SM", "RESTART", server)))
+                assert "is stopped" in told, told
+                told = str(served_answer(client, ("SM", "BACK", server)))
+                assert told.startswith("REFUSED StillStopped: "), told
+            assert rows(client)[server - 1][1] == "stopped", rows(client)
+            assert several.processes[server].kill(signal.SIGTERM) == 0
+            several.begin(server)
+            eventually(lambda: rows(client)[server - 1][1] == "up")
+            several.settled()
+
+
 @again
 def restarts_wait_for_no_process_that_has_failed(program):
     with cluster(program, lease=LEASE) as several:
@@ -882,6 +903,7 @@ TESTS = [
     kills_of_the_leader_let_drains_go_on,
     commands_wait_for_who_leads_next,
     restarts_are_told_when_a_process_may_end,
+    the_next_leader_knows_which_process_was_stopped,
     restarts_wait_for_no_process_that_has_failed,
 ]
 

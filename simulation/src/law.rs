@@ -5,7 +5,9 @@ use crate::reading::{self, DecodedRecord, Item, Made, MapModel, Replied};
 use durkenzo_store::Transaction;
 use std::collections::{HashMap, HashSet};
 
-/// The number of a server's state where it has failed.
+/// The numbers of servers' states.
+const UP: u64 = 0;
+const STOPPED: u64 = 3;
 const FAILED: u64 = 4;
 /// How often a request is forwarded at most.
 const MOST_HOPS: u64 = 4;
@@ -94,6 +96,8 @@ struct WorldModel {
     leader: u64,
     /// How far the restarts of servers have come, by their numbers.
     states: HashMap<u64, u64>,
+    /// The process that each server's state names.
+    named: HashMap<u64, u64>,
     /// The servers whose keys are there, and since which revisions without a break.
     there: HashMap<u64, u64>,
     /// Up to which revisions servers say that they have read, whose keys are there.
@@ -287,8 +291,9 @@ impl WorldModel {
 
     /// A step of a server's restart, of which one at a time may be approved.
     fn restart(&mut self, server: u64, bytes: &[u8], txn: &Written) -> Result<(), Broken> {
-        let (state, process) = found(reading::state(bytes), txn)?;
+        let (state, process, named) = found(reading::state(bytes), txn)?;
         self.command(process, txn)?;
+        self.name_process(server, state, named, txn)?;
         if state == FAILED && self.there.contains_key(&server) {
             return broken(
                 "a server is failed while its key isn't there",
@@ -310,6 +315,27 @@ impl WorldModel {
             return broken(
                 "a step of a restart is legal",
                 format!("{server} from {before} to {state}: {:?}", self.states),
+            );
+        }
+        Ok(())
+    }
+
+    /// A state names a process of the server that began no earlier than the one before, and later if the server was
+    /// stopped and is up again.
+    fn name_process(
+        &mut self,
+        server: u64,
+        state: u64,
+        named: u64,
+        txn: &Written,
+    ) -> Result<(), Broken> {
+        let was_stopped = self.states.get(&server) == Some(&STOPPED);
+        let before = self.named.insert(server, named).unwrap_or(0);
+        let is_later = before < named || before == named && !(was_stopped && state == UP);
+        if !is_later || state == STOPPED && named == 0 {
+            return broken(
+                "a stopped server is up again by a later process",
+                format!("{server} of {before}, then {txn:?}"),
             );
         }
         Ok(())

@@ -19,9 +19,14 @@ pub fn number(bytes: &[u8]) -> u64 {
         .fold(0, |all, &byte| (all << 8) | u64::from(byte))
 }
 
-/// The fields of these lengths, behind the version; none where the bytes aren't of that length or version.
+/// The fields behind version 1; none where the bytes aren't of that length or version.
 fn fields(bytes: &[u8], count: usize) -> Option<Vec<u64>> {
-    if bytes.len() != 1 + 8 * count || bytes[0] != 1 {
+    fields_of(1, bytes, count)
+}
+
+/// The fields behind this version.
+fn fields_of(version: u8, bytes: &[u8], count: usize) -> Option<Vec<u64>> {
+    if bytes.len() != 1 + 8 * count || bytes[0] != version {
         return None;
     }
     Some(bytes[1..].chunks(8).map(number).collect())
@@ -82,11 +87,14 @@ pub fn process(bytes: &[u8]) -> Option<u64> {
     Some(fields(bytes, 1)?[0])
 }
 
-/// How far the restart of a server has come, and whose command led to it: 0 up, 1 asked, 2 approved, 3 stopped,
-/// 4 failed.
-pub fn state(bytes: &[u8]) -> Option<(u64, u64)> {
-    let fields = fields(bytes, 2)?;
-    (fields[0] <= 4).then_some((fields[0], fields[1]))
+/// How far the restart of a server has come: 0 up, 1 asked, 2 approved, 3 stopped, 4 failed; whose command led to it,
+/// and of which process of the server it is said, 0 for none.
+pub fn state(bytes: &[u8]) -> Option<(u64, u64, u64)> {
+    let (fields, named) = match fields_of(2, bytes, 3) {
+        Some(fields) => (fields.clone(), fields[2]),
+        None => (fields(bytes, 2)?, 0),
+    };
+    (fields[0] <= 4).then_some((fields[0], fields[1], named))
 }
 
 /// Up to which revision a server follows records, as its key tells.

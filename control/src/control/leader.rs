@@ -267,12 +267,17 @@ fn go_on_with_shards(control: &mut Controller) -> Result<(), Refusal> {
     Ok(())
 }
 
-/// Has servers be up again that had failed and are there, once all that they owned went elsewhere or can't. One that
-/// was stopped asks for it where its process begins.
+/// Has servers be up again that are there: those that had failed, once all that they owned went elsewhere or can't, and
+/// those whose restart is over, as a later process runs them. If a state doesn't say which process was stopped, the
+/// server's process asks for it when it begins.
 fn have_back(control: &mut Controller) -> Result<(), Refusal> {
-    for server in live(control) {
-        if control.backend.state_of(server)? == ServerState::Failed {
-            have_one_back(control, server)?;
+    let members = control.peers.as_ref().map(|it| it.member().members());
+    for (server, live) in members.iter().flat_map(|it| it.iter()) {
+        if control.backend.state_of(*server)? == ServerState::Failed {
+            have_one_back(control, *server)?;
+        }
+        if control.backend.is_restarted_by(*server, live.process)? {
+            control.make(ControlCommand::Back(*server))?;
         }
     }
     Ok(())

@@ -12,6 +12,8 @@ const NOT_NOW: &str = "NotNow";
 const NOT_LEADER: &str = "NotLeader";
 /// The name where a server is there that is said to have failed.
 const STILL_THERE: &str = "StillThere";
+/// The name where a server is to be up again whose process is still the one that was stopped.
+const STILL_STOPPED: &str = "StillStopped";
 /// The name where a shard has no generations left.
 const SPENT: &str = "Spent";
 /// How many shards a refusal names.
@@ -199,6 +201,10 @@ impl Refusal {
         match refused {
             Refused::Judged(why) => match why.as_restart() {
                 Some(fault) => Refusal::of_restart(fault, server),
+                None if *why == CommandFault::EarlierProcess => {
+                    let advice = "end the server's process, and start it again";
+                    Refusal::new(STILL_STOPPED, why.to_string(), advice)
+                }
                 None => Refusal::for_now(*why),
             },
             other => Refusal::of_store(other),
@@ -409,6 +415,16 @@ mod tests {
         assert_eq!(of(RestartFault::GlobalCap, &[]), without);
         let without = Refusal::of_restart(RestartFault::ShardCap, 1);
         assert_eq!(of(RestartFault::ShardCap, &[2]), without);
+    }
+
+    #[test]
+    fn a_stopped_process_is_to_end_before_its_server_is_up() {
+        let earlier = Refused::Judged(CommandFault::EarlierProcess);
+        assert_eq!(
+            Refusal::of_refused_step(&earlier, 1).to_string(),
+            "REFUSED StillStopped: the server's process is the one that was stopped, or none was seen; \
+             try: end the server's process, and start it again"
+        );
     }
 
     #[test]

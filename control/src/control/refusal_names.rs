@@ -1,5 +1,5 @@
 /// Each name by which the control refuses and scripts don't: when, and what to do. `./sm help` reads them here.
-pub const NAMES: [(&str, &str, &str); 27] = [
+pub const NAMES: [(&str, &str, &str); 28] = [
     ("NotThere", "the word is there where data lies elsewhere", "SM HELP tells where it is"),
     ("NotDurable", "the word is there for data in memory alone", "SM HELP lists all words"),
     ("OneByOne", "processes of a cluster are ended and begun again by hand, one after another", "SM RESTART a"),
@@ -13,6 +13,8 @@ pub const NAMES: [(&str, &str, &str); 27] = [
       "try again; if that server is gone, SM FAIL a"),
     ("StillThere", "the server has a process that keeps its lease, so it hasn't failed",
       "SM RESTART a, or end its process"),
+    ("StillStopped", "the process of the server is the one that was stopped, or none was seen",
+      "end the process, and start it again"),
     ("ThreadBusy", "a thread hasn't noticed for 10 s how servers stand", "look at the log"),
     ("Stopping", "the process ends", "start it again"),
     ("StoreFull", "the disk, or etcd, is full, and nothing has changed", "make room, as by DEL and SM COMPACT"),

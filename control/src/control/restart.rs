@@ -115,13 +115,30 @@ impl Restart {
     }
 
     fn ask(&mut self, control: &mut Controller) -> Result<Advance, Refusal> {
+        if control.backend.lasts() && self.was_asked_for(control)? {
+            self.is_awaited = false;
+            self.begin(control);
+            return Ok(Advance::soon());
+        }
         let made = control.make(ControlCommand::Ask(self.server));
         // The store may have made it, whatever it says.
         if made.as_ref().err().is_none_or(Refusal::is_of_store) {
-            self.phase = Phase::Leaves;
-            *control.restarting.entry(self.server).or_default() += 1;
+            self.begin(control);
         }
         made.map(|()| Advance::soon())
+    }
+
+    /// Whether a restart was asked for before, whoever led then: it goes on with that one, and tells where it stands.
+    fn was_asked_for(&self, control: &mut Controller) -> Result<bool, Refusal> {
+        Ok(match control.backend.state_of(self.server)? {
+            ServerState::Asked | ServerState::Approved | ServerState::Stopped => true,
+            ServerState::Up | ServerState::Failed => false,
+        })
+    }
+
+    fn begin(&mut self, control: &mut Controller) {
+        self.phase = Phase::Leaves;
+        *control.restarting.entry(self.server).or_default() += 1;
     }
 
     fn leave(&mut self, control: &mut Controller) -> Result<Advance, Refusal> {

@@ -66,6 +66,10 @@ impl Backend for StoreBackend {
         Ok(self.control.state_of(server)?)
     }
 
+    fn is_restarted_by(&mut self, server: u16, process: u64) -> Result<bool, BackendFault> {
+        Ok(self.control.run_of(server)?.is_restarted_by(process))
+    }
+
     fn show_state(&mut self, server: u16, state: ServerState) {
         if let Some(durable) = &self.durable {
             durable.set_away(server, !state.is_reached());

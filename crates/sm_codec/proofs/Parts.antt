@@ -11,7 +11,7 @@ use Rattle.sm_codec.specs.declared.stored_part.StoredPart.{StoredPart}
 use Rattle.sm_codec.specs.Reading.{◌>>=◌, Decodes, all_read, items_in, number_in, part_in, string_in, version_in}
 use Rattle.sm_codec.specs.Spelling.{FitsPart, PartText, item_bytes, part_bytes, part_view, string_bytes}
 use Rattle.sm_codec.proofs.Batches.{items_again, items_take}
-use Rattle.sm_codec.proofs.FieldLemmas.{IsBytes, Takes, Takes-then, bind_ok, bind_to, ended_takes, number_again}
+use Rattle.sm_codec.proofs.FieldLemmas.{IsBytes, Takes-then, bind_ok, bind_to, ended_takes, number_again}
 use Rattle.sm_codec.proofs.FieldLemmas.{number_takes, string_again, string_takes, version_again, version_takes, wide32}
 use Rattle.sm_codec.proofs.FieldLemmas.{wide64}
 use Rattle.sm_codec.proofs.Heads.{taken_all}

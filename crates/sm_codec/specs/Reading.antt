@@ -114,16 +114,36 @@ state_named number =
     else if number == 4 then Some Failed
     else None
 
--- the state that a number names, where it names one, by this process
-abbrev pub state_by : Option ServerState → ℕ → Result StoredState Fault
-state_by None process = Err State
-state_by (Some state) process = Ok (record { state = state; process = process })
+-- the state that a number names, where it names one, by this process, of that one
+abbrev pub state_by : Option ServerState → ℕ → ℕ → Result StoredState Fault
+state_by None process named = Err State
+state_by (Some state) process named =
+    Ok (record { run = record { state = state; process = named }; process = process })
+
+-- three numbers
+unfoldable pub triple_in : List ℕ → Result (ℕ × ℕ × ℕ) Fault
+triple_in bytes = do
+  first ← number_in w64 bytes
+  second ← number_in w64 first.1
+  third ← number_in w64 second.1
+  all_read (first.0, second.0, third.0) third.1
+
+-- a server's state that names no process of the server
+unfoldable pub nameless_state_in : List ℕ → Result StoredState Fault
+nameless_state_in bytes = do
+  pair ← pair_in bytes
+  state_by (state_named pair.0) pair.1 0
+
+-- a server's state behind its version
+unfoldable pub named_state_in : List ℕ → Result StoredState Fault
+named_state_in bytes = do
+  triple ← triple_in bytes
+  state_by (state_named triple.0) triple.1 triple.2
 
 -- a server's state
 unfoldable pub state_in : List ℕ → Result StoredState Fault
-state_in bytes = do
-  pair ← pair_in bytes
-  state_by (state_named pair.0) pair.1
+state_in [] = Err Short
+state_in (byte ∷ rest) = if byte == 2 then named_state_in rest else nameless_state_in (byte ∷ rest)
 
 -- a request of a batch
 unfoldable pub item_in : List ℕ → Result (Item (List ℕ) × List ℕ) Fault

@@ -1,6 +1,6 @@
--- What lies at the store's keys, as bytes: a byte for the version, which is 1, and then each field, of a number the
--- highest byte first.
-use Rattle.std.specs.Prelude.{ℕ, ◌<◌, ◌^◌, List, ◌∷◌, ◌++◌, length, map}
+-- What lies at the store's keys, as bytes: a byte for the version, which is 1, and 2 of a server's state, and then each
+-- field, of a number the highest byte first.
+use Rattle.std.specs.Prelude.{ℕ, ◌≡◌, ◌⊎◌, ◌<◌, ◌^◌, List, ◌∷◌, ◌++◌, length, map}
 use Rattle.std.specs.Global.{Vec}
 use Rattle.std.specs.List.{flat_map, AllByRecursion}
 use Rattle.std.specs.Int.{w32, w64, to_be_bytes}
@@ -47,9 +47,22 @@ state_number Approved = 2
 state_number Stopped = 3
 state_number Failed = 4
 
--- a server's state, by its number
+-- three numbers
+abbrev pub triple_bytes : ℕ → ℕ → ℕ → List ℕ
+triple_bytes first second third = to_be_bytes w64 first ++ (to_be_bytes w64 second ++ to_be_bytes w64 third)
+
+-- a server's state, by its number, with the process whose command led to it and the process that it names
 abbrev pub state_bytes : StoredState → List ℕ
-state_bytes stored = pair_bytes (state_number stored.state) stored.process
+state_bytes stored = 2 ∷ triple_bytes (state_number stored.run.state) stored.process stored.run.process
+
+-- the same in version 1, which names no process of the server
+abbrev pub nameless_state_bytes : StoredState → List ℕ
+nameless_state_bytes stored = pair_bytes (state_number stored.run.state) stored.process
+
+-- the bytes spell the state, in one of the versions
+abbrev pub SpellsState : List ℕ → StoredState → Type 0
+SpellsState bytes stored =
+    (bytes ≡ state_bytes stored) ⊎ ((bytes ≡ nameless_state_bytes stored) × (stored.run.process ≡ 0))
 
 -- a number of bytes, and so many bytes
 abbrev pub string_bytes : List ℕ → List ℕ

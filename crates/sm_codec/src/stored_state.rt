@@ -1,8 +1,9 @@
-use sm_place::ServerState;
+use sm_store::server_run::ServerRun;
 
-/// What lies at a server's state: the state, and the process whose command led to it.
+/// What lies at a server's state: the state with the process of the server that it names, and the process whose command
+/// led to it.
 #[derive(Clone, Copy, PartialEq, Eq, Drop)]
 pub struct StoredState {
-    pub state: ServerState,
+    pub run: ServerRun,
     pub process: u64,
 }

@@ -43,9 +43,10 @@ IsServerAt at server director =
 abbrev pub BreaksRule : List ℕ → ℕ → Type 0
 BreaksRule line code = (fault : SettingsFault) × (settings_of line ≡ Err fault) × (code ≡ line_code fault)
 
--- the command of these parts was sent
-abbrev pub SendsParts : StepParts → Director → Director → Type 0
-SendsParts parts old new = (command : Command) × (command_parts command ≡ parts) × SendsCommand command old new
+-- the command of these parts was sent, where this process runs the server
+abbrev pub SendsParts : StepParts → ℕ → Director → Director → Type 0
+SendsParts parts process old new =
+    (command : Command) × (command_parts command ≡ parts) × SendsCommand process command old new
 
 -- the command of these parts is refused, for the fault of this code
 abbrev pub RefusesParts : StepParts → ℕ → Director → Type 0
@@ -60,12 +61,12 @@ IsRefusal fault code = (why : CommandFault) × (fault ≡ CommandRefused why) ×
 -- the bytes that a command writes to a shard's record, or to a server's state
 abbrev pub written_bytes : ℕ → CommandWrite → List ℕ
 written_bytes process (WritesRecord shard change next) = record_bytes (record { state = next; process = process })
-written_bytes process (WritesState server state) = state_bytes (record { state = state; process = process })
+written_bytes process (WritesState server run) = state_bytes (record { run = run; process = process })
 
 -- whose record or state it is
 abbrev pub IsWrittenTo : CommandWrite → CommandNumbers → Type 0
 IsWrittenTo (WritesRecord shard change next) numbers = (numbers.is_state ≡ false) × (numbers.number ≡ shard)
-IsWrittenTo (WritesState server state) numbers = (numbers.is_state ≡ true) × (numbers.number ≡ server)
+IsWrittenTo (WritesState server run) numbers = (numbers.is_state ≡ true) × (numbers.number ≡ server)
 
 -- the numbers and the bytes are those of what a command's transaction compares and writes
 pub record SpellsCommand (sending : CommandSending) (numbers : CommandNumbers) (written : List ℕ) : Type 0 where

@@ -3,7 +3,7 @@ use Rattle.std.specs.Prelude.{ℕ, ◌≡◌, ◌<◌, ◌++◌, ◌∷◌, [], 
 use Rattle.std.specs.Global.{Vec}
 use Rattle.sm_codec.specs.declared.stored_record.StoredRecord.{StoredRecord}
 use Rattle.sm_codec.specs.declared.stored_state.StoredState.{StoredState}
-use Rattle.sm_codec.specs.Spelling.{record_bytes, state_bytes}
+use Rattle.sm_codec.specs.Spelling.{SpellsState, record_bytes}
 use Rattle.sm_desk.specs.declared.command.Command.{Command}
 use Rattle.sm_desk.specs.declared.command.Command.TheVariants.{Change as ChangeOf}
 use Rattle.sm_desk.specs.declared.command.CommandFault.{CommandFault}
@@ -22,10 +22,10 @@ use Rattle.sm_lead.specs.Placements.{charter_of, rows_of}
 use Rattle.sm_lead.specs.Waits.{AreAcksMade, has_waited, is_prepared}
 use Rattle.sm_lead.specs.Sendings.{IsJudged, command_transaction, sending_of}
 use Rattle.sm_ownership.specs.declared.change.Change.TheVariants.{DropShard, PrepareDropShard}
-use Rattle.sm_place.specs.declared.server_state.ServerState.{ServerState}
 use Rattle.sm_place.specs.Books.{new_books}
 use Rattle.sm_settings.specs.SettingsLine.{settings_of, values_of}
 use Rattle.sm_store.specs.declared.item.Item.{Item}
+use Rattle.sm_store.specs.declared.server_run.ServerRun.{ServerRun}
 use Rattle.sm_store.specs.Deeds.{MaySend}
 use Rattle.sm_store.specs.Store.{Transaction}
 use Rattle.sm_director.specs.declared.director.Director.{Director}
@@ -42,7 +42,7 @@ pub record IsNewDirector (line : List ℕ) (process elected : ℕ) (director : D
   pub process_is : director.lead.process ≡ process
   pub elected_is : director.lead.elected ≡ elected
   pub records : director.records.items ≡ []
-  pub states : director.states.items ≡ []
+  pub runs : director.runs.items ≡ []
   pub followers : director.followers.items ≡ []
   pub acks : director.acks.items ≡ []
   pub stage : director.stage ≡ Unread
@@ -55,21 +55,21 @@ with_records director records =
       caps = director.caps;
       lead = director.lead;
       records = records;
-      states = director.states;
+      runs = director.runs;
       followers = director.followers;
       acks = director.acks;
       stage = director.stage;
     }
 
 -- the director with other states that were added
-abbrev pub with_states : Director → Vec ServerState → Director
-with_states director states =
+abbrev pub with_runs : Director → Vec ServerRun → Director
+with_runs director runs =
     record {
       settings = director.settings;
       caps = director.caps;
       lead = director.lead;
       records = director.records;
-      states = states;
+      runs = runs;
       followers = director.followers;
       acks = director.acks;
       stage = director.stage;
@@ -83,7 +83,7 @@ with_followers director followers =
       caps = director.caps;
       lead = director.lead;
       records = director.records;
-      states = director.states;
+      runs = director.runs;
       followers = followers;
       acks = director.acks;
       stage = director.stage;
@@ -97,7 +97,7 @@ with_acks director acks =
       caps = director.caps;
       lead = director.lead;
       records = director.records;
-      states = director.states;
+      runs = director.runs;
       followers = director.followers;
       acks = acks;
       stage = director.stage;
@@ -111,7 +111,7 @@ with_stage director stage =
       caps = director.caps;
       lead = director.lead;
       records = director.records;
-      states = director.states;
+      runs = director.runs;
       followers = director.followers;
       acks = director.acks;
       stage = stage;
@@ -123,7 +123,7 @@ pub record KeepsAll (old new : Director) : Type 0 where
   pub caps : new.caps ≡ old.caps
   pub lead : new.lead ≡ old.lead
   pub records : new.records.items ≡ old.records.items
-  pub states : new.states.items ≡ old.states.items
+  pub runs : new.runs.items ≡ old.runs.items
   pub followers : new.followers.items ≡ old.followers.items
   pub acks : new.acks.items ≡ old.acks.items
   pub stage : new.stage ≡ old.stage
@@ -138,8 +138,8 @@ AddsRecord bytes stood old new =
 -- the bytes spell the state that was added
 abbrev pub AddsState : List ℕ → Director → Director → Type 0
 AddsState bytes old new =
-    (stored : StoredState) × (states : Vec ServerState) × (bytes ≡ state_bytes stored)
-    × (states.items ≡ old.states.items ++ stored.state ∷ []) × (new ≡ with_states old states)
+    (stored : StoredState) × (runs : Vec ServerRun) × SpellsState bytes stored
+    × (runs.items ≡ old.runs.items ++ stored.run ∷ []) × (new ≡ with_runs old runs)
 
 -- the follower was added
 abbrev pub AddsFollower : ℕ → ℕ → Director → Director → Type 0
@@ -181,13 +181,13 @@ pub record LetsGo (old new : Director) : Type 0 where
   pub followers : new.followers ≡ old.followers
   pub acks : new.acks ≡ old.acks
   pub records : new.records.items ≡ []
-  pub states : new.states.items ≡ []
+  pub runs : new.runs.items ≡ []
 
 -- the control stands that is made of what was added
 abbrev pub LoadsControl : ℕ → Director → Director → Type 0
 LoadsControl placed old new =
     LetsGo old new × (control : StoreControl) × (new.stage ≡ Stands control)
-    × IsLoaded (desk_of_settings old) old.lead old.settings.ceiling old.records.items old.states.items placed control
+    × IsLoaded (desk_of_settings old) old.lead old.settings.ceiling old.records.items old.runs.items placed control
 
 -- nothing is read any more
 abbrev pub ForgetsAll : Director → Director → Type 0
@@ -212,11 +212,11 @@ abbrev pub IsPrepared : StoreControl → List AckRead → Command → Type 0
 IsPrepared control acks (ChangeOf k PrepareDropShard) = IsTrue (is_prepared control acks k)
 IsPrepared control acks command = Unit {0}
 
--- the control that stands doesn't refuse the command, and has sent it
-abbrev pub SendsCommand : Command → Director → Director → Type 0
-SendsCommand command old new =
+-- the control that stands doesn't refuse the command, and has sent it, where this process runs the server
+abbrev pub SendsCommand : ℕ → Command → Director → Director → Type 0
+SendsCommand process command old new =
     (control : StoreControl) × (sent : SentCommand) × (old.stage ≡ Stands control)
-    × IsJudged control command (JudgedSent sent) × IsFollowed control old.followers.items command
+    × IsJudged control process command (JudgedSent sent) × IsFollowed control old.followers.items command
     × IsPrepared control old.acks.items command × IsTrue (has_waited control old.acks.items command)
     × IsAllowedSend old.acks.items sent
     × (new ≡ with_stage old (Sent sent))
@@ -225,6 +225,11 @@ SendsCommand command old new =
 abbrev pub RefusesCommand : Command → CommandFault → Director → Type 0
 RefusesCommand command fault director =
     (control : StoreControl) × (director.stage ≡ Stands control) × (command_fault control command ≡ Some fault)
+
+-- the control refuses the command by this fault, where it is a command's
+abbrev pub RefusesWith : StoreControl → Command → DirectorFault → Type 0
+RefusesWith control command (CommandRefused why) = command_fault control command ≡ Some why
+RefusesWith control command fault = Unit {0}
 
 -- where the fault is a command's, it refuses the command for that
 abbrev pub RefusesFor : Command → Director → DirectorFault → Type 0

@@ -107,6 +107,9 @@ pub(crate) const NOT_FOLLOWED: u32 = 96;
 
 /// A server that the command waits for hasn't acked the shard's record.
 pub(crate) const NOT_ACKED: u32 = 97;
+
+/// The server's process is the one that was stopped, or none was seen.
+pub(crate) const EARLIER_PROCESS: u32 = 98;
 // End of them.
 
 /// The code of why a call on a director did nothing.
@@ -126,6 +129,7 @@ pub(crate) fn code_of(fault: DirectorFault) -> u32
         DirectorFault::UnderWay => UNDER_WAY,
         DirectorFault::NotFollowed => NOT_FOLLOWED,
         DirectorFault::NotAcked => NOT_ACKED,
+        DirectorFault::EarlierProcess => EARLIER_PROCESS,
         DirectorFault::NotSent => NOT_SENT,
         DirectorFault::TooShort => TOO_SHORT,
     }

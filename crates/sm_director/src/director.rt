@@ -1,7 +1,6 @@
 ghost use Rattle.std.specs.Prelude.{◌≡◌, ◌≢◌, ◌<◌, Err, IfErr, IfOk, IsTrue, OnErr, OnOk, None};
-ghost use Rattle.sm_lead.specs.Commands.{read_at};
+ghost use Rattle.sm_lead.specs.Commands.{read_at, run_at};
 ghost use Rattle.sm_lead.specs.NextSteps.{IsAllowed, fallen, server_step, shard_step};
-ghost use Rattle.sm_place.specs.Books.{state_of};
 ghost use Rattle.sm_settings.specs.SettingsLine.{settings_of};
 ghost use Rattle.sm_director.specs.declared.director_stage.DirectorStage.TheVariants.{Stands as StandsAs};
 ghost use Rattle.sm_director.specs.Calls.{SpellsSent};
@@ -9,8 +8,8 @@ ghost use Rattle.sm_lead.specs.Waits.{has_waited};
 ghost use Rattle.sm_director.specs.Directors.{AddsAck, AddsFollower, AddsRecord, AddsState, ForgetsAcks, ForgetsAll};
 ghost use Rattle.sm_director.specs.Directors.{ForgetsFollowers, IsPrepared};
 ghost use Rattle.sm_director.specs.Directors.{HasControl, IsFollowed, IsNewDirector, KeepsAll, LoadsControl};
-ghost use Rattle.sm_director.specs.Directors.{MakesCommand, RefusesFor, SendsCommand, desk_of_settings, drain_step};
-ghost use Rattle.sm_director.specs.Directors.{vacant_step};
+ghost use Rattle.sm_director.specs.Directors.{MakesCommand, RefusesWith, RefusesFor, SendsCommand, desk_of_settings};
+ghost use Rattle.sm_director.specs.Directors.{drain_step, vacant_step};
 
 use crate::command_numbers::CommandNumbers;
 use crate::director_fault::DirectorFault;
@@ -25,10 +24,11 @@ use sm_lead::{
 };
 use sm_ownership::change::Change;
 use sm_ownership::change_fault::ChangeFault;
-use sm_place::{Books, ServerState};
+use sm_place::Books;
 use sm_ranges::server_id::ServerId;
 use sm_ranges::shard_id::ShardId;
 use sm_settings::{Settings, SettingsFault};
+use sm_store::server_run::ServerRun;
 use sm_tasks::Tasks;
 use sm_tasks::laws::all_up_meets_caps;
 use std::alloc::Global;
@@ -42,7 +42,7 @@ pub struct Director {
     pub lead: Leadership,
     /// The records and states that were added, to be read.
     pub records: Vec<RecordRead>,
-    pub states: Vec<ServerState>,
+    pub runs: Vec<ServerRun>,
     pub followers: Vec<Follower>,
     pub acks: Vec<AckRead>,
     pub stage: DirectorStage,
@@ -63,7 +63,7 @@ impl Director {
                     caps,
                     lead,
                     records: Vec::new(alloc),
-                    states: Vec::new(alloc),
+                    runs: Vec::new(alloc),
                     followers: Vec::new(alloc),
                     acks: Vec::new(alloc),
                     stage: DirectorStage::Unread,
@@ -92,7 +92,7 @@ impl Director {
         ensures kept { OnErr result (KeepsAll self.old self.new) }
     {
         let stored = read_state(bytes)?;
-        self.states.push(stored.state)?;
+        self.runs.push(stored.run)?;
         Ok(())
     }
 
@@ -144,7 +144,7 @@ impl Director {
         ensures unread { OnErr result (ForgetsAll self.old self.new) }
     {
         let records = std::mem::replace(&mut self.records, Vec::new(alloc));
-        let states = std::mem::replace(&mut self.states, Vec::new(alloc));
+        let runs = std::mem::replace(&mut self.runs, Vec::new(alloc));
         self.stage = DirectorStage::Unread;
         let desk = self.desk(alloc)?;
         match StoreControl::read(
@@ -152,7 +152,7 @@ impl Director {
             self.lead,
             self.settings.ceiling,
             records,
-            &states,
+            runs,
             placed,
         ) {
             Ok(control) => {
@@ -187,13 +187,14 @@ impl Director {
         ensures { ForgetsAll self.old self.new }
     {
         self.records = Vec::new(alloc);
-        self.states = Vec::new(alloc);
+        self.runs = Vec::new(alloc);
         self.stage = DirectorStage::Unread;
     }
 
-    /// Judges the command: where the control that stands doesn't refuse it, it is to be sent.
-    pub fn command(&mut self, command: Command) -> Result<(), DirectorFault>
-        ensures sent { OnOk result (SendsCommand command self.old self.new) }
+    /// Judges the command, where this process runs the server that it names: it is to be sent if the control that
+    /// stands doesn't refuse it, and the process may be named.
+    pub fn command(&mut self, process: u64, command: Command) -> Result<(), DirectorFault>
+        ensures sent { OnOk result (SendsCommand process command self.old self.new) }
         ensures refused { IfErr result (RefusesFor command self.old) }
         ensures kept { OnErr result (self.new ≡ self.old) }
     {
@@ -207,9 +208,15 @@ impl Director {
                     self.stage = DirectorStage::Stands(control);
                     return Err(DirectorFault::NotAcked);
                 }
+                let is_named = control.may_name(process, &command);
+                if !is_named {
+                    let refused = unnamed(&control, process, &command);
+                    self.stage = DirectorStage::Stands(control);
+                    return Err(refused);
+                }
                 control.desk.soundness();
                 commands_may_be_sent::<Vec<u8>, Vec<u8>>();
-                match control.command(command) {
+                match control.command(process, command) {
                     Judged::Sent(sent) => {
                         self.stage = DirectorStage::Sent(sent);
                         Ok(())
@@ -338,16 +345,19 @@ impl Director {
         Ok(read_at(&control.records, k))
     }
 
-    /// The server's state.
-    pub fn state_of(&self, server: ServerId) -> Result<ServerState, DirectorFault>
-        ensures { IfOk result (λ state. HasControl (λ control. state ≡ state_of control.desk.books server) self.now) }
+    /// The server's state, and the process that it names.
+    pub fn run_of(&self, server: ServerId) -> Result<ServerRun, DirectorFault>
+        ensures { IfOk result (λ run. HasControl (λ control. run ≡ run_at control server) self.now) }
     {
         let control = self.standing()?;
         control.desk.soundness();
         if !control.desk.knows(server) {
             return Err(DirectorFault::Command(CommandFault::UnknownServer));
         }
-        Ok(control.desk.books().state(server))
+        Ok(ServerRun {
+            state: control.desk.books().state(server),
+            process: control.process_of(server),
+        })
     }
 }
 
@@ -388,6 +398,17 @@ fn has_waited(control: &StoreControl, acks: &[AckRead], command: &Command) -> bo
         | Command::Fail(_) => true,
     };
     is_prepared && control.has_waited(acks, command)
+}
+
+// Why the command isn't sent, of which the state may not be said of this process: the first fault for which it is
+// refused, or that the process began too early.
+fn unnamed(control: &StoreControl, process: u64, command: &Command) -> DirectorFault
+    ensures { RefusesWith control.now command.now result }
+{
+    match control.judge(process, command) {
+        Ok(_) => DirectorFault::EarlierProcess,
+        Err(fault) => DirectorFault::Command(fault),
+    }
 }
 
 fn unknown_shard() -> DirectorFault {

@@ -31,6 +31,9 @@ pub enum DirectorFault {
     /// A server that the command waits for hasn't acked the shard's record.
     #[error("a server that the command waits for hasn't acked the shard's record")]
     NotAcked,
+    /// The process that runs the server isn't later than the one that was stopped, or isn't known.
+    #[error("the server's process is the one that was stopped, or isn't known")]
+    EarlierProcess,
     /// No command was sent.
     #[error("no command was sent")]
     NotSent,

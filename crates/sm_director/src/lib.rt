@@ -6,9 +6,8 @@
 
 ghost use Rattle.std.specs.Prelude.{◌≡◌, ◌≢◌, ◌<◌, ◌≤◌, None, Some, length, unwrap_or};
 ghost use Rattle.sm_codec.specs.Spelling.{state_number};
-ghost use Rattle.sm_lead.specs.Commands.{read_at};
+ghost use Rattle.sm_lead.specs.Commands.{read_at, run_at};
 ghost use Rattle.sm_lead.specs.NextSteps.{fallen, server_step, shard_step};
-ghost use Rattle.sm_place.specs.Books.{state_of};
 ghost use Rattle.sm_ranges.specs.Ranges.{shard_of};
 ghost use Rattle.sm_word.specs.Word.{word_of};
 ghost use Rattle.sm_director.specs.Calls.{BreaksRule, DirectsOn, IsServerAt, KeepsDirector, RefusesParts, SendsParts};
@@ -176,16 +175,18 @@ pub extern "C" fn durkenzo_director_read(
     }
 }
 
-/// Judges the command of this kind, for the shard and the server that it names: 0 where it is to be sent, and nothing
-/// else until its outcome is told; or else the code of the first fault, and nothing has happened.
+/// Judges the command of this kind, for the shard and the server that it names. `process` runs the server; it is 0 if
+/// none was seen. Returns 0 if the command is to be sent, and nothing else until its outcome is told; or else the code
+/// of the first fault, and nothing has happened.
 #[unsafe(no_mangle)]
 pub extern "C" fn durkenzo_director_command(
     director: &mut DirectorHandle,
     kind: u8,
     shard: u16,
     server: u16,
+    process: u64,
 ) -> u32
-    ensures sent { result ≡ 0 → DirectsOn (SendsParts (record { shard = shard; server = server; kind = kind }))
+    ensures sent { result ≡ 0 → DirectsOn (SendsParts (record { shard = shard; server = server; kind = kind }) process)
         director.old.owned.state director.new.owned.state }
     ensures refused { 10 ≤ result → result < 50
         → KeepsDirector (RefusesParts (record { shard = shard; server = server; kind = kind }) result)
@@ -203,7 +204,7 @@ pub extern "C" fn durkenzo_director_command(
     if !director.full {
         return WRONG_HANDLE;
     }
-    match director.owned.state_mut().command(command) {
+    match director.owned.state_mut().command(process, command) {
         Ok(()) => 0,
         Err(fault) => code_of(fault),
     }
@@ -480,15 +481,17 @@ pub extern "C" fn durkenzo_director_record_of(
     }
 }
 
-/// Writes the number of the server's state.
+/// Writes the number of the server's state, and the process that it names, 0 for none.
 #[unsafe(no_mangle)]
 pub extern "C" fn durkenzo_director_state_of(
     director: &mut DirectorHandle,
     server: u16,
     state: &mut u8,
+    process: &mut u64,
 ) -> u32
     ensures told { result ≡ 0 → KeepsDirector (HasControl (λ control.
-        state.new ≡ state_number (state_of control.desk.books server))) director.old.owned.state }
+        (state.new ≡ state_number (run_at control server).state) × (process.new ≡ (run_at control server).process)))
+        director.old.owned.state }
     ensures unchanged { director.new.owned.state ≡ director.old.owned.state }
 {
     let Some(server) = ServerId::new(server) else {
@@ -497,9 +500,10 @@ pub extern "C" fn durkenzo_director_state_of(
     if !director.full {
         return WRONG_HANDLE;
     }
-    match director.owned.state_mut().state_of(server) {
+    match director.owned.state_mut().run_of(server) {
         Ok(found) => {
-            *state = state_number(found);
+            *state = state_number(found.state);
+            *process = found.process;
             0
         }
         Err(fault) => code_of(fault),

@@ -58,14 +58,8 @@ fn written_by(alloc: Global, process: u64, write: &CommandWrite) -> Result<Vec<u
             )?;
             Ok(bytes)
         }
-        CommandWrite::State { state, .. } => {
-            let bytes = write_state(
-                alloc,
-                &StoredState {
-                    state: *state,
-                    process,
-                },
-            )?;
+        CommandWrite::State { run, .. } => {
+            let bytes = write_state(alloc, &StoredState { run: *run, process })?;
             Ok(bytes)
         }
     }

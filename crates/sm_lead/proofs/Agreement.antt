@@ -1,12 +1,12 @@
 -- Books and the store agree: where each shard stands as its record says, and each server is in its state.
-use Rattle.std.proofs.Common.{◌≡◌, ◌≢◌, ℕ, ◌<◌, false, List, ◌∷◌, length, map, get_or}
+use Rattle.std.proofs.Common.{◌≡◌, ◌≢◌, ℕ, ◌<◌, false, List, ◌∷◌, length, map, get_or, set}
 use Rattle.std.proofs.Common.{refl, sym, ap, subst, ◌∙◌, inl, inr, ⊎_elim, arith, eqb}
 use Rattle.std.specs.Prelude.{◌==◌, unwrap_or, if◌then◌else◌}
 use Rattle.std.specs.List.{range_with_len}
 use Rattle.std.specs.List.Sorted.{IsStrictlyIncreasing}
 use Rattle.std.proofs.lemmas.Bool.{cases_eq, eq-eqb, ne_eqb, eqb-false, cond-true, cond-false}
 use Rattle.std.proofs.lemmas.Bool.Decides.{eqb_tells}
-use Rattle.std.proofs.lemmas.List.{get_or-map, length-map}
+use Rattle.std.proofs.lemmas.List.{get_or-map, get_or-set_other, get_or-set_same, length-map}
 use Rattle.std.proofs.lemmas.List.FromFn.{fill_by_all, get_or-map-range_with_len, length-map-range_with_len}
 use Rattle.std.proofs.lemmas.List.Kept.{AllPairs-from_increasing}
 use Rattle.std.proofs.lemmas.List.Sums.{position_or_len_is}
@@ -24,12 +24,15 @@ use Rattle.sm_place.specs.declared.shard.Shard.{Shard}
 use Rattle.sm_place.specs.Books.{BooksView, IsKnown, moved, no_server, no_shard, place_of, shard_at}
 use Rattle.sm_place.specs.Books.{with_stand, with_state}
 use Rattle.sm_place.specs.Sound.{AreSound}
-use Rattle.sm_place.specs.lemmas.Changed.{id-at_place, length-with_stand, shard_at-other, shard_at-same, state_of-set}
+use Rattle.sm_place.specs.lemmas.Changed.{id-at_place, length-with_stand, same_place, shard_at-other, shard_at-same}
+use Rattle.sm_place.specs.lemmas.Changed.{state_of-set}
 use Rattle.sm_desk.specs.declared.command.Command.{Command}
 use Rattle.sm_desk.specs.declared.command.Command.TheVariants.{Change, Ask, Approve, Stopped, Back, Fail}
 use Rattle.sm_desk.specs.Desk.{books_changed, books_commanded}
-use Rattle.sm_store.specs.Store.{Placement, Transaction, placement_of, stored_record, stored_state}
+use Rattle.sm_store.specs.declared.server_run.ServerRun.{ServerRun}
+use Rattle.sm_store.specs.Store.{Placement, Transaction, placement_of, stored_process, stored_record, stored_run}
 use Rattle.sm_store.specs.Deeds.{Changing, Restarting, transaction_of}
+use Rattle.sm_lead.specs.Commands.{unentered}
 use Rattle.sm_lead.specs.Placements.{Agrees, SettingsRows, books_in, rows_of}
 
 -- of rising numbers each is below the later ones
@@ -152,8 +155,8 @@ module _ {Q P : Type 0} where
   changed_log process k change next elected placed past =
       transaction_of (Changing process k change next elected placed) ∷ past
 
-  abbrev pub entered_log : ℕ → ℕ → ServerState → ℕ → ℕ → List (Transaction Q P) → List (Transaction Q P)
-  entered_log process a state elected placed past = transaction_of (Restarting process a state elected placed) ∷ past
+  abbrev pub entered_log : ℕ → ℕ → ServerRun → ℕ → ℕ → List (Transaction Q P) → List (Transaction Q P)
+  entered_log process a run elected placed past = transaction_of (Restarting process a run elected placed) ∷ past
 
   pub agrees_changed : (books : BooksView) (past : List (Transaction Q P)) (process k : ℕ) (change : AnyChange)
       (next : Record) (elected placed : ℕ) → k < length books.shards
@@ -182,18 +185,42 @@ module _ {Q P : Type 0} where
         states = λ a known. agrees.states a known;
       }
 
-  pub agrees_entered : (books : BooksView) (past : List (Transaction Q P)) (process a : ℕ) (state : ServerState)
+  pub agrees_entered : (books : BooksView) (past : List (Transaction Q P)) (process a : ℕ) (run : ServerRun)
       (elected placed : ℕ) → length books.states ≡ length books.servers → IsKnown books.servers a
       → Agrees books (placement_of past)
-      → Agrees (with_state books a state) (placement_of (entered_log process a state elected placed past))
-  agrees_entered books past process a state elected placed long within agrees = record {
+      → Agrees (with_state books a run.state) (placement_of (entered_log process a run elected placed past))
+  agrees_entered books past process a run elected placed long within agrees = record {
     stands = λ j below. agrees.stands j below;
     states = λ b known.
-        elim (state_of-set books a b state long within) [
-          | inl p ↦ p.1 ∙ sym (cond-true (a == b) state (stored_state b past) (eq-eqb a b (sym p.0)))
+        elim (state_of-set books a b run.state long within) [
+          | inl p ↦ p.1 ∙ ap (λ (r : ServerRun). r.state)
+              (sym (cond-true (a == b) run (stored_run b past) (eq-eqb a b (sym p.0))))
           | inr p ↦
               p.1 ∙ agrees.states b known
-              ∙ sym (cond-false (a == b) state (stored_state b past)
-              (ne_eqb a b (λ same. eqb-false b a p.0 (sym same))))
+              ∙ ap (λ (r : ServerRun). r.state) (sym (cond-false (a == b) run (stored_run b past)
+              (ne_eqb a b (λ same. eqb-false b a p.0 (sym same)))))
         ];
   }
+
+  -- what is read of the processes that the states of servers name, once the state of server a was written
+  pub processes_entered : (runs : List ServerRun) (servers : List ServerRow) (past : List (Transaction Q P))
+      (process a : ℕ) (run : ServerRun) (elected placed : ℕ) → length runs ≡ length servers → IsKnown servers a
+      → (b : ℕ) → (get_or runs (place_of servers b) unentered).process ≡ stored_process b past
+      → (get_or (set runs (place_of servers a) run) (place_of servers b) unentered).process
+      ≡ stored_process b (entered_log process a run elected placed past)
+  processes_entered runs servers past process a run elected placed long within b was =
+      let inside : place_of servers a < length runs = rw long within in
+      ⊎_elim
+      (λ (same : b ≡ a).
+      ap (λ (i : ℕ). (get_or (set runs (place_of servers a) run) (place_of servers i) unentered).process) same
+      ∙ ap (λ (r : ServerRun). r.process) (get_or-set_same runs (place_of servers a) run unentered inside)
+      ∙ ap (λ (r : ServerRun). r.process)
+      (sym (cond-true (a == b) run (stored_run b past) (eq-eqb a b (sym same)))))
+      (λ (apart : b ≢ a).
+      ap (λ (r : ServerRun). r.process)
+      (get_or-set_other runs (place_of servers a) (place_of servers b) run unentered
+      (λ same. apart (same_place servers a b within same)))
+      ∙ was
+      ∙ ap (λ (r : ServerRun). r.process)
+      (sym (cond-false (a == b) run (stored_run b past) (ne_eqb a b (λ same. apart (sym same))))))
+      (cases_eq b a)

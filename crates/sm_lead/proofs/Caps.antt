@@ -84,13 +84,14 @@ module _ (rows : SettingsRows) (caps : RestartCaps)
         (agrees_changed (books_in rows (placement_of log)) log process k change next elected placed
         (let_through (books_in rows (placement_of log)) k change none).within right.changed.is
         (agrees_in rows (placement_of log)))
-    deed_step log (Restarting process a state elected placed) right keeps =
+    deed_step log (Restarting process a run elected placed) right keeps =
         let none = is_none_so _ right.allowed in
         let books = books_in rows (placement_of log) in
-        let after = placement_of (transaction_of {Q = Q} {P = P} (Restarting process a state elected placed) ∷ log) in
-        step (placement_of log) after (step_to state a) keeps none
-        (subst (λ (b : BooksView). Agrees b after) (sym (stated books a state))
-        (agrees_entered books log process a state elected placed keeps.0.states (stated_known books caps a state none)
+        let after = placement_of (transaction_of {Q = Q} {P = P} (Restarting process a run elected placed) ∷ log) in
+        step (placement_of log) after (step_to run.state a) keeps none
+        (subst (λ (b : BooksView). Agrees b after) (sym (stated books a run.state))
+        (agrees_entered books log process a run elected placed keeps.0.states
+        (stated_known books caps a run.state none)
         (agrees_in rows (placement_of log))))
     deed_step log (Settling settings) right keeps = keeps
     deed_step log (Executing shard server items head stood logged) right keeps = keeps
@@ -101,7 +102,7 @@ module _ (rows : SettingsRows) (caps : RestartCaps)
     deed_step log (Checking compares) right keeps = keeps
     deed_step log Foreign right keeps = keeps
 
-    pub keeps_all : Keeps (record { records = λ shard. vacant; states = λ server. states.Up })
+    pub keeps_all : Keeps (record { records = λ shard. vacant; states = λ server. states.Up; processes = λ server. 0 })
         → (log : List (Transaction Q P))
         → AreRight (charter_of rows caps ceiling parts) log → Keeps (placement_of log)
     keeps_all first [] right = first
@@ -111,7 +112,7 @@ module _ (rows : SettingsRows) (caps : RestartCaps)
 
 -- nothing was written
 abbrev pub unplaced : Placement
-unplaced = record { records = λ shard. vacant; states = λ server. states.Up }
+unplaced = record { records = λ shard. vacant; states = λ server. states.Up; processes = λ server. 0 }
 
 -- new books are those of an empty store
 pub new_is : (servers : List ServerRow) (groups : List GroupRow) (shards : List ShardRow) (domains : List DomainRow)

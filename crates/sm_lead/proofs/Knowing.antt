@@ -1,5 +1,5 @@
 -- What a control knows of the store: once it has read, and once its command was made; and which commands it may send.
-use Rattle.std.proofs.Common.{◌≡◌, ◌≢◌, ℕ, ◌+◌, ◌<◌, Bool, true, false, List, [], ◌∷◌, ◌++◌, length, get_or, set}
+use Rattle.std.proofs.Common.{◌≡◌, ◌≢◌, ℕ, ◌<◌, Bool, true, false, List, [], ◌∷◌, ◌++◌, length, get_or, set}
 use Rattle.std.proofs.Common.{Option, Some, None, refl, sym, ap, subst, ◌∙◌, inl, ⊎_elim, arith}
 use Rattle.std.specs.Prelude.{IsTrue, IfSome, find, is_none, unwrap_or, ◌≤◌, ◌==◌, ◌&&◌, ◌↔◌, if◌then◌else◌}
 use Rattle.std.specs.Option.{option_map, option_or}
@@ -13,6 +13,7 @@ use Rattle.sm_ownership.specs.History.{after_change, change_fits}
 use Rattle.sm_ownership.specs.Rules.{phase_fault}
 use Rattle.sm_ownership.specs.Tables.{record_fault}
 use Rattle.sm_place.specs.declared.server_state.ServerState.{ServerState}
+use Rattle.sm_rows.specs.declared.server_row.ServerRow.{ServerRow}
 use Rattle.sm_place.specs.declared.server_state.ServerState.TheVariants as states
 use Rattle.sm_place.specs.Books.{BooksView, IsKnown, no_server, place_of, state_of, with_state}
 use Rattle.sm_place.specs.ServerState.{is_failed}
@@ -26,10 +27,11 @@ use Rattle.sm_desk.specs.Desk.{DeskView, desk_fault, is_known}
 use Rattle.sm_desk.specs.lemmas.Changes.{let_through}
 use Rattle.sm_store.specs.declared.compare.Compare.{Compare}
 use Rattle.sm_store.specs.declared.item.Item.{Item}
+use Rattle.sm_store.specs.declared.server_run.ServerRun.{ServerRun}
 use Rattle.sm_store.specs.Store.{Placement, Transaction, all_hold, leader_key, placement_key, placement_of, record_key}
-use Rattle.sm_store.specs.Store.{IsRising, revision_of, stored_record, stored_state}
+use Rattle.sm_store.specs.Store.{IsRising, revision_of, stored_record, stored_run}
 use Rattle.sm_store.specs.Deeds.{AreRight, Changing, Charter, Deed, HasLed, IsChanged, MaySend, Restarting}
-use Rattle.sm_store.specs.Deeds.{WasFound, absence_compares, at, done_at, transaction_of}
+use Rattle.sm_store.specs.Deeds.{WasFound, absence_compares, at, done_at, is_next_run, read_run, transaction_of}
 use Rattle.sm_store.specs.Store.{acked_of}
 use Rattle.sm_store.specs.Waits.{HasLetGo, gives_up, has_let_go}
 use Rattle.sm_store.specs.lemmas.Acks.{let_go_as_read}
@@ -40,12 +42,13 @@ use Rattle.sm_lead.specs.declared.ack_read.AckRead.{AckRead}
 use Rattle.sm_lead.specs.declared.leadership.Leadership.{Leadership}
 use Rattle.sm_lead.specs.declared.record_read.RecordRead.{RecordRead}
 use Rattle.sm_lead.specs.declared.store_control.StoreControl.{StoreControl}
-use Rattle.sm_lead.specs.Commands.{IsAfter, command_fault, read_at, unwritten, write_of}
+use Rattle.sm_lead.specs.Commands.{IsAfter, command_fault, may_name, process_at, read_at, run_at, run_into, unentered}
+use Rattle.sm_lead.specs.Commands.{unwritten, write_of}
 use Rattle.sm_lead.specs.Controls.{CommandWasMade, IsLoaded, IsReadOf, KnowsStore}
 use Rattle.sm_lead.specs.Placements.{Agrees, charter_of, desk_in, rows_of}
 use Rattle.sm_lead.specs.Sendings.{command_transaction, sending_of}
 use Rattle.sm_lead.specs.Waits.{AreAcksMade, acked_in, has_waited, lets_go, holds_of_named}
-use Rattle.sm_lead.proofs.Agreement.{agrees_changed, agrees_entered, same_books}
+use Rattle.sm_lead.proofs.Agreement.{agrees_changed, agrees_entered, processes_entered, same_books}
 
 pub none_both : {A : Type 0} (a b : Option A) → option_or a b ≡ None → (a ≡ None) × (b ≡ None)
 none_both None b is = (refl, is)
@@ -72,14 +75,21 @@ known_of books a fault none =
 
 module _ {Q P : Type 0} where
   pub reading_known : (log : List (Transaction Q P)) (desk : DeskView) (lead : Leadership) (ceiling : ℕ)
-      (reads : List RecordRead) (entered : List ServerState) (placed : ℕ) (control : StoreControl)
-      → AreSound control.desk.books → IsLoaded desk lead ceiling reads entered placed control
-      → IsReadOf log desk lead reads entered placed → KnowsStore log control
-  reading_known log desk lead ceiling reads entered placed control sound loaded read =
+      (reads : List RecordRead) (runs : List ServerRun) (placed : ℕ) (control : StoreControl)
+      → AreSound control.desk.books → IsLoaded desk lead ceiling reads runs placed control
+      → IsReadOf log desk lead reads runs placed → KnowsStore log control
+  reading_known log desk lead ceiling reads runs placed control sound loaded read =
       let books = control.desk.books in
       let count = loaded.stands.count in
       let long = sound.states in
       let servers : books.servers ≡ desk.books.servers = ap (λ rows. rows.servers) loaded.rows.rows in
+      let many = loaded.states_are.count in
+      let own : (a : ℕ) → IsKnown books.servers a
+      → get_or runs (place_of books.servers a) unentered ≡ stored_run a read.past = λ a known.
+      let place = place_of books.servers a in
+      read.runs_were place (omega arith)
+      ∙ ap (λ (id : ℕ). stored_run id read.past)
+      (ap (λ rows. (get_or rows place no_server).id) (sym servers) ∙ id-at_place books.servers a known) in
       record {
         led = subst (λ (l : Leadership). HasLed log l.process l.elected) (sym loaded.lead_is) read.led;
         read = placement_of read.past;
@@ -94,12 +104,8 @@ module _ {Q P : Type 0} where
           stands = λ k below. loaded.stands.stands k (omega arith)
               ∙ ap (λ (r : Record). r.stand) (read.records k (omega arith));
           states = λ a known.
-              let place = place_of books.servers a in
-              let many = loaded.states_are.count in
-              loaded.states_are.each place (omega arith)
-              ∙ read.states_were place (omega arith)
-              ∙ ap (λ (id : ℕ). stored_state id read.past)
-              (ap (λ rows. (get_or rows place no_server).id) (sym servers) ∙ id-at_place books.servers a known);
+              loaded.states_are.each (place_of books.servers a) (omega arith)
+              ∙ ap (λ (run : ServerRun). run.state) (own a known);
         };
         records = λ k below.
             ap (λ (rs : List RecordRead). (read_at rs k).state) loaded.reads_are ∙ read.records k (omega arith);
@@ -114,6 +120,10 @@ module _ {Q P : Type 0} where
               was = sym (read.records k (omega arith));
             });
         count = ap length loaded.reads_are ∙ count;
+        processes = λ a known.
+            ap (λ (all : List ServerRun). (get_or all (place_of books.servers a) unentered).process) loaded.runs_are
+            ∙ ap (λ (run : ServerRun). run.process) (own a known);
+        run_count = ap length loaded.runs_are ∙ many ∙ long;
       }
 
 module _ {Q P : Type 0} (parts : List (Item Q) → List P) (log : List (Transaction Q P)) (control : StoreControl)
@@ -129,19 +139,28 @@ module _ {Q P : Type 0} (parts : List (Item Q) → List P) (log : List (Transact
   allowed command none =
       subst (λ (desk : DeskView). is_none (desk_fault desk command) ≡ true) same_desk (none_is _ none)
 
-  restart_may : (a : ℕ) (state : ServerState)
+  -- how the server runs, by what the control holds and by what it read
+  run_is : (a : ℕ) → IsKnown control.desk.books.servers a → run_at control a ≡ read_run knows.read a
+  run_is a known =
+      ap (λ (state : ServerState). record { state = state; process = process_at control a })
+      (knows.agrees.states a known)
+      ∙ ap (λ (process : ℕ). record { state = knows.read.states a; process = process }) (knows.processes a known)
+
+  restart_may : (a : ℕ) (run : ServerRun) → IsKnown control.desk.books.servers a
       → is_none (desk_fault (desk_in (rows_of control.desk.books) control.desk.caps knows.read)
-      (Rattle.sm_lead.specs.Placements.step_to state a)) ≡ true
+      (Rattle.sm_lead.specs.Placements.step_to run.state a)) ≡ true
+      → is_next_run (run_at control a) run ≡ true
       → MaySend (charter_of (rows_of control.desk.books) control.desk.caps control.ceiling parts) log
-      (command_transaction (sending_of control (WritesState a state)))
-  restart_may a state allows = record {
-    deed = Restarting control.lead.process a state control.lead.elected control.placed;
+      (command_transaction (sending_of control (WritesState a run)))
+  restart_may a run known allows next = record {
+    deed = Restarting control.lead.process a run control.lead.elected control.placed;
     is = refl;
     may = record {
       led = knows.led;
       read = knows.read;
       placement_was = knows.placement_was;
       allowed = allows;
+      next = subst (λ (before : ServerRun). is_next_run before run ≡ true) (run_is a known) next;
     };
   }
 
@@ -198,11 +217,12 @@ module _ {Q P : Type 0} (parts : List (Item Q) → List P) (log : List (Transact
   pub may_be_sent : ((ceiling : ℕ) (state : Record) (change : AnyChange)
       → IsTrue (change_fits ceiling state 0 change)
       ↔ ((phase_fault state.stand change ≡ None) × (record_fault ceiling state ≡ None)))
-      → (acks : List AckRead) → AreAcksMade log acks → (command : Command) → command_fault control command ≡ None
-      → has_waited control acks command ≡ true
+      → (acks : List AckRead) → AreAcksMade log acks → (process : ℕ) (command : Command)
+      → command_fault control command ≡ None → has_waited control acks command ≡ true
+      → may_name control (write_of control process command) ≡ true
       → MaySend (charter_of (rows_of control.desk.books) control.desk.caps control.ceiling parts) log
-      (command_transaction (sending_of control (write_of control command)))
-  may_be_sent exactly acks were_made (Change k change) none waits =
+      (command_transaction (sending_of control (write_of control process command)))
+  may_be_sent exactly acks were_made process (Change k change) none waits named =
       let both = none_both _ _ none in
       let state = (read_at control.records.items k).state in
       let within = (let_through control.desk.books k change both.0).within in
@@ -225,16 +245,26 @@ module _ {Q P : Type 0} (parts : List (Item Q) → List P) (log : List (Transact
               (all_let_go acks were_made k within (gives_up state.stand change) waits);
         };
       }
-  may_be_sent exactly acks were_made (Ask a) none waits =
-      restart_may a states.Asked (allowed (Ask a) (none_both _ _ none).0)
-  may_be_sent exactly acks were_made (Approve a) none waits =
-      restart_may a states.Approved (allowed (Approve a) (none_both _ _ none).0)
-  may_be_sent exactly acks were_made (Stopped a) none waits =
-      restart_may a states.Stopped (allowed (Stopped a) (none_both _ _ none).0)
-  may_be_sent exactly acks were_made (Back a) none waits =
-      restart_may a states.Up (allowed (Back a) (none_both _ _ none).0)
-  may_be_sent exactly acks were_made (Fail a) none waits =
-      restart_may a states.Failed (allowed (Fail a) (none_both _ _ none).0)
+  may_be_sent exactly acks were_made process (Ask a) none waits named =
+      restart_may a (run_into control process a states.Asked)
+      (known_of control.desk.books a _ (none_both _ _ none).0)
+      (allowed (Ask a) (none_both _ _ none).0) named
+  may_be_sent exactly acks were_made process (Approve a) none waits named =
+      restart_may a (run_into control process a states.Approved)
+      (known_of control.desk.books a _ (none_both _ _ none).0)
+      (allowed (Approve a) (none_both _ _ none).0) named
+  may_be_sent exactly acks were_made process (Stopped a) none waits named =
+      restart_may a (run_into control process a states.Stopped)
+      (known_of control.desk.books a _ (none_both _ _ none).0)
+      (allowed (Stopped a) (none_both _ _ none).0) named
+  may_be_sent exactly acks were_made process (Back a) none waits named =
+      restart_may a (run_into control process a states.Up)
+      (known_of control.desk.books a _ (none_both _ _ none).0)
+      (allowed (Back a) (none_both _ _ none).0) named
+  may_be_sent exactly acks were_made process (Fail a) none waits named =
+      restart_may a (run_into control process a states.Failed)
+      (known_of control.desk.books a _ (none_both _ _ none).0)
+      (allowed (Fail a) (none_both _ _ none).0) named
 
 module _ {Q P : Type 0} where
   -- the records and states that were read stood when the command was made
@@ -259,19 +289,20 @@ module _ {Q P : Type 0} where
       (first_held log placement_key placed rest
       (first_held log leader_key elected (at placement_key placed ∷ rest) held).1).0
 
-  entered_known : (log : List (Transaction Q P)) (control new : StoreControl) (command : Command) (a : ℕ)
-      (state : ServerState) (revision : ℕ)
+  entered_known : (log : List (Transaction Q P)) (control new : StoreControl) (a : ℕ) (run : ServerRun)
+      (revision : ℕ)
       → IsRising log → AllByRecursion IsOfDeed log → AreSound control.desk.books → KnowsStore log control
       → IsKnown control.desk.books.servers a
       → CommandWasMade log
-      (transaction_of (Restarting control.lead.process a state control.lead.elected control.placed))
+      (transaction_of (Restarting control.lead.process a run control.lead.elected control.placed))
       revision
-      → new.desk.books ≡ with_state control.desk.books a state → new.records.items ≡ control.records.items
+      → new.desk.books ≡ with_state control.desk.books a run.state → new.records.items ≡ control.records.items
+      → new.runs.items ≡ set control.runs.items (place_of control.desk.books.servers a) run
       → new.lead ≡ control.lead → new.placed ≡ revision → KnowsStore log new
-  entered_known log control new command a state revision rising deeds sound knows known made books reads lead placed =
+  entered_known log control new a run revision rising deeds sound knows known made books reads runs lead placed =
       let past = made.past in
-      let deed : Deed Q P = Restarting control.lead.process a state control.lead.elected control.placed in
-      let rest = absence_compares a state in
+      let deed : Deed Q P = Restarting control.lead.process a run control.lead.elected control.placed in
+      let rest = absence_compares a run.state in
       let now = placed_held past control.lead.elected control.placed rest made.held in
       let was = stood_then log control rising deeds knows made.later past (done_at revision deed) made.is now in
       let before : Agrees control.desk.books (placement_of past) = subst (Agrees control.desk.books) (sym was)
@@ -287,7 +318,7 @@ module _ {Q P : Type 0} where
           was = refl;
         };
         agrees = subst (λ (b : BooksView). Agrees b (placement_of (done_at revision deed ∷ past))) (sym books)
-            (agrees_entered control.desk.books past control.lead.process a state control.lead.elected control.placed
+            (agrees_entered control.desk.books past control.lead.process a run control.lead.elected control.placed
             sound.states known before);
         records = λ k below.
             ap (λ (rs : List RecordRead). (read_at rs k).state) reads
@@ -298,14 +329,27 @@ module _ {Q P : Type 0} where
             (read_at rs k).stood) (sym reads)
             (knows.stood k (subst (λ (b : BooksView). k < length b.shards) books below));
         count = ap length reads ∙ knows.count ∙ ap (λ (b : BooksView). length b.shards) (sym books);
+        processes = λ b there.
+            let servers : new.desk.books.servers ≡ control.desk.books.servers =
+            ap (λ (all : BooksView). all.servers) books in
+            let known_b : IsKnown control.desk.books.servers b =
+            subst (λ (rows : List ServerRow). IsKnown rows b) servers there in
+            ap (λ (rows : List ServerRow). (get_or new.runs.items (place_of rows b) unentered).process) servers
+            ∙ ap (λ (all : List ServerRun). (get_or all (place_of control.desk.books.servers b) unentered).process) runs
+            ∙ processes_entered control.runs.items control.desk.books.servers past control.lead.process a run
+            control.lead.elected control.placed knows.run_count known b
+            (knows.processes b known_b ∙ ap (λ (p : Placement). p.processes b) (sym was));
+        run_count = ap length runs ∙ length-set control.runs.items (place_of control.desk.books.servers a) run
+            ∙ knows.run_count ∙ ap (λ (b : BooksView). length b.servers) (sym books);
       }
 
-  changed_known : (log : List (Transaction Q P)) (control new : StoreControl) (k : ℕ) (change : AnyChange)
+  changed_known : (log : List (Transaction Q P)) (control new : StoreControl) (process k : ℕ) (change : AnyChange)
       (revision : ℕ) → IsRising log → AllByRecursion IsOfDeed log → KnowsStore log control
       → k < length control.desk.books.shards
-      → CommandWasMade log (command_transaction (sending_of control (write_of control (Change k change)))) revision
-      → IsAfter control (Change k change) (write_of control (Change k change)) revision new → KnowsStore log new
-  changed_known log control new k change revision rising deeds knows within made after =
+      → CommandWasMade log (command_transaction (sending_of control (write_of control process (Change k change))))
+      revision
+      → IsAfter control (Change k change) (write_of control process (Change k change)) revision new → KnowsStore log new
+  changed_known log control new process k change revision rising deeds knows within made after =
       let past = made.past in
       let reads = control.records.items in
       let state = (read_at reads k).state in
@@ -369,39 +413,49 @@ module _ {Q P : Type 0} where
             (knows.stood j (omega arith)))
             (cases_eq j k));
         count = ap length after.records ∙ length-set reads k one ∙ count ∙ sym many;
+        processes = λ a there.
+            let servers : new.desk.books.servers ≡ control.desk.books.servers =
+            ap (λ (all : BooksView). all.servers) books in
+            ap (λ (rows : List ServerRow). (get_or new.runs.items (place_of rows a) unentered).process) servers
+            ∙ ap (λ (all : List ServerRun). (get_or all (place_of control.desk.books.servers a) unentered).process)
+            after.runs
+            ∙ knows.processes a (subst (λ (rows : List ServerRow). IsKnown rows a) servers there)
+            ∙ ap (λ (p : Placement). p.processes a) (sym was);
+        run_count = ap length after.runs ∙ knows.run_count ∙ ap (λ (b : BooksView). length b.servers) (sym books);
       }
 
   pub outcome_known : (charter : Charter Q P) (log : List (Transaction Q P)) (control new : StoreControl)
-      (command : Command) (revision : ℕ) → AreRight charter log → AreSound control.desk.books → KnowsStore log control
+      (process : ℕ) (command : Command) (revision : ℕ) → AreRight charter log → AreSound control.desk.books
+      → KnowsStore log control
       → command_fault control command ≡ None
-      → CommandWasMade log (command_transaction (sending_of control (write_of control command))) revision
-      → IsAfter control command (write_of control command) revision new → KnowsStore log new
-  outcome_known charter log control new (Change k change) revision right sound knows none made after =
-      changed_known log control new k change revision (rising_of_right charter log right)
+      → CommandWasMade log (command_transaction (sending_of control (write_of control process command))) revision
+      → IsAfter control command (write_of control process command) revision new → KnowsStore log new
+  outcome_known charter log control new process (Change k change) revision right sound knows none made after =
+      changed_known log control new process k change revision (rising_of_right charter log right)
       (deeds_of_right charter log right) knows
       (let_through control.desk.books k change (none_both _ _ none).0).within made after
-  outcome_known charter log control new (Ask a) revision right sound knows none made after =
-      entered_known log control new (Ask a) a states.Asked revision (rising_of_right charter log right)
-      (deeds_of_right charter log right) sound knows
+  outcome_known charter log control new process (Ask a) revision right sound knows none made after =
+      entered_known log control new a (run_into control process a states.Asked) revision
+      (rising_of_right charter log right) (deeds_of_right charter log right) sound knows
       (known_of control.desk.books a _ (none_both _ _ none).0) made (ap (λ (d : DeskView). d.books) after.desk)
-      after.records after.lead after.placed
-  outcome_known charter log control new (Approve a) revision right sound knows none made after =
-      entered_known log control new (Approve a) a states.Approved revision (rising_of_right charter log right)
-      (deeds_of_right charter log right) sound knows
+      after.records after.runs after.lead after.placed
+  outcome_known charter log control new process (Approve a) revision right sound knows none made after =
+      entered_known log control new a (run_into control process a states.Approved) revision
+      (rising_of_right charter log right) (deeds_of_right charter log right) sound knows
       (known_of control.desk.books a _ (none_both _ _ none).0) made (ap (λ (d : DeskView). d.books) after.desk)
-      after.records after.lead after.placed
-  outcome_known charter log control new (Stopped a) revision right sound knows none made after =
-      entered_known log control new (Stopped a) a states.Stopped revision (rising_of_right charter log right)
-      (deeds_of_right charter log right) sound knows
+      after.records after.runs after.lead after.placed
+  outcome_known charter log control new process (Stopped a) revision right sound knows none made after =
+      entered_known log control new a (run_into control process a states.Stopped) revision
+      (rising_of_right charter log right) (deeds_of_right charter log right) sound knows
       (known_of control.desk.books a _ (none_both _ _ none).0) made (ap (λ (d : DeskView). d.books) after.desk)
-      after.records after.lead after.placed
-  outcome_known charter log control new (Back a) revision right sound knows none made after =
-      entered_known log control new (Back a) a states.Up revision (rising_of_right charter log right)
-      (deeds_of_right charter log right) sound knows
+      after.records after.runs after.lead after.placed
+  outcome_known charter log control new process (Back a) revision right sound knows none made after =
+      entered_known log control new a (run_into control process a states.Up) revision
+      (rising_of_right charter log right) (deeds_of_right charter log right) sound knows
       (known_of control.desk.books a _ (none_both _ _ none).0) made (ap (λ (d : DeskView). d.books) after.desk)
-      after.records after.lead after.placed
-  outcome_known charter log control new (Fail a) revision right sound knows none made after =
-      entered_known log control new (Fail a) a states.Failed revision (rising_of_right charter log right)
-      (deeds_of_right charter log right) sound knows
+      after.records after.runs after.lead after.placed
+  outcome_known charter log control new process (Fail a) revision right sound knows none made after =
+      entered_known log control new a (run_into control process a states.Failed) revision
+      (rising_of_right charter log right) (deeds_of_right charter log right) sound knows
       (known_of control.desk.books a _ (none_both _ _ none).0) made (ap (λ (d : DeskView). d.books) after.desk)
-      after.records after.lead after.placed
+      after.records after.runs after.lead after.placed

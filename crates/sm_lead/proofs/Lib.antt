@@ -2,4 +2,5 @@ mod Agreement
 mod Caps
 mod Compared
 mod Knowing
+mod Places
 mod Replays

@@ -1,17 +1,18 @@
 -- What a control knows of the store, and what it may conclude.
-use Rattle.std.specs.Prelude.{ℕ, ◌≡◌, ◌<◌, ◌+◌, IsTrue, List, ◌∷◌, ◌++◌, length, slice_index_or}
+use Rattle.std.specs.Prelude.{ℕ, ◌≡◌, ◌<◌, IsTrue, List, ◌∷◌, ◌++◌, length, slice_index_or}
 use Rattle.sm_place.specs.declared.server_state.ServerState.{ServerState}
 use Rattle.sm_place.specs.declared.server_state.ServerState.TheVariants.{Up}
 use Rattle.sm_place.specs.declared.shard.Shard.{Shard}
-use Rattle.sm_place.specs.Books.{no_server, shard_at}
+use Rattle.sm_place.specs.Books.{IsKnown, no_server, shard_at}
 use Rattle.sm_desk.specs.Desk.{DeskView}
 use Rattle.sm_store.specs.Store.{Placement, Transaction, all_hold, made_at, placement_key, placement_of}
-use Rattle.sm_store.specs.Store.{record_key, revision_of, stored_record, stored_state}
+use Rattle.sm_store.specs.Store.{record_key, revision_of, stored_record, stored_run}
 use Rattle.sm_store.specs.Deeds.{HasLed, WasFound}
+use Rattle.sm_store.specs.declared.server_run.ServerRun.{ServerRun}
 use Rattle.sm_lead.specs.declared.leadership.Leadership.{Leadership}
 use Rattle.sm_lead.specs.declared.record_read.RecordRead.{RecordRead}
 use Rattle.sm_lead.specs.declared.store_control.StoreControl.{StoreControl}
-use Rattle.sm_lead.specs.Commands.{read_at}
+use Rattle.sm_lead.specs.Commands.{process_at, read_at, unentered}
 use Rattle.sm_lead.specs.Placements.{Agrees, HasRowsOf}
 
 -- what the control holds is so in the store: it was elected, and at a moment at which the key of commands was last
@@ -27,6 +28,8 @@ pub record KnowsStore {Q P : Type 0} (log : List (Transaction Q P)) (control : S
       → WasFound (stored_record k) (record_key k) log (read_at control.records.items k).state
       (read_at control.records.items k).stood
   pub count : length control.records.items ≡ length control.desk.books.shards
+  pub processes : (a : ℕ) → IsKnown control.desk.books.servers a → process_at control a ≡ read.processes a
+  pub run_count : length control.runs.items ≡ length control.desk.books.servers
 
 -- there are as many shards as records, and each stands as its record says
 pub record AreStandsRead (shards : List Shard) (reads : List RecordRead) : Type 0 where
@@ -34,24 +37,25 @@ pub record AreStandsRead (shards : List Shard) (reads : List RecordRead) : Type 
   pub stands : (k : ℕ) → k < length reads → (shard_at shards k).stand ≡ (read_at reads k).state.stand
 
 -- the states are those that were read
-pub record AreStatesRead (states reads : List ServerState) : Type 0 where
+pub record AreStatesRead (states : List ServerState) (reads : List ServerRun) : Type 0 where
   pub count : length reads ≡ length states
-  pub each : (i : ℕ) → i < length reads → slice_index_or states i Up ≡ slice_index_or reads i Up
+  pub each : (i : ℕ) → i < length reads → slice_index_or states i Up ≡ (slice_index_or reads i unentered).state
 
 -- the control that was made of what was read: its desk has these rows, and each shard and server as was read
 pub record IsLoaded (desk : DeskView) (lead : Leadership) (ceiling : ℕ) (reads : List RecordRead)
-    (states : List ServerState) (placed : ℕ) (control : StoreControl) : Type 0 where
+    (runs : List ServerRun) (placed : ℕ) (control : StoreControl) : Type 0 where
   pub lead_is : control.lead ≡ lead
   pub ceiling_is : control.ceiling ≡ ceiling
   pub placed_is : control.placed ≡ placed
   pub reads_are : control.records.items ≡ reads
   pub rows : HasRowsOf desk control.desk
   pub stands : AreStandsRead control.desk.books.shards reads
-  pub states_are : AreStatesRead control.desk.books.states states
+  pub states_are : AreStatesRead control.desk.books.states runs
+  pub runs_are : control.runs.items ≡ runs
 
 -- that is so in the store: all of it was read at one moment
 pub record IsReadOf {Q P : Type 0} (log : List (Transaction Q P)) (desk : DeskView) (lead : Leadership)
-    (reads : List RecordRead) (states : List ServerState) (placed : ℕ) : Type 0 where
+    (reads : List RecordRead) (runs : List ServerRun) (placed : ℕ) : Type 0 where
   pub led : HasLed log lead.process lead.elected
   pub later : List (Transaction Q P)
   pub past : List (Transaction Q P)
@@ -59,8 +63,8 @@ pub record IsReadOf {Q P : Type 0} (log : List (Transaction Q P)) (desk : DeskVi
   pub at : revision_of placement_key past ≡ placed
   pub records : (k : ℕ) → k < length reads → (read_at reads k).state ≡ stored_record k past
   pub stood : (k : ℕ) → k < length reads → (read_at reads k).stood ≡ revision_of (record_key k) past
-  pub states_were : (i : ℕ) → i < length states
-      → slice_index_or states i Up ≡ stored_state (slice_index_or desk.books.servers i no_server).id past
+  pub runs_were : (i : ℕ) → i < length runs
+      → slice_index_or runs i unentered ≡ stored_run (slice_index_or desk.books.servers i no_server).id past
 
 -- the store made the transaction, at this revision
 pub record CommandWasMade {Q P : Type 0} (log : List (Transaction Q P)) (txn : Transaction Q P)

@@ -12,12 +12,14 @@ use Rattle.sm_lead.specs.declared.sent_command.Judged.TheVariants.{Sent, Refused
 use Rattle.sm_lead.specs.declared.store_control.StoreControl.{StoreControl}
 use Rattle.sm_lead.specs.Commands.{absent_of, command_fault, write_of}
 
--- a command that is refused leaves the control as it was; else the control has sent it
-abbrev pub IsJudged : StoreControl → Command → Judged → Type 0
-IsJudged control command (Sent sent) =
+-- a command that is refused leaves the control as it was; else the control has sent it, where this process runs the
+-- server
+abbrev pub IsJudged : StoreControl → ℕ → Command → Judged → Type 0
+IsJudged control process command (Sent sent) =
     (command_fault control command ≡ None) × (sent.control ≡ control) × (sent.command ≡ command)
-    × (sent.write ≡ write_of control command)
-IsJudged control command (Refused kept fault) = (command_fault control command ≡ Some fault) × (kept ≡ control)
+    × (sent.write ≡ write_of control process command)
+IsJudged control process command (Refused kept fault) =
+    (command_fault control command ≡ Some fault) × (kept ≡ control)
 
 -- what is sent for a command
 abbrev pub sending_of : StoreControl → CommandWrite → CommandSending
@@ -34,7 +36,7 @@ sending_of control write =
 abbrev pub deed_of : {Q P : Type 0} → CommandSending → CommandWrite → Deed Q P
 deed_of sending (WritesRecord shard change next) =
     Changing sending.process shard change next sending.elected sending.placed
-deed_of sending (WritesState server state) = Restarting sending.process server state sending.elected sending.placed
+deed_of sending (WritesState server run) = Restarting sending.process server run sending.elected sending.placed
 
 -- the transaction of what is sent
 abbrev pub command_transaction : {Q P : Type 0} → CommandSending → Transaction Q P

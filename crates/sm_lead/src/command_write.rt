@@ -6,6 +6,7 @@ use sm_ownership::record::Record;
 use sm_place::ServerState;
 use sm_ranges::server_id::ServerId;
 use sm_ranges::shard_id::ShardId;
+use sm_store::server_run::ServerRun;
 
 /// What a command writes to the store.
 #[derive(Clone, Copy, Drop)]
@@ -16,10 +17,10 @@ pub enum CommandWrite {
         change: Change,
         next: Record,
     },
-    /// The server's state.
+    /// The server's state, and the process that it names.
     State {
         server: ServerId,
-        state: ServerState,
+        run: ServerRun,
     },
 }
 
@@ -30,7 +31,7 @@ impl CommandWrite {
     {
         match *self {
             CommandWrite::Record { .. } => None,
-            CommandWrite::State { server, state } => match state {
+            CommandWrite::State { server, run } => match run.state {
                 ServerState::Failed => Some(server),
                 ServerState::Up
                 | ServerState::Asked

@@ -4,9 +4,10 @@
 //!
 //! ```rust
 //! let lead = Leadership::new(7, 5).expect(&rt, "a revision");
-//! let read = StoreControl::read(desk, lead, 100, records, &states, 4);
+//! let read = StoreControl::read(desk, lead, 100, records, runs, 4);
 //! let control = read.ok().expect(&rt, "a control");
-//! let Judged::Sent(sent) = control.command(Command::Change(shard, Change::Assign(one))) else {
+//! let assign = Command::Change(shard, Change::Assign(one));
+//! let Judged::Sent(sent) = control.command(0, assign) else {
 //!     return;
 //! };
 //! assert!(rt; sent.sending().elected == 5);

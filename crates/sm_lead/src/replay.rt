@@ -16,32 +16,34 @@ use sm_ranges::limits::MAX_SHARD;
 use sm_ranges::server_id::ServerId;
 use sm_ranges::shard_id::ShardId;
 use sm_ranges::stand::Stand;
+use sm_store::server_run::ServerRun;
 
 impl StoreControl {
     /// The control of what was read at one revision: by a desk of the settings on which nothing has happened, the
-    /// record of each shard by number, and the state of each server in the order of the rows. The desk makes the
+    /// record of each shard by number, and how each server runs in the order of the rows. The desk makes the
     /// commands that lead there, which those of a store are, and is compared.
     pub fn read(
         desk: Desk,
         lead: Leadership,
         ceiling: u64,
         records: Vec<RecordRead>,
-        states: &[ServerState],
+        runs: Vec<ServerRun>,
         placed: u64,
     ) -> Result<StoreControl, LoadFault>
-        ensures { IfOk result (λ control. IsLoaded desk lead ceiling records.items states.now placed control) }
+        ensures { IfOk result (λ control. IsLoaded desk lead ceiling records.items runs.items placed control) }
     {
         let desk = stand_all(desk, &records)?;
-        let desk = enter_all(desk, states, false)?;
-        let desk = enter_all(desk, states, true)?;
+        let desk = enter_all(desk, &runs, false)?;
+        let desk = enter_all(desk, &runs, true)?;
         if !are_stands_read(desk.books().shards(), &records)
-            || !are_states_read(desk.books().states(), states)
+            || !are_states_read(desk.books().states(), &runs)
         {
             return Err(LoadFault::Different);
         }
         Ok(StoreControl {
             desk,
             records,
+            runs,
             ceiling,
             lead,
             placed,
@@ -167,12 +169,12 @@ fn server_at(desk: &Desk, place: usize) -> Option<ServerId> {
 }
 
 // Leads the servers to their states: those that failed, once the others are there, as approvals count them.
-fn enter_all(desk: Desk, states: &[ServerState], failed: bool) -> Result<Desk, CommandFault>
+fn enter_all(desk: Desk, runs: &[ServerRun], failed: bool) -> Result<Desk, CommandFault>
     ensures { IfOk result (λ new. HasRowsOf desk new) }
 {
     let mut after = desk;
-    for (place, state) in states.iter().enumerate() {
-        after = enter_at(after, place, *state, failed)?;
+    for (place, run) in runs.iter().enumerate() {
+        after = enter_at(after, place, run.state, failed)?;
     }
     Ok(after)
 }
@@ -211,14 +213,14 @@ fn are_stands_read(shards: &[Shard], reads: &[RecordRead]) -> bool
 }
 
 // Whether the states are those that were read.
-fn are_states_read(states: &[ServerState], reads: &[ServerState]) -> bool
+fn are_states_read(states: &[ServerState], reads: &[ServerRun]) -> bool
     ensures { IsTrue result → AreStatesRead states.now reads.now }
 {
     if states.len() != reads.len() {
         return false;
     }
     for i in 0..reads.len() {
-        if states[i] != reads[i] {
+        if states[i] != reads[i].state {
             return false;
         }
     }

@@ -1,11 +1,12 @@
-ghost use Rattle.std.specs.Prelude.{◌≡◌, ℕ, None, IfSome};
-ghost use Rattle.sm_lead.specs.Commands.{IsAfter, absent_of, command_fault, reads_after};
+ghost use Rattle.std.specs.Prelude.{◌≡◌, ℕ, None, IfSome, IsTrue};
+ghost use Rattle.sm_lead.specs.Commands.{IsAfter, absent_of, command_fault, may_name, reads_after, runs_after};
 
 use crate::command_sending::CommandSending;
 use crate::command_write::CommandWrite;
 use crate::record_read::RecordRead;
-use crate::store_control::StoreControl;
-use sm_desk::{Command, CommandFault};
+use crate::store_control::{StoreControl, place_of};
+use sm_desk::{Command, CommandFault, Desk};
+use sm_store::server_run::ServerRun;
 
 /// What became of a command that was sent.
 #[derive(Clone, Copy, PartialEq, Eq, Drop)]
@@ -25,6 +26,7 @@ pub struct SentCommand {
     pub command: Command,
     pub write: CommandWrite,
     ghost allowed: { command_fault control command ≡ None },
+    ghost named: { IsTrue (may_name control write) },
 }
 
 /// What a control does with a command.
@@ -80,15 +82,18 @@ impl SentCommand {
         let StoreControl {
             mut desk,
             mut records,
+            mut runs,
             ceiling,
             lead,
             ..
         } = control;
+        note_run(&mut runs, &desk, &write);
         desk.commit(command);
         note(&mut records, &write, revision);
         StoreControl {
             desk,
             records,
+            runs,
             ceiling,
             lead,
             placed: revision,
@@ -107,6 +112,18 @@ fn note(records: &mut Vec<RecordRead>, write: &CommandWrite, revision: u64)
                 state: *next,
                 stood: revision,
             };
+        }
+    }
+}
+
+// Notes the server's state that was written, and the process that it names.
+fn note_run(runs: &mut Vec<ServerRun>, desk: &Desk, write: &CommandWrite)
+    ensures { runs.new.items ≡ runs_after desk.now runs.old.items write.now }
+{
+    if let CommandWrite::State { server, run } = write {
+        let at = place_of(desk, *server);
+        if at < runs.len() {
+            runs[at] = *run;
         }
     }
 }

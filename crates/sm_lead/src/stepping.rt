@@ -14,7 +14,7 @@ use crate::ack_read::AckRead;
 use crate::follower::{Follower, all_follow, is_following};
 use crate::next_step::NextStep;
 use crate::record_read::read_at;
-use crate::store_control::StoreControl;
+use crate::store_control::{StoreControl, state_of};
 use sm_desk::{Command, Desk};
 use sm_ownership::change::Change;
 use sm_place::{Plan, ServerState};
@@ -128,7 +128,7 @@ impl StoreControl {
         ensures allowed { IsAllowed self.now result }
     {
         match step {
-            NextStep::Takes(command) => match self.judge(&command) {
+            NextStep::Takes(command) => match self.judge(0, &command) {
                 Ok(_) => NextStep::Takes(command),
                 Err(_) => NextStep::Waits,
             },
@@ -145,18 +145,6 @@ fn stand_of(desk: &Desk, shard: ShardId) -> Stand
     match desk.books().shards().get(shard.index()) {
         Some(found) => found.stand,
         None => Stand::Vacant,
-    }
-}
-
-/// Returns the state of the server, Up where there is no such server.
-pub(crate) fn state_of(desk: &Desk, server: ServerId) -> ServerState
-    ensures { result ≡ state_of desk.now.books server }
-{
-    desk.soundness();
-    if desk.books().knows(server) {
-        desk.books().state(server)
-    } else {
-        ServerState::Up
     }
 }
 

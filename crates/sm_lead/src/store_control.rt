@@ -1,7 +1,10 @@
-ghost use Rattle.std.specs.Prelude.{◌≡◌, IfOk};
+ghost use Rattle.std.specs.Prelude.{◌≡◌, ◌==◌, IfOk, IsTrue, position};
 ghost use Rattle.std.specs.Result.{result_err};
 ghost use Rattle.sm_desk.specs.declared.command.Command.TheVariants.{Change as ChangeOf};
-ghost use Rattle.sm_lead.specs.Commands.{command_fault, record_refusal, write_of};
+ghost use Rattle.sm_lead.specs.Commands.{command_fault, may_name, process_at, record_refusal, run_at, run_into};
+ghost use Rattle.sm_lead.specs.Commands.{write_of};
+ghost use Rattle.sm_place.specs.Books.{place_of, state_of};
+ghost use Rattle.sm_store.specs.Deeds.{is_next_run};
 ghost use Rattle.sm_lead.specs.Sendings.{IsJudged};
 
 use crate::command_write::CommandWrite;
@@ -13,6 +16,7 @@ use sm_ownership::change::Change;
 use sm_place::ServerState;
 use sm_ranges::server_id::ServerId;
 use sm_ranges::shard_id::ShardId;
+use sm_store::server_run::ServerRun;
 
 /// A control that leads, with all that it has read: the desk has each shard's stand and each server's state.
 #[derive(Drop)]
@@ -20,6 +24,8 @@ pub struct StoreControl {
     pub desk: Desk,
     /// The record of each shard, by number.
     pub records: Vec<RecordRead>,
+    /// The state of each server and the process that it names, in the order of the desk's rows.
+    pub runs: Vec<ServerRun>,
     /// The greatest generation of a record.
     pub ceiling: u64,
     pub lead: Leadership,
@@ -28,12 +34,14 @@ pub struct StoreControl {
 }
 
 impl StoreControl {
-    /// Judges the command. Where the desk and the shard's record allow it, it is to be sent, and the control knows
-    /// nothing more until the outcome comes; or else the control comes back, with the first fault.
-    pub fn command(self, command: Command) -> Judged
-        ensures { IsJudged self command result }
+    /// Judges the command, where this process runs the server that it names. If the desk and the shard's record allow
+    /// the command, it is to be sent, and the control knows nothing more until the outcome comes. Else the control
+    /// comes back, with the first fault.
+    pub fn command(self, process: u64, command: Command) -> Judged
+        requires { IsTrue (may_name self (write_of self process command)) }
+        ensures { IsJudged self process command result }
     {
-        match self.judge(&command) {
+        match self.judge(process, &command) {
             Ok(write) => Judged::Sent(SentCommand {
                 control: self,
                 command,
@@ -43,29 +51,77 @@ impl StoreControl {
         }
     }
 
-    /// What the command writes, or the first fault that applies: the desk's, or `Spent` or `Busy` of the shard's
-    /// record.
-    pub fn judge(&self, command: &Command) -> Result<CommandWrite, CommandFault>
+    /// Whether the state that the command leads to may be said of the process that it names: the one that runs the
+    /// server, or the one that its state names where that is later. A server that was stopped is up again only by a
+    /// process that began later, and one is named of which a server is stopped.
+    pub fn may_name(&self, process: u64, command: &Command) -> bool
+        ensures { result ≡ may_name self.now (write_of self.now process command.now) }
+    {
+        match command {
+            Command::Change(..) => true,
+            Command::Ask(server) => self.may_enter(process, *server, ServerState::Asked),
+            Command::Approve(server) => self.may_enter(process, *server, ServerState::Approved),
+            Command::Stopped(server) => self.may_enter(process, *server, ServerState::Stopped),
+            Command::Back(server) => self.may_enter(process, *server, ServerState::Up),
+            Command::Fail(server) => self.may_enter(process, *server, ServerState::Failed),
+        }
+    }
+
+    // Whether the server may come into the state, where this process runs it.
+    fn may_enter(&self, process: u64, server: ServerId, state: ServerState) -> bool
+        ensures { result ≡ is_next_run (run_at self.now server) (run_into self.now process server state) }
+    {
+        let before = ServerRun {
+            state: state_of(&self.desk, server),
+            process: self.process_of(server),
+        };
+        is_next_run(&before, &self.run_into(process, server, state))
+    }
+
+    /// The process that the server's state names, 0 where it names none.
+    pub fn process_of(&self, server: ServerId) -> u64
+        ensures { result ≡ process_at self.now server }
+    {
+        match self.runs.get(place_of(&self.desk, server)) {
+            Some(run) => run.process,
+            None => 0,
+        }
+    }
+
+    // The server's next state, where this process runs it.
+    fn run_into(&self, process: u64, server: ServerId, state: ServerState) -> ServerRun
+        ensures { result ≡ run_into self.now process server state }
+    {
+        let named = self.process_of(server);
+        ServerRun {
+            state,
+            process: if named < process { process } else { named },
+        }
+    }
+
+    /// What the command writes where this process runs the server that it names, or the first fault that applies: the
+    /// desk's, or `Spent` or `Busy` of the shard's record.
+    pub fn judge(&self, process: u64, command: &Command) -> Result<CommandWrite, CommandFault>
         ensures fault { result_err result ≡ command_fault self.now command.now }
-        ensures write { IfOk result (λ write. write ≡ write_of self.now command.now) }
+        ensures write { IfOk result (λ write. write ≡ write_of self.now process command.now) }
     {
         if let Err(fault) = self.desk.check(command) {
             return Err(fault);
         }
         match command {
             Command::Change(shard, change) => self.judge_record(*shard, change),
-            Command::Ask(server) => Ok(enters(*server, ServerState::Asked)),
-            Command::Approve(server) => Ok(enters(*server, ServerState::Approved)),
-            Command::Stopped(server) => Ok(enters(*server, ServerState::Stopped)),
-            Command::Back(server) => Ok(enters(*server, ServerState::Up)),
-            Command::Fail(server) => Ok(enters(*server, ServerState::Failed)),
+            Command::Ask(server) => Ok(self.enters(process, *server, ServerState::Asked)),
+            Command::Approve(server) => Ok(self.enters(process, *server, ServerState::Approved)),
+            Command::Stopped(server) => Ok(self.enters(process, *server, ServerState::Stopped)),
+            Command::Back(server) => Ok(self.enters(process, *server, ServerState::Up)),
+            Command::Fail(server) => Ok(self.enters(process, *server, ServerState::Failed)),
         }
     }
 
     // The record that the change leads to, or why the shard's record refuses it.
     fn judge_record(&self, shard: ShardId, change: &Change) -> Result<CommandWrite, CommandFault>
         ensures fault { result_err result ≡ record_refusal self.now (ChangeOf shard change.now) }
-        ensures write { IfOk result (λ write. write ≡ write_of self.now (ChangeOf shard change.now)) }
+        ensures write { IfOk result (λ write. write ≡ write_of self.now 0 (ChangeOf shard change.now)) }
     {
         let read = read_at(&self.records, shard);
         match read.state.changed(*change, self.ceiling) {
@@ -77,11 +133,54 @@ impl StoreControl {
             Err(fault) => Err(CommandFault::Change(fault)),
         }
     }
+
+    // The write of a server's state, where this process runs the server.
+    fn enters(&self, process: u64, server: ServerId, state: ServerState) -> CommandWrite
+        ensures { result ≡ CommandWrite.State server (run_into self.now process server state) }
+    {
+        CommandWrite::State {
+            server,
+            run: self.run_into(process, server, state),
+        }
+    }
 }
 
-// The write of a server's state.
-fn enters(server: ServerId, state: ServerState) -> CommandWrite
-    ensures { result ≡ CommandWrite.State server state }
+/// The state of the server, Up where there is no such server.
+pub(crate) fn state_of(desk: &Desk, server: ServerId) -> ServerState
+    ensures { result ≡ state_of desk.now.books server }
 {
-    CommandWrite::State { server, state }
+    desk.soundness();
+    if desk.books().knows(server) {
+        desk.books().state(server)
+    } else {
+        ServerState::Up
+    }
+}
+
+/// The place of the server's row, or how many rows there are.
+#[tactic(auto, using(crate::proofs::Places::found, crate::proofs::Places::missed))]
+pub(crate) fn place_of(desk: &Desk, server: ServerId) -> usize
+    ensures { result ≡ place_of desk.now.books.servers server }
+{
+    match row_of(desk, server) {
+        Some(place) => place,
+        None => desk.books().rows().len(),
+    }
+}
+
+// The place of the server's row, if there is one.
+fn row_of(desk: &Desk, server: ServerId) -> Option<usize>
+    ensures { result ≡ position (λ row. row.id == server) desk.now.books.servers }
+{
+    desk.books().rows().iter().position(|row| row.id == server)
+}
+
+// Whether a state may be said of the process after the one before.
+fn is_next_run(before: &ServerRun, next: &ServerRun) -> bool
+    ensures { result ≡ is_next_run before.now next.now }
+{
+    let is_back = matches!(before.state, ServerState::Stopped)
+        && matches!(next.state, ServerState::Up);
+    let is_named = next.process > 0 || !matches!(next.state, ServerState::Stopped);
+    before.process <= next.process && (!is_back || before.process < next.process) && is_named
 }

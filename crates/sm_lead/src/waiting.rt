@@ -5,8 +5,8 @@ ghost use Rattle.sm_lead.specs.Waits.{has_waited, is_prepared, lets_go, prepared
 
 use crate::ack_read::{AckRead, acked_in};
 use crate::record_read::read_at;
-use crate::stepping::{is_failed, state_of};
-use crate::store_control::StoreControl;
+use crate::stepping::is_failed;
+use crate::store_control::{StoreControl, state_of};
 use sm_desk::Command;
 use sm_ranges::server_id::ServerId;
 use sm_ranges::shard_id::ShardId;

@@ -1,8 +1,8 @@
 -- Acks: of a record by which a server executes it has acked nothing, and while a process's key lies there no other
 -- process of its server acks.
-use Rattle.std.proofs.Common.{◌≡◌, ℕ, ◌<◌, ◌≤◌, true, List, [], ◌∷◌, ◌++◌, refl, sym, ap}
+use Rattle.std.proofs.Common.{◌≡◌, ℕ, ◌<◌, ◌≤◌, List, [], ◌∷◌, ◌++◌, refl, sym, ap}
 use Rattle.std.proofs.Common.{subst, ◌∙◌, arith, ⊎_elim, inl, inr}
-use Rattle.std.specs.Prelude.{◌==◌, ◌&&◌, ◌⊎◌, Option, Some, max, if◌then◌else◌}
+use Rattle.std.specs.Prelude.{◌==◌, ◌&&◌, Option, Some, max, if◌then◌else◌}
 use Rattle.std.specs.List.{AllByRecursion}
 use Rattle.std.proofs.lemmas.Bool.{and_from, cond-true, cond_both, eqb-true, eq-eqb, cases_lt}
 use Rattle.std.proofs.lemmas.Option.{none-some, same_Some}
@@ -112,7 +112,7 @@ module _ {Q P : Type 0} (charter : Charter Q P) (shard server : ℕ) where
   lets_deed log revision (Electing process) right was = was
   lets_deed log revision (Expiring keys) right was = was
   lets_deed log revision (Changing process at change next elected placed) right was = was
-  lets_deed log revision (Restarting process at state elected placed) right was = was
+  lets_deed log revision (Restarting process at run elected placed) right was = was
   lets_deed log revision (Settling settings) right was = was
   lets_deed log revision (Executing at by items head stood logged) right was = was
   lets_deed log revision (Basing at number place part) right was = was

@@ -4,7 +4,8 @@ use Rattle.std.proofs.Common.{subst, arith}
 use Rattle.std.specs.Prelude.{◌==◌}
 use Rattle.std.proofs.lemmas.Bool.{cond_both, eqb-true}
 use Rattle.sm_place.specs.declared.server_state.ServerState.TheVariants.{Failed}
-use Rattle.sm_store.specs.Store.{Transaction, revision_of, server_key, stored_record, stored_state}
+use Rattle.sm_store.specs.declared.server_run.ServerRun.{ServerRun}
+use Rattle.sm_store.specs.Store.{Transaction, revision_of, server_key, stored_record, stored_run, stored_state}
 use Rattle.sm_store.specs.Deeds.{AreRight, Charter, Deed, Electing, Expiring, Changing, Restarting, Settling, Executing}
 use Rattle.sm_store.specs.Deeds.{Basing, Naming, Clearing, Following, Checking, Foreign, IsRight, WasRight, done_at}
 use Rattle.sm_store.specs.lemmas.Records.{IsSince, record_since}
@@ -15,8 +16,8 @@ module _ {Q P : Type 0} (charter : Charter Q P) (server revision : ℕ) where
   state_deed : (log : List (Transaction Q P)) (deed : Deed Q P) → IsRight charter log deed
       → 0 < revision_of (server_key server) log → stored_state server log ≢ Failed
       → stored_state server (done_at revision deed ∷ log) ≢ Failed
-  state_deed log (Restarting process at state elected placed) right there was =
-      cond_both (at == server) state (stored_state server log) (λ k. k ≢ Failed)
+  state_deed log (Restarting process at run elected placed) right there was =
+      cond_both (at == server) run (stored_run server log) (λ (k : ServerRun). k.state ≢ Failed)
       (λ same fails.
       let gone = subst (λ (n : ℕ). revision_of (server_key n) log ≡ 0) (eqb-true at server same)
       (right.absent fails) in

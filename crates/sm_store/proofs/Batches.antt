@@ -35,7 +35,7 @@ module _ {Q P : Type 0} where
   executed_step shard (Executes at number server items) writes = refl
   executed_step shard (Leads process) writes = none_first (0 == shard) (executed_by shard writes)
   executed_step shard (Stands process at change next) writes = none_first (0 == shard) (executed_by shard writes)
-  executed_step shard (Enters process server state) writes = none_first (0 == shard) (executed_by shard writes)
+  executed_step shard (Enters process server run) writes = none_first (0 == shard) (executed_by shard writes)
   executed_step shard (Commands process) writes = none_first (0 == shard) (executed_by shard writes)
   executed_step shard (Settles settings) writes = none_first (0 == shard) (executed_by shard writes)
   executed_step shard (Heads at head) writes = none_first (0 == shard) (executed_by shard writes)

@@ -1,27 +1,29 @@
 -- A server is failed while its key isn't there.
-use Rattle.std.proofs.Common.{◌≡◌, ◌≢◌, ℕ, List, ◌∷◌, ◌++◌, sym, subst, ◌∙◌, ⊎_elim}
+use Rattle.std.proofs.Common.{◌≡◌, ◌≢◌, ℕ, List, ◌∷◌, ◌++◌, ap, sym, subst, ◌∙◌, ⊎_elim}
 use Rattle.std.specs.Prelude.{◌==◌}
 use Rattle.std.proofs.lemmas.Bool.{cases_eq, cond-true, cond-false, eq-eqb, ne_eqb}
-use Rattle.sm_place.specs.declared.server_state.ServerState.{ServerState}
 use Rattle.sm_place.specs.declared.server_state.ServerState.TheVariants.{Failed}
-use Rattle.sm_store.specs.Store.{Transaction, revision_of, server_key, stored_state}
+use Rattle.sm_store.specs.declared.server_run.ServerRun.{ServerRun}
+use Rattle.sm_store.specs.Store.{Transaction, revision_of, server_key, stored_run, stored_state}
 use Rattle.sm_store.specs.Deeds.{AreRight, Charter, Deed, Electing, Expiring, Changing, Restarting, Settling, Executing}
 use Rattle.sm_store.specs.Deeds.{Basing, Naming, Clearing, Following, Checking, Foreign, IsRight, transaction_of}
 use Rattle.sm_store.specs.lemmas.Heads.{right_past}
 
 module _ {Q P : Type 0} (charter : Charter Q P) where
   -- the step is of this server, or leaves its state
-  absent_step : (log : List (Transaction Q P)) (process at server : ℕ) (state : ServerState) (elected placed : ℕ)
-      → IsRight charter log (Restarting process at state elected placed) → stored_state server log ≢ Failed
-      → stored_state server (transaction_of (Restarting process at state elected placed) ∷ log) ≡ Failed
+  absent_step : (log : List (Transaction Q P)) (process at server : ℕ) (run : ServerRun) (elected placed : ℕ)
+      → IsRight charter log (Restarting process at run elected placed) → stored_state server log ≢ Failed
+      → stored_state server (transaction_of (Restarting process at run elected placed) ∷ log) ≡ Failed
       → revision_of (server_key server) log ≡ 0
-  absent_step log process at server state elected placed right was now =
+  absent_step log process at server run elected placed right was now =
       ⊎_elim
       (λ (same : at ≡ server).
       subst (λ (n : ℕ). revision_of (server_key n) log ≡ 0) same
-      (right.absent (sym (cond-true (at == server) state (stored_state server log) (eq-eqb at server same)) ∙ now)))
+      (right.absent (ap (λ (r : ServerRun). r.state)
+      (sym (cond-true (at == server) run (stored_run server log) (eq-eqb at server same))) ∙ now)))
       (λ (apart : at ≢ server).
-      absurd (was (sym (cond-false (at == server) state (stored_state server log) (ne_eqb at server apart)) ∙ now)))
+      absurd (was (ap (λ (r : ServerRun). r.state)
+      (sym (cond-false (at == server) run (stored_run server log) (ne_eqb at server apart))) ∙ now)))
       (cases_eq at server)
 
   absent_one : (log : List (Transaction Q P)) (deed : Deed Q P) (server : ℕ) → IsRight charter log deed
@@ -30,8 +32,8 @@ module _ {Q P : Type 0} (charter : Charter Q P) where
   absent_one log (Electing process) server right was now = absurd (was now)
   absent_one log (Expiring keys) server right was now = absurd (was now)
   absent_one log (Changing process shard change next elected placed) server right was now = absurd (was now)
-  absent_one log (Restarting process at state elected placed) server right was now =
-      absent_step log process at server state elected placed right was now
+  absent_one log (Restarting process at run elected placed) server right was now =
+      absent_step log process at server run elected placed right was now
   absent_one log (Settling settings) server right was now = absurd (was now)
   absent_one log (Executing shard at items head stood logged) server right was now = absurd (was now)
   absent_one log (Basing shard number place part) server right was now = absurd (was now)

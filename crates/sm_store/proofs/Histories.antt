@@ -214,7 +214,7 @@ module _ {Q P : Type 0} (charter : Charter Q P) (ceiling : ℕ) where
   deed_step log (Basing shard number place part) earlier right room agrees = agrees
   deed_step log (Naming shard head number parts logged) earlier right room agrees = agrees
   deed_step log (Clearing keys) earlier right room agrees = agrees
-  deed_step log (Restarting process server state elected placed) earlier right room agrees = agrees
+  deed_step log (Restarting process server run elected placed) earlier right room agrees = agrees
   deed_step log (Settling settings) earlier right room agrees = agrees
   deed_step log (Following server revision acks told) earlier right room agrees = agrees
   deed_step log (Checking compares) earlier right room agrees = agrees
@@ -228,7 +228,7 @@ module _ {Q P : Type 0} (charter : Charter Q P) (ceiling : ℕ) where
   no_shorter (Basing shard number place part) earlier = omega arith
   no_shorter (Naming shard head number parts logged) earlier = omega arith
   no_shorter (Clearing keys) earlier = omega arith
-  no_shorter (Restarting process server state elected placed) earlier = omega arith
+  no_shorter (Restarting process server run elected placed) earlier = omega arith
   no_shorter (Settling settings) earlier = omega arith
   no_shorter (Following server revision acks told) earlier = omega arith
   no_shorter (Checking compares) earlier = omega arith

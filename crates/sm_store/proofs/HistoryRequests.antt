@@ -113,7 +113,7 @@ module _ {Q P : Type 0} (charter : Charter Q P) where
       (Naming shard head number parts logged)).writes) [] refl
   requests_of_deed k (Clearing keys) earlier =
       nothing k earlier (touches {Q = Q} {P = P} (head_key k) (Deletes keys ∷ [])) [] refl
-  requests_of_deed k (Restarting process server state elected placed) earlier =
+  requests_of_deed k (Restarting process server run elected placed) earlier =
       sym (append-nil (all_of (reverse earlier) k))
   requests_of_deed k (Settling settings) earlier = sym (append-nil (all_of (reverse earlier) k))
   requests_of_deed k (Following server revision acks told) earlier = sym (append-nil (all_of (reverse earlier) k))

@@ -9,5 +9,6 @@ mod Orders
 mod Right
 mod Runs
 mod Settings
+mod Stops
 mod Told
 mod Woven

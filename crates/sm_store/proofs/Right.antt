@@ -15,7 +15,7 @@ use Rattle.sm_store.specs.Store.{IsRising, made_at, server_key, stored_settings,
 use Rattle.sm_store.specs.Deeds.{Charter, Deed, Electing, Expiring, Changing, Executing, Basing, Naming, Clearing}
 use Rattle.sm_store.specs.Deeds.{Following, Restarting, Settling, Checking, Foreign, transaction_of, at, AreAccepted}
 use Rattle.sm_store.specs.Deeds.{absence_compares, done_at}
-use Rattle.sm_store.specs.Deeds.{IsChanged, MayAck, ShardLog}
+use Rattle.sm_store.specs.Deeds.{IsChanged, MayAck, ShardLog, is_next_run, read_run}
 use Rattle.sm_store.specs.Deeds.{shard_log, WasFound, MayDo, MayName, MayClear, IsHonest, IsBehind, IsRight}
 use Rattle.sm_store.specs.Deeds.{HasLed, IsRightBase, AreRight}
 use Rattle.sm_store.specs.Waits.{HasWaited, MayLetGo}
@@ -164,14 +164,15 @@ module _ {Q P : Type 0} (charter : Charter Q P) where
       (inl refl) may.head_was first.0) may
   right_one log (Clearing keys) right held may =
       all_map (MayClear charter log) (IsBehind charter log) (λ key one. clear_right log key right one) keys may
-  right_one log (Restarting process server state elected placed) right held may =
-      let absences = absence_compares server state in
+  right_one log (Restarting process server run elected placed) right held may =
+      let absences = absence_compares server run.state in
       let first = first_held log leader_key elected (at placement_key placed ∷ absences) held in
       let second = first_held log placement_key placed absences first.1 in
       let now = placement_stands log may.read placed right may.placement_was second.0 in
       record {
         leads = leads_still log process elected (rising_of_right charter log right) may.led first.0;
-        allowed = subst (λ (p : Placement). IsTrue (charter.allows_state p server state)) (sym now) may.allowed;
+        allowed = subst (λ (p : Placement). IsTrue (charter.allows_state p server run.state)) (sym now) may.allowed;
+        next = subst (λ (p : Placement). IsTrue (is_next_run (read_run p server) run)) (sym now) may.next;
         absent = λ is. absent_then log server (subst (λ (s : ServerState).
             all_hold log (absence_compares server s) ≡ true) is second.1);
       }

@@ -11,7 +11,7 @@ module _ {Q P : Type 0} (charter : Charter Q P) where
   stays_one log (Electing process) settings right has = has
   stays_one log (Expiring keys) settings right has = has
   stays_one log (Changing process shard change next elected placed) settings right has = has
-  stays_one log (Restarting process server state elected placed) settings right has = has
+  stays_one log (Restarting process server run elected placed) settings right has = has
   stays_one log (Settling others) settings right has = absurd (none-some settings (sym right ∙ has))
   stays_one log (Executing shard server items head stood logged) settings right has = has
   stays_one log (Basing shard number place part) settings right has = has

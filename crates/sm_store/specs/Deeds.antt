@@ -1,7 +1,7 @@
 -- What processes do to the store: which transaction each deed is, when a process may send it, by what it has read, and
 -- when it is right for the store as it is.
 use Rattle.std.specs.Prelude.{ℕ, Bool, true, false, Some, None, ◌≡◌, ◌≢◌, ◌<◌, ◌≤◌, ◌+◌, IsTrue, List, [], ◌∷◌, ◌++◌}
-use Rattle.std.specs.Prelude.{length}
+use Rattle.std.specs.Prelude.{length, nat_le, nat_lt, ◌&&◌, if◌then◌else◌}
 use Rattle.std.specs.Prelude.{slice_get}
 use Rattle.std.specs.List.{AllByRecursion}
 use Rattle.sm_ownership.specs.declared.change.Change.{Change}
@@ -10,9 +10,11 @@ use Rattle.sm_ownership.specs.History.{after_change, change_fits}
 use Rattle.sm_ownership.specs.Rules.{accepts}
 use Rattle.sm_place.specs.declared.server_state.ServerState.{ServerState}
 use Rattle.sm_place.specs.declared.server_state.ServerState.TheVariants.{Failed}
+use Rattle.sm_place.specs.ServerState.{is_stopped, is_up}
 use Rattle.sm_store.specs.declared.compare.Compare.{Compare}
 use Rattle.sm_store.specs.declared.head.Head.{Head}
 use Rattle.sm_store.specs.declared.item.Item.{Item}
+use Rattle.sm_store.specs.declared.server_run.ServerRun.{ServerRun}
 use Rattle.sm_store.specs.declared.store_key.PassingKey.{PassingKey}
 use Rattle.sm_store.specs.declared.store_key.PassingKey.TheVariants.{Leader, Server, Ack as AckKey, Batch, Part}
 use Rattle.sm_store.specs.declared.store_key.StoreKey.{StoreKey}
@@ -21,7 +23,8 @@ use Rattle.sm_store.specs.Store.{Ack, Transaction, Leads, Stands, Heads, Execute
 use Rattle.sm_store.specs.Store.{Elsewhere}
 use Rattle.sm_store.specs.Store.{Enters, Commands, Settles, Placement, leader_key, record_key, head_key, part_key}
 use Rattle.sm_store.specs.Store.{placement_key, settings_key, revision_of, all_hold, leader_of, stored_record}
-use Rattle.sm_store.specs.Store.{placement_of, server_key, stored_settings, head_of, part_at, made, made_until}
+use Rattle.sm_store.specs.Store.{placement_of, server_key, stored_run, stored_settings, head_of, part_at, made}
+use Rattle.sm_store.specs.Store.{made_until}
 use Rattle.sm_store.specs.Store.{last_revision, made_at, unmade}
 use Rattle.sm_store.specs.Waits.{HasWaited, MayLetGo}
 
@@ -44,7 +47,7 @@ pub data Deed (Q P : Type 0) : Type 0 where
   -- states at the second
   Changing : (process shard : ℕ) (change : Change) (next : Record) (elected placed : ℕ) → Deed Q P
   -- such a process makes a step of a server's restart
-  Restarting : (process server : ℕ) (state : ServerState) (elected placed : ℕ) → Deed Q P
+  Restarting : (process server : ℕ) (run : ServerRun) (elected placed : ℕ) → Deed Q P
   -- a process writes the settings
   Settling : (settings : List ℕ) → Deed Q P
   -- a server executes requests of a shard, whose record it read at the first revision, and this head at the second
@@ -83,9 +86,9 @@ transaction_of (Electing process) = unmade [] (Leads process ∷ [])
 transaction_of (Expiring keys) = unmade [] (Deletes keys ∷ [])
 transaction_of (Changing process shard change next elected placed) =
     unmade (command_compares elected placed) (Stands process shard change next ∷ Commands process ∷ [])
-transaction_of (Restarting process server state elected placed) =
-    unmade (command_compares elected placed ++ absence_compares server state)
-    (Enters process server state ∷ Commands process ∷ [])
+transaction_of (Restarting process server run elected placed) =
+    unmade (command_compares elected placed ++ absence_compares server run.state)
+    (Enters process server run ∷ Commands process ∷ [])
 transaction_of (Settling settings) = unmade (at settings_key 0 ∷ []) (Settles settings ∷ [])
 transaction_of (Executing shard server items head stood logged) =
     unmade (at (record_key shard) stood ∷ at (head_key shard) logged ∷ [])
@@ -133,6 +136,18 @@ pub record IsChanged (ceiling : ℕ) (state : Record) (change : Change) (next : 
   pub fits : IsTrue (change_fits ceiling state 0 change)
   pub is : next ≡ after_change state change
 
+-- the state may be said of that process after the one before: the process began no earlier than the one before, and
+-- later if the server was stopped and is up again; and one is named of which the server is stopped
+abbrev pub is_next_run : ServerRun → ServerRun → Bool
+is_next_run before next =
+    nat_le before.process next.process
+    && ((if is_stopped before.state && is_up next.state then nat_lt before.process next.process else true)
+    && (if is_stopped next.state then nat_lt 0 next.process else true))
+
+-- a server's state, and the process that it names, of all that was read
+abbrev pub read_run : Placement → ℕ → ServerRun
+read_run placement server = record { state = placement.states server; process = placement.processes server }
+
 -- the key lies under a lease, and goes when that ends
 abbrev pub is_leased : PassingKey → Bool
 is_leased Leader = true
@@ -157,13 +172,14 @@ pub record MayChange {Q P : Type 0} (charter : Charter Q P) (log : List (Transac
   pub changed : IsChanged charter.ceiling (read.records shard) change next
   pub waited : HasWaited log read shard change
 
--- and whose step of a restart they allow
+-- and whose step of a restart they allow, of a process that may be named then
 pub record MayRestart {Q P : Type 0} (charter : Charter Q P) (log : List (Transaction Q P)) (process server : ℕ)
-    (state : ServerState) (elected placed : ℕ) : Type 0 where
+    (run : ServerRun) (elected placed : ℕ) : Type 0 where
   pub led : HasLed log process elected
   pub read : Placement
   pub placement_was : WasFound placement_of placement_key log read placed
-  pub allowed : IsTrue (charter.allows_state read server state)
+  pub allowed : IsTrue (charter.allows_state read server run.state)
+  pub next : IsTrue (is_next_run (read_run read server) run)
 
 -- one who has read the record, and head and requests
 pub record MayExecute {Q P : Type 0} (charter : Charter Q P) (log : List (Transaction Q P)) (shard server : ℕ)
@@ -225,8 +241,8 @@ abbrev pub MayDo : {Q P : Type 0} → Charter Q P → List (Transaction Q P) →
 MayDo charter log (Expiring keys) = AllByRecursion (λ key. IsTrue (is_leased key)) keys
 MayDo charter log (Changing process shard change next elected placed) =
     MayChange charter log process shard change next elected placed
-MayDo charter log (Restarting process server state elected placed) =
-    MayRestart charter log process server state elected placed
+MayDo charter log (Restarting process server run elected placed) =
+    MayRestart charter log process server run elected placed
 MayDo charter log (Executing shard server items head stood logged) =
     MayExecute charter log shard server items head stood logged
 MayDo charter log (Basing shard number place part) = MayBase charter log shard number place part
@@ -269,13 +285,14 @@ pub record IsRightChange {Q P : Type 0} (charter : Charter Q P) (log : List (Tra
   pub changed : IsChanged charter.ceiling (stored_record shard log) change next
   pub waited : HasWaited log (placement_of log) shard change
 
--- the step of a restart is made by who leads, and all records and states allow it; a server is said to have failed
--- while its key isn't there
+-- the step of a restart is made by who leads, and all records and states allow it, of a process that may be named then;
+-- a server is said to have failed while its key isn't there
 pub record IsRightRestart {Q P : Type 0} (charter : Charter Q P) (log : List (Transaction Q P)) (process server : ℕ)
-    (state : ServerState) : Type 0 where
+    (run : ServerRun) : Type 0 where
   pub leads : leader_of log ≡ process
-  pub allowed : IsTrue (charter.allows_state (placement_of log) server state)
-  pub absent : state ≡ Failed → revision_of (server_key server) log ≡ 0
+  pub allowed : IsTrue (charter.allows_state (placement_of log) server run.state)
+  pub next : IsTrue (is_next_run (stored_run server log) run)
+  pub absent : run.state ≡ Failed → revision_of (server_key server) log ≡ 0
 
 -- the requests are executed by the server that the record accepts, and come next in the log
 pub record IsRightBatch {Q P : Type 0} (charter : Charter Q P) (log : List (Transaction Q P)) (shard server : ℕ)
@@ -319,7 +336,7 @@ abbrev pub IsRight : {Q P : Type 0} → Charter Q P → List (Transaction Q P) �
 IsRight charter log (Expiring keys) = AllByRecursion (λ key. IsTrue (is_leased key)) keys
 IsRight charter log (Changing process shard change next elected placed) =
     IsRightChange charter log process shard change next
-IsRight charter log (Restarting process server state elected placed) = IsRightRestart charter log process server state
+IsRight charter log (Restarting process server run elected placed) = IsRightRestart charter log process server run
 IsRight charter log (Settling settings) = stored_settings log ≡ None
 IsRight charter log (Executing shard server items head stood logged) = IsRightBatch charter log shard server items head
 IsRight charter log (Basing shard number place part) = IsRightPart charter log shard number place part

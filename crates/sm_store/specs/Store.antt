@@ -11,6 +11,7 @@ use Rattle.sm_place.specs.declared.server_state.ServerState.TheVariants.{Up}
 use Rattle.sm_store.specs.declared.compare.Compare.{Compare}
 use Rattle.sm_store.specs.declared.head.Head.{Head}
 use Rattle.sm_store.specs.declared.item.Item.{Item}
+use Rattle.sm_store.specs.declared.server_run.ServerRun.{ServerRun}
 use Rattle.sm_store.specs.declared.store_key.LastingKey.{LastingKey}
 use Rattle.sm_store.specs.declared.store_key.LastingKey.TheVariants.{Record as RecordKey, Head as HeadKey}
 use Rattle.sm_store.specs.declared.store_key.LastingKey.TheVariants.{State as StateKey, Placement as PlacementKey}
@@ -31,8 +32,9 @@ pub data Write (Q P : Type 0) : Type 0 where
   Leads : (process : ℕ) → Write Q P
   -- a shard's record becomes this one, by a change that this process makes
   Stands : (process shard : ℕ) (change : Change) (next : Record) → Write Q P
-  -- a server's state becomes this one, by a step of its restart that this process makes
-  Enters : (process server : ℕ) (state : ServerState) → Write Q P
+  -- a server's state becomes this one, which is said of a process of the server, by a step of its restart that this
+  -- process makes
+  Enters : (process server : ℕ) (run : ServerRun) → Write Q P
   -- this process made a command
   Commands : (process : ℕ) → Write Q P
   -- these are the settings
@@ -147,7 +149,7 @@ acks_key server acks _ = false
 abbrev pub is_write_of : {Q P : Type 0} → StoreKey → Write Q P → Bool
 is_write_of key (Leads process) = same_store_key leader_key key
 is_write_of key (Stands process shard change next) = same_store_key (record_key shard) key
-is_write_of key (Enters process server state) = same_store_key (state_key server) key
+is_write_of key (Enters process server run) = same_store_key (state_key server) key
 is_write_of key (Commands process) = same_store_key placement_key key
 is_write_of key (Settles settings) = same_store_key settings_key key
 is_write_of key (Heads shard head) = same_store_key (head_key shard) key
@@ -210,24 +212,37 @@ stood shard before _ = before
 abbrev pub stored_record : {Q P : Type 0} → ℕ → List (Transaction Q P) → Record
 stored_record shard log = view_from (stood shard) vacant log
 
--- a server's state after a write
-abbrev pub entered : {Q P : Type 0} → ℕ → ServerState → Write Q P → ServerState
-entered server before (Enters process at state) = if at == server then state else before
+-- how a server runs after a write
+abbrev pub entered : {Q P : Type 0} → ℕ → ServerRun → Write Q P → ServerRun
+entered server before (Enters process at run) = if at == server then run else before
 entered server before _ = before
+
+-- the state of a server, and the process of which that is said
+abbrev pub stored_run : {Q P : Type 0} → ℕ → List (Transaction Q P) → ServerRun
+stored_run server log = view_from (entered server) (record { state = Up; process = 0 }) log
 
 -- the state of a server
 abbrev pub stored_state : {Q P : Type 0} → ℕ → List (Transaction Q P) → ServerState
-stored_state server log = view_from (entered server) Up log
+stored_state server log = (stored_run server log).state
 
--- what a command rests on: the record of each shard, and the state of each server
+-- the process that a server's state names, 0 where it names none
+abbrev pub stored_process : {Q P : Type 0} → ℕ → List (Transaction Q P) → ℕ
+stored_process server log = (stored_run server log).process
+
+-- what a command rests on: the record of each shard, and the state of each server, with the process that it names
 pub record Placement : Type 0 where
   pub records : ℕ → Record
   pub states : ℕ → ServerState
+  pub processes : ℕ → ℕ
 
 -- the records and states
 abbrev pub placement_of : {Q P : Type 0} → List (Transaction Q P) → Placement
 placement_of log =
-    record { records = λ shard. stored_record shard log; states = λ server. stored_state server log }
+    record {
+      records = λ shard. stored_record shard log;
+      states = λ server. stored_state server log;
+      processes = λ server. stored_process server log;
+    }
 
 -- the greatest generation of these acks of the shard and of this one
 abbrev pub acked_among : ℕ → List Ack → ℕ → ℕ

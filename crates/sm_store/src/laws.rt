@@ -5,7 +5,7 @@ ghost use Rattle.std.specs.Prelude.{◌≢◌, ◌∷◌};
 ghost use Rattle.std.specs.List.{AllByRecursion};
 ghost use Rattle.sm_ownership.specs.declared.record.Record.{Record};
 ghost use Rattle.sm_ownership.specs.History.{IsLegal, all_of, record_at, table_of};
-ghost use Rattle.sm_place.specs.declared.server_state.ServerState.TheVariants.{Failed};
+ghost use Rattle.sm_place.specs.declared.server_state.ServerState.TheVariants.{Failed, Stopped, Up};
 ghost use Rattle.sm_store.specs.Clients.{Automaton, ReadsLeave};
 ghost use Rattle.sm_store.specs.Histories.{history_of};
 ghost use Rattle.sm_store.specs.Linear.{AreAskedFor, AreFresh, Cut, HasCome, IsLinear, IsOwn, IsTold, Operation};
@@ -13,7 +13,7 @@ ghost use Rattle.sm_store.specs.Linear.{StandsBefore};
 ghost use Rattle.sm_store.specs.Store.{IsRising, Transaction, made, head_key, leader_key, leader_of, record_key};
 ghost use Rattle.sm_store.specs.Store.{revision_of};
 ghost use Rattle.sm_store.specs.Store.{stored_record, stored_settings};
-ghost use Rattle.sm_store.specs.Store.{Placement, acked_of, server_key, stored_state};
+ghost use Rattle.sm_store.specs.Store.{Placement, acked_of, server_key, stored_process, stored_state};
 ghost use Rattle.sm_store.specs.Waits.{HasLetGo, has_let_go};
 ghost use Rattle.sm_store.specs.Deeds.{AreRight, Charter, IsHonest, ShardLog, WasFound, shard_log};
 ghost use Rattle.sm_store.specs.System.{Event, IsAmong, IsLawful, MightHappen, StaysOvertaken, system_after};
@@ -34,10 +34,11 @@ pub fn read_stands<Q, P>()
 
 /// Each transaction of an honest store, to which all sent only what they might, was right for the store before
 /// it: a change of a record or a state was made by who led then, and the rule allowed it by all records and states as
-/// they were, of a server that failed while its key wasn't there; whoever a change waits for had let go; a server acked
-/// over its own key, as it told it last, and no record by which it executes; a batch was made by the server that the
-/// record accepts, with requests that come next; a head names a base that lies there whole; settings were the first;
-/// what was deleted lay behind the base, or was a lease; and revisions rise.
+/// they were, of a server that failed while its key wasn't there, and of a process that its state might name; whoever a
+/// change waits for had let go; a server acked over its own key, as it told it last, and no record by which it
+/// executes; a batch was made by the server that the record accepts, with requests that come next; a head names a base
+/// that lies there whole; settings were the first; what was deleted lay behind the base, or was a lease; and revisions
+/// rise.
 pub fn honest_is_right<Q, P>()
     ensures { (charter : Charter Q P) (log : List (Transaction Q P)) → IsHonest charter log → AreRight charter log }
 {}
@@ -68,6 +69,26 @@ pub fn controls_wait<Q, P>()
         → has_let_go (read.records shard) acked failed ≡ true → HasLetGo log read shard server }
     ensures stays { (later past : List (Transaction Q P)) (read : Placement) (shard server : ℕ)
         → HasLetGo past read shard server → HasLetGo (later ++ past) read shard server }
+{}
+
+/// If a server is stopped, its state names the process that was stopped, in every run. The server is up again only by a
+/// process that began later, so a leader that has just begun tells the two apart. The process that a state names never
+/// falls.
+pub fn stopped_servers_begin_anew<Q, P, R, S>()
+    ensures process { (service : Automaton S Q R) (charter : Charter Q P) (events : List (Event Q P R))
+        → MightHappen service charter events → (server : ℕ)
+        → stored_state server (system_after events).log ≡ Stopped
+        → 0 < stored_process server (system_after events).log }
+    ensures later { (service : Automaton S Q R) (charter : Charter Q P) (events : List (Event Q P R))
+        → MightHappen service charter events
+        → (later past : List (Transaction Q P)) (txn : Transaction Q P) (server : ℕ)
+        → (system_after events).log ≡ later ++ txn ∷ past
+        → stored_state server past ≡ Stopped → stored_state server (txn ∷ past) ≡ Up
+        → stored_process server past < stored_process server (txn ∷ past) }
+    ensures rises { (service : Automaton S Q R) (charter : Charter Q P) (events : List (Event Q P R))
+        → MightHappen service charter events → (later past : List (Transaction Q P)) (server : ℕ)
+        → (system_after events).log ≡ later ++ past
+        → stored_process server past ≤ stored_process server (later ++ past) }
 {}
 
 /// What lies at a shard's keys leads to all requests that are made: the base that the head names, and the batches after

@@ -21,11 +21,13 @@ pub mod compare;
 pub mod head;
 pub mod item;
 pub mod laws;
+pub mod server_run;
 pub mod store_key;
 pub mod waits;
 
 pub use compare::Compare;
 pub use head::Head;
 pub use item::Item;
+pub use server_run::ServerRun;
 pub use store_key::{LastingKey, PassingKey, StoreKey};
 pub use waits::{has_let_go, waits_for};

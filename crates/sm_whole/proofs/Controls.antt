@@ -36,6 +36,8 @@ module _ {Q P : Type 0} where
     records = knows.records;
     stood = λ k below. found_grows _ _ more log _ _ (knows.stood k below);
     count = knows.count;
+    processes = knows.processes;
+    run_count = knows.run_count;
   }
 
   -- a control that knows the store, and goes by what was given
@@ -49,7 +51,8 @@ module _ {Q P : Type 0} where
   pub record IsGoodCommand (given : Given) (log : List (Transaction Q P)) (sent : SentCommand) : Type 0 where
     pub by : IsGoodControl given log sent.control
     pub allowed : command_fault sent.control sent.command ≡ None
-    pub write : sent.write ≡ write_of sent.control sent.command
+    pub process : ℕ
+    pub write : sent.write ≡ write_of sent.control process sent.command
 
   pub control_grows : (given : Given) (more log : List (Transaction Q P)) (control : StoreControl)
       → IsGoodControl given log control → IsGoodControl given (more ++ log) control
@@ -65,14 +68,15 @@ module _ {Q P : Type 0} where
   command_grows given more log sent good = record {
     by = control_grows given more log sent.control good.by;
     allowed = good.allowed;
+    process = good.process;
     write = good.write;
   }
 
   -- a command that was judged may be sent by the charter
   pub sent_may : (parts : List (Item Q) → List P) (given : Given) (log : List (Transaction Q P))
-      (sent : SentCommand) → IsGoodCommand given log sent
+      (sent : SentCommand) → (good : IsGoodCommand given log sent)
       → MaySend (charter_of (rows_of sent.control.desk.books) sent.control.desk.caps sent.control.ceiling parts) log
-      (command_transaction (sending_of sent.control (write_of sent.control sent.command)))
+      (command_transaction (sending_of sent.control (write_of sent.control good.process sent.command)))
       → MaySend (charter_of (rows_of (first_books given.rows)) given.caps given.ceiling parts) log (command_sent sent)
   sent_may parts given log sent good may =
       let control = sent.control in
@@ -80,25 +84,26 @@ module _ {Q P : Type 0} where
       subst (λ (write : CommandWrite). MaySend (charter_of first given.caps given.ceiling parts) log
       (command_transaction (sending_of control write))) (sym good.write)
       (subst (λ (ceiling : ℕ). MaySend (charter_of first given.caps ceiling parts) log
-      (command_transaction (sending_of control (write_of control sent.command)))) good.by.ceiling
+      (command_transaction (sending_of control (write_of control good.process sent.command)))) good.by.ceiling
       (subst (λ (caps : RestartCaps). MaySend (charter_of first caps control.ceiling parts) log
-      (command_transaction (sending_of control (write_of control sent.command)))) good.by.rows.caps
+      (command_transaction (sending_of control (write_of control good.process sent.command)))) good.by.rows.caps
       (subst (λ (rows : SettingsRows). MaySend (charter_of rows control.desk.caps control.ceiling parts) log
-      (command_transaction (sending_of control (write_of control sent.command)))) good.by.rows.rows may)))
+      (command_transaction (sending_of control (write_of control good.process sent.command)))) good.by.rows.rows may)))
 
   -- the control that sent a command knows the store once it is told that this was made
   pub left_knows : (charter : Charter Q P) (given : Given) (log : List (Transaction Q P)) (sent : SentCommand)
-      (revision : ℕ) (new : StoreControl)
+      (revision : ℕ) (new : StoreControl) (good : IsGoodCommand given log sent)
       → ((desk : DeskView) (command : Command) → AreSound desk.books → desk_fault desk command ≡ None
       → AreSound (commanded desk command).books)
       → HasRowsOf sent.control.desk new.desk
-      → (IsAfter sent.control sent.command (write_of sent.control sent.command) revision new
+      → (IsAfter sent.control sent.command (write_of sent.control good.process sent.command) revision new
       → CommandWasMade log
-      (command_transaction {Q = Q} {P = P} (sending_of sent.control (write_of sent.control sent.command))) revision
+      (command_transaction {Q = Q} {P = P} (sending_of sent.control (write_of sent.control good.process sent.command)))
+      revision
       → KnowsStore log new)
-      → IsGoodCommand given log sent → CommandWasMade log (command_sent {Q = Q} {P = P} sent) revision
+      → CommandWasMade log (command_sent {Q = Q} {P = P} sent) revision
       → IsAfter sent.control sent.command sent.write revision new → IsGoodControl given log new
-  left_knows charter given log sent revision new keeps rows known good made after =
+  left_knows charter given log sent revision new good keeps rows known made after =
       let control = sent.control in
       let command = sent.command in
       record {

@@ -28,7 +28,7 @@ module _ {Q P : Type 0} (charter : Charter Q P) where
   by_deed past (Electing process) right = (tt, tt)
   by_deed past (Expiring keys) right = (tt, tt)
   by_deed past (Changing process shard change next elected placed) right = (tt, (tt, tt))
-  by_deed past (Restarting process server state elected placed) right = (tt, (tt, tt))
+  by_deed past (Restarting process server run elected placed) right = (tt, (tt, tt))
   by_deed past (Settling settings) right = (tt, tt)
   by_deed past (Executing shard server items head stood logged) right = (
     tt,

@@ -4,7 +4,6 @@ use Rattle.std.proofs.Common.{◌∙◌}
 use Rattle.std.specs.Prelude.{IfSome, if◌then◌else◌}
 use Rattle.std.specs.List.{AllByRecursion}
 use Rattle.std.proofs.lemmas.Bool.{true≢false}
-use Rattle.sm_place.specs.declared.server_state.ServerState.{ServerState}
 use Rattle.sm_place.specs.Books.{new_books}
 use Rattle.sm_place.specs.Sound.{AreSound}
 use Rattle.sm_rows.specs.declared.domain_row.DomainRow.{DomainRow}
@@ -15,6 +14,7 @@ use Rattle.sm_tasks.specs.Caps.{MeetsCaps, RestartCaps}
 use Rattle.sm_desk.specs.declared.command.Command.{Command}
 use Rattle.sm_desk.specs.Desk.{DeskView, commanded, desk_fault}
 use Rattle.sm_store.specs.declared.item.Item.{Item}
+use Rattle.sm_store.specs.declared.server_run.ServerRun.{ServerRun}
 use Rattle.sm_store.specs.Clients.{Automaton}
 use Rattle.sm_store.specs.Deeds.{AreRight, Charter, Deed, Electing, Expiring, Changing, Restarting, Settling}
 use Rattle.sm_store.specs.Deeds.{Executing, Basing, Naming, Clearing, Following, Checking, Foreign, MaySend}
@@ -36,7 +36,7 @@ use Rattle.sm_lead.specs.declared.sent_command.SendOutcome.{SendOutcome}
 use Rattle.sm_lead.specs.declared.sent_command.SendOutcome.TheVariants.{Made, Lost, Unknown}
 use Rattle.sm_lead.specs.declared.sent_command.SentCommand.{SentCommand}
 use Rattle.sm_lead.specs.declared.store_control.StoreControl.{StoreControl}
-use Rattle.sm_lead.specs.Commands.{IsAfter, command_fault, write_of}
+use Rattle.sm_lead.specs.Commands.{IsAfter, command_fault, may_name, write_of}
 use Rattle.sm_lead.specs.Controls.{CommandWasMade, IsLoaded, IsReadOf, KnowsStore}
 use Rattle.sm_lead.specs.Placements.{HasRowsOf, books_in, charter_of, rows_of}
 use Rattle.sm_lead.specs.Sendings.{command_transaction, sending_of}
@@ -55,21 +55,23 @@ pub record ControlLaws (Q R : Type 0) : Type 0 where
   pub rows : (control new : StoreControl) (command : Command) (write : CommandWrite) (revision : ℕ)
       → IsAfter control command write revision new → HasRowsOf control.desk new.desk
   pub reading : (log : StoreLog Q R) (desk : DeskView) (lead : Leadership) (ceiling : ℕ)
-      (reads : List RecordRead) (states : List ServerState) (placed : ℕ) (control : StoreControl)
-      → AreSound control.desk.books → IsLoaded desk lead ceiling reads states placed control
-      → IsReadOf log desk lead reads states placed → KnowsStore log control
+      (reads : List RecordRead) (runs : List ServerRun) (placed : ℕ) (control : StoreControl)
+      → AreSound control.desk.books → IsLoaded desk lead ceiling reads runs placed control
+      → IsReadOf log desk lead reads runs placed → KnowsStore log control
   pub sending : (parts : List (Item Q) → List (Part R)) (log : StoreLog Q R) (control : StoreControl)
-      (acks : List AckRead) (command : Command) → AreSound control.desk.books → KnowsStore log control
+      (acks : List AckRead) (process : ℕ) (command : Command) → AreSound control.desk.books → KnowsStore log control
       → AreAcksMade log acks → command_fault control command ≡ None → has_waited control acks command ≡ true
+      → may_name control (write_of control process command) ≡ true
       → MaySend (charter_of (rows_of control.desk.books) control.desk.caps control.ceiling parts) log
-      (command_transaction (sending_of control (write_of control command)))
-  pub outcome : (charter : Charter Q (Part R)) (log : StoreLog Q R) (control new : StoreControl) (command : Command)
-      (revision : ℕ) → AreRight charter log → AreSound control.desk.books → KnowsStore log control
-      → command_fault control command ≡ None
-      → CommandWasMade log (command_transaction (sending_of control (write_of control command))) revision
-      → IsAfter control command (write_of control command) revision new → KnowsStore log new
-  pub asks : (asked : List (Ask Q)) (control : StoreControl) (command : Command) (txn : Transaction Q (Part R))
-      → txn ≡ command_transaction (sending_of control (write_of control command)) → AsksFor asked txn
+      (command_transaction (sending_of control (write_of control process command)))
+  pub outcome : (charter : Charter Q (Part R)) (log : StoreLog Q R) (control new : StoreControl) (process : ℕ)
+      (command : Command) (revision : ℕ) → AreRight charter log → AreSound control.desk.books
+      → KnowsStore log control → command_fault control command ≡ None
+      → CommandWasMade log (command_transaction (sending_of control (write_of control process command))) revision
+      → IsAfter control command (write_of control process command) revision new → KnowsStore log new
+  pub asks : (asked : List (Ask Q)) (control : StoreControl) (process : ℕ) (command : Command)
+      (txn : Transaction Q (Part R))
+      → txn ≡ command_transaction (sending_of control (write_of control process command)) → AsksFor asked txn
   pub caps : (servers : List ServerRow) (groups : List GroupRow) (shards : List ShardRow) (domains : List DomainRow)
       (caps : RestartCaps) (ceiling : ℕ) (parts : List (Item Q) → List (Part R)) (log : StoreLog Q R)
       → AreSound (new_books servers groups shards domains)
@@ -107,7 +109,7 @@ module _ {Q P : Type 0} (asked : List (Ask Q)) where
   world_asks (Checking compares) so = λ shard. tt
   world_asks Foreign so = λ shard. tt
   world_asks (Changing process shard change next elected placed) so = absurd (true≢false (sym so))
-  world_asks (Restarting process server state elected placed) so = absurd (true≢false (sym so))
+  world_asks (Restarting process server run elected placed) so = absurd (true≢false (sym so))
   world_asks (Executing shard server items head stood logged) so = absurd (true≢false (sym so))
   world_asks (Basing shard number place part) so = absurd (true≢false (sym so))
   world_asks (Naming shard head number parts logged) so = absurd (true≢false (sym so))
@@ -118,10 +120,10 @@ module _ {M Q R : Type 0} where
   pub fleet_is : (acts : List (WholeAct M Q R)) → (whole_after acts).fleet ≡ fleet_after (fleet_acts acts)
   fleet_is [] = refl
   fleet_is (Serves act ∷ acts) = ap (λ (fleet : Fleet M Q R). fleet_acted fleet act) (fleet_is acts)
-  fleet_is (Loads lead reads states placed control ∷ acts) = fleet_is acts
-  fleet_is (Judges control acks command (Sent sent) ∷ acts) =
+  fleet_is (Loads lead reads runs placed control ∷ acts) = fleet_is acts
+  fleet_is (Judges control acks process command (Sent sent) ∷ acts) =
       ap (λ (fleet : Fleet M Q R). fleet_acted fleet (Otherwise (Sends (command_sent sent)))) (fleet_is acts)
-  fleet_is (Judges control acks command (Refused kept fault) ∷ acts) = fleet_is acts
+  fleet_is (Judges control acks process command (Refused kept fault) ∷ acts) = fleet_is acts
   fleet_is (Hears sent outcome left ∷ acts) = fleet_is acts
 
   fleet_grows : (fleet : Fleet M Q R) (act : Act M Q R)
@@ -181,11 +183,11 @@ module _ {M Q R : Type 0} (service : Automaton M Q R) (given : Given) where
       → IsConcluded sent outcome left → IfSome left (IsGoodControl given log)
   left_good laws log right sent good (Made revision) None told left = tt
   left_good laws log right sent good (Made revision) (Some new) told left =
-      left_knows charter given log sent revision new laws.sound
+      left_knows charter given log sent revision new good laws.sound
       (laws.rows sent.control new sent.command sent.write revision left)
-      (λ after made. laws.outcome charter log sent.control new sent.command revision right good.by.sound good.by.knows
-      good.allowed made after)
-      good told left
+      (λ after made. laws.outcome charter log sent.control new good.process sent.command revision right good.by.sound
+      good.by.knows good.allowed made after)
+      told left
   left_good laws log right sent good Lost left told is =
       subst (λ (o : Option StoreControl). IfSome o (IsGoodControl given log)) (sym is) tt
   left_good laws log right sent good Unknown left told is =
@@ -208,14 +210,14 @@ module _ {M Q R : Type 0} (service : Automaton M Q R) (given : Given) where
         commands = commands_grow log (fleet_acted whole.fleet act).system.log grown.0 grown.1 whole.commands
             run.commands;
       }
-  run_acts laws fleets acts (Loads lead reads states placed control) run may =
+  run_acts laws fleets acts (Loads lead reads runs placed control) run may =
       let log = (whole_after acts).fleet.system.log in
       let loaded = may.1 in
       record {
         might = run.might;
         controls = (
           record {
-            knows = laws.reading log (desk_given given) lead given.ceiling reads states placed control may.0 loaded
+            knows = laws.reading log (desk_given given) lead given.ceiling reads runs placed control may.0 loaded
                 may.2;
             sound = may.0;
             rows = loaded.rows;
@@ -225,25 +227,29 @@ module _ {M Q R : Type 0} (service : Automaton M Q R) (given : Given) where
         );
         commands = run.commands;
       }
-  run_acts laws fleets acts (Judges control acks command (Sent sent)) run may =
+  run_acts laws fleets acts (Judges control acks process command (Sent sent)) run may =
       let whole = whole_after acts in
       let log = whole.fleet.system.log in
       let good : IsGoodControl given log control =
       all_among (IsGoodControl given log) whole.controls control run.controls may.0 in
-      let judged = may.3 in
+      let judged = may.4 in
       let mine : IsGoodCommand given log sent = record {
         by = subst (IsGoodControl given log) (sym judged.1) good;
         allowed = subst (λ (c : StoreControl). command_fault c sent.command ≡ None) (sym judged.1)
             (subst (λ (c : Command). command_fault control c ≡ None) (sym judged.2) judged.0);
+        process = process;
         write = judged.3
-            ∙ ap (λ (c : StoreControl). write_of c command) (sym judged.1)
-            ∙ ap (λ (c : Command). write_of sent.control c) (sym judged.2);
+            ∙ ap (λ (c : StoreControl). write_of c process command) (sym judged.1)
+            ∙ ap (λ (c : Command). write_of sent.control process c) (sym judged.2);
       } in
       let sends : MaySend charter log (command_sent sent) =
       sent_may (base_of service) given log sent mine
-      (laws.sending (base_of service) log sent.control acks sent.command mine.by.sound mine.by.knows may.1 mine.allowed
+      (laws.sending (base_of service) log sent.control acks process sent.command mine.by.sound mine.by.knows may.1
+      mine.allowed
       (subst (λ (c : StoreControl). has_waited c acks sent.command ≡ true) (sym judged.1)
-      (subst (λ (c : Command). has_waited control acks c ≡ true) (sym judged.2) may.2))) in
+      (subst (λ (c : Command). has_waited control acks c ≡ true) (sym judged.2) may.2))
+      (subst (λ (c : StoreControl). may_name c (write_of c process sent.command) ≡ true) (sym judged.1)
+      (subst (λ (c : Command). may_name control (write_of control process c) ≡ true) (sym judged.2) may.3))) in
       record {
         might = (
           subst (λ (fleet : Fleet M Q R). MaySend charter fleet.system.log (command_sent sent)) (fleet_is acts) sends,
@@ -252,7 +258,7 @@ module _ {M Q R : Type 0} (service : Automaton M Q R) (given : Given) where
         controls = run.controls;
         commands = (mine, run.commands);
       }
-  run_acts laws fleets acts (Judges control acks command (Refused kept fault)) run may = record {
+  run_acts laws fleets acts (Judges control acks process command (Refused kept fault)) run may = record {
     might = run.might;
     controls = run.controls;
     commands = run.commands;
@@ -303,15 +309,16 @@ module _ {M Q R : Type 0} (service : Automaton M Q R) (given : Given) where
         (act_asks (whole_after acts).fleet act run.0 asked.0),
     all_ask laws acts run.1 asked.1,
   )
-  all_ask laws (Loads lead reads states placed control ∷ acts) run asked = all_ask laws acts run.1 asked
-  all_ask laws (Judges control acks command (Sent sent) ∷ acts) run asked =
-      let judged = run.0.3 in (
-        laws.asks (fleet_after (fleet_acts acts)).system.asked control command (command_sent sent)
+  all_ask laws (Loads lead reads runs placed control ∷ acts) run asked = all_ask laws acts run.1 asked
+  all_ask laws (Judges control acks process command (Sent sent) ∷ acts) run asked =
+      let judged = run.0.4 in (
+        laws.asks (fleet_after (fleet_acts acts)).system.asked control process command (command_sent sent)
             (ap (λ (c : StoreControl). command_transaction (sending_of c sent.write)) judged.1
             ∙ ap (λ (w : CommandWrite). command_transaction (sending_of control w)) judged.3),
         all_ask laws acts run.1 asked,
       )
-  all_ask laws (Judges control acks command (Refused kept fault) ∷ acts) run asked = all_ask laws acts run.1 asked
+  all_ask laws (Judges control acks process command (Refused kept fault) ∷ acts) run asked =
+      all_ask laws acts run.1 asked
   all_ask laws (Hears sent outcome left ∷ acts) run asked = all_ask laws acts run.1 asked
 
   -- what holds of all runs of servers holds with controls

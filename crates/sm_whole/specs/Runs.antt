@@ -3,12 +3,12 @@
 use Rattle.std.specs.Prelude.{ℕ, Bool, true, false, Option, Some, None, IfSome, IsTrue, ◌≡◌, List, [], ◌∷◌}
 use Rattle.std.specs.List.{AllByRecursion}
 use Rattle.sm_ownership.specs.Rules.{executor}
-use Rattle.sm_place.specs.declared.server_state.ServerState.{ServerState}
 use Rattle.sm_place.specs.Books.{BooksView, new_books}
 use Rattle.sm_place.specs.Sound.{AreSound}
 use Rattle.sm_tasks.specs.Caps.{RestartCaps}
 use Rattle.sm_desk.specs.declared.command.Command.{Command}
 use Rattle.sm_desk.specs.Desk.{DeskView}
+use Rattle.sm_store.specs.declared.server_run.ServerRun.{ServerRun}
 use Rattle.sm_store.specs.Clients.{Automaton}
 use Rattle.sm_store.specs.Deeds.{Charter, Deed, MayDo, transaction_of}
 use Rattle.sm_store.specs.Deeds.{Electing, Expiring, Settling, Following, Checking, Foreign}
@@ -26,7 +26,7 @@ use Rattle.sm_lead.specs.declared.sent_command.SendOutcome.{SendOutcome}
 use Rattle.sm_lead.specs.declared.sent_command.SendOutcome.TheVariants.{Made, Lost, Unknown}
 use Rattle.sm_lead.specs.declared.sent_command.SentCommand.{SentCommand}
 use Rattle.sm_lead.specs.declared.store_control.StoreControl.{StoreControl}
-use Rattle.sm_lead.specs.Commands.{IsAfter}
+use Rattle.sm_lead.specs.Commands.{IsAfter, may_name, write_of}
 use Rattle.sm_lead.specs.Controls.{CommandWasMade, IsLoaded, IsReadOf}
 use Rattle.sm_lead.specs.Placements.{SettingsRows, charter_of, rows_of}
 use Rattle.sm_lead.specs.Sendings.{IsJudged, command_transaction, sending_of}
@@ -63,10 +63,12 @@ pub data WholeAct (M Q R : Type 0) : Type 0 where
   -- a server starts or makes a step, or something happens around them
   Serves : (act : Act M Q R) → WholeAct M Q R
   -- a control is made of what was read
-  Loads : (lead : Leadership) (reads : List RecordRead) (states : List ServerState) (placed : ℕ)
+  Loads : (lead : Leadership) (reads : List RecordRead) (runs : List ServerRun) (placed : ℕ)
       (control : StoreControl) → WholeAct M Q R
-  -- a control that has read these acks judges a command, and sends it or refuses it
-  Judges : (control : StoreControl) (acks : List AckRead) (command : Command) (judged : Judged) → WholeAct M Q R
+  -- a control that has read these acks judges a command, where this process runs the server that it names, and sends it
+  -- or refuses it
+  Judges : (control : StoreControl) (acks : List AckRead) (process : ℕ) (command : Command) (judged : Judged)
+      → WholeAct M Q R
   -- a control is told what became of its command, and is left with what it knows then, if anything
   Hears : (sent : SentCommand) (outcome : SendOutcome) (left : Option StoreControl) → WholeAct M Q R
 
@@ -83,15 +85,15 @@ with_left (Some control) controls = control ∷ controls
 abbrev pub whole_acted : {M Q R : Type 0} → Whole M Q R → WholeAct M Q R → Whole M Q R
 whole_acted whole (Serves act) =
     record { fleet = fleet_acted whole.fleet act; controls = whole.controls; commands = whole.commands }
-whole_acted whole (Loads lead reads states placed control) =
+whole_acted whole (Loads lead reads runs placed control) =
     record { fleet = whole.fleet; controls = control ∷ whole.controls; commands = whole.commands }
-whole_acted whole (Judges control acks command (Sent sent)) =
+whole_acted whole (Judges control acks process command (Sent sent)) =
     record {
       fleet = fleet_acted whole.fleet (Otherwise (Sends (command_sent sent)));
       controls = whole.controls;
       commands = sent ∷ whole.commands;
     }
-whole_acted whole (Judges control acks command (Refused kept fault)) = whole
+whole_acted whole (Judges control acks process command (Refused kept fault)) = whole
 whole_acted whole (Hears sent outcome left) =
     record { fleet = whole.fleet; controls = with_left left whole.controls; commands = whole.commands }
 
@@ -141,16 +143,18 @@ IsConcluded sent Lost left = left ≡ None
 IsConcluded sent Unknown left = left ≡ None
 
 -- it may happen: a server acts as it may, a control is made of what stood in the store at one moment, judges a command
--- as its contract says, once whoever it waits for has let go by acks that were made, or goes on from what it is told
+-- as its contract says, of a process that may be named, once whoever it waits for has let go by acks that were made, or
+-- goes on from what it is told
 abbrev pub MayBeActed : {M Q R : Type 0} → Automaton M Q R → Given → Whole M Q R → WholeAct M Q R → Type 0
 MayBeActed service given whole (Serves act) = MayServe service (charter_given service given) whole.fleet act
-MayBeActed service given whole (Loads lead reads states placed control) =
+MayBeActed service given whole (Loads lead reads runs placed control) =
     AreSound control.desk.books
-    × IsLoaded (desk_given given) lead given.ceiling reads states placed control
-    × IsReadOf whole.fleet.system.log (desk_given given) lead reads states placed
-MayBeActed service given whole (Judges control acks command judged) =
+    × IsLoaded (desk_given given) lead given.ceiling reads runs placed control
+    × IsReadOf whole.fleet.system.log (desk_given given) lead reads runs placed
+MayBeActed service given whole (Judges control acks process command judged) =
     IsAmong control whole.controls × AreAcksMade whole.fleet.system.log acks
-    × (has_waited control acks command ≡ true) × IsJudged control command judged
+    × (has_waited control acks command ≡ true) × (may_name control (write_of control process command) ≡ true)
+    × IsJudged control process command judged
 MayBeActed service given whole (Hears sent outcome left) =
     IsAmong sent whole.commands × IsToldSo whole.fleet.system.log sent outcome × IsConcluded sent outcome left
 
@@ -168,7 +172,7 @@ IsRun service given (act ∷ earlier) = MayBeActed service given (whole_after ea
 abbrev pub fleet_acts : {M Q R : Type 0} → List (WholeAct M Q R) → List (Act M Q R)
 fleet_acts [] = []
 fleet_acts (Serves act ∷ earlier) = act ∷ fleet_acts earlier
-fleet_acts (Judges control acks command (Sent sent) ∷ earlier) =
+fleet_acts (Judges control acks process command (Sent sent) ∷ earlier) =
     Otherwise (Sends (command_sent sent)) ∷ fleet_acts earlier
 fleet_acts (_ ∷ earlier) = fleet_acts earlier
 

@@ -2,7 +2,9 @@
 //! `sm_shard::step`, or of `sm_lead::StoreControl`, as here.
 //!
 //! ```rust
-//! let Judged::Sent(sent) = control.command(Command::Change(shard, Change::Assign(one))) else {
+//! let assign = Command::Change(shard, Change::Assign(one));
+//! assert!(rt; control.has_waited(&[], &assign));
+//! let Judged::Sent(sent) = control.command(0, assign) else {
 //!     return;
 //! };
 //! let control = sent.outcome(SendOutcome::Made(2)).expect(&rt, "made");

@@ -4,7 +4,7 @@ mod intents;
 use crate::command::{ControlCommand, Next, Subject};
 use crate::plan::planned;
 use crate::proved::{CommandTransaction, Director};
-use crate::{keys, CoreFault, Durable, Live, Refused, ServerState};
+use crate::{keys, process, CoreFault, Durable, Live, Refused, ServerRun, ServerState};
 use durkenzo::{word, Plan, Record, Stand};
 use durkenzo_store::{Outcome, Reading, Revision, Transaction, WriteError};
 use std::fmt;
@@ -257,7 +257,8 @@ impl DurableControl {
             if let Subject::Shard(shard) = command.subject() {
                 self.hear_acks(shard)?;
             }
-            self.director.command(command).map_err(Refused::of)?;
+            let runs = self.process_of(command)?;
+            self.director.command(command, runs).map_err(Refused::of)?;
             let sending = self.director.sending().map_err(Refused::of)?;
             let (number, is_state, absent) = (sending.number, sending.is_state, sending.absent);
             let sent = (sending.key(), sending.written.clone());
@@ -399,8 +400,32 @@ impl DurableControl {
 
     /// Returns how far the server's restart has come.
     pub fn state_of(&mut self, server: u16) -> Result<ServerState, Refused> {
+        Ok(self.run_of(server)?.state)
+    }
+
+    /// Returns how far the server's restart has come, and of which process of the server that is said.
+    pub fn run_of(&mut self, server: u16) -> Result<ServerRun, Refused> {
         self.catch_up()?;
-        self.director.state_of(server).map_err(Refused::of)
+        self.director.run_of(server).map_err(Refused::of)
+    }
+
+    /// The process that runs the server of the command, as it was seen last; 0 if none was. If this process has all
+    /// servers it runs them: one that was stopped begins anew under a number that no process has.
+    fn process_of(&mut self, command: ControlCommand) -> Result<u64, Refused> {
+        let Subject::Server(server) = command.subject() else {
+            return Ok(0);
+        };
+        if let Some(member) = self.durable.member() {
+            let members = member.members();
+            return Ok(members.get(&server).map_or(0, |it| it.process));
+        }
+        let own = self.durable.process();
+        let run = self.director.run_of(server).map_err(Refused::of)?;
+        let is_stopped = run.state == ServerState::Stopped && run.process >= own;
+        match command {
+            ControlCommand::Back(_) if is_stopped => Ok(process::begin(&**self.durable.store())?),
+            _ => Ok(own),
+        }
     }
 }
 

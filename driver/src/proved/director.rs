@@ -1,5 +1,5 @@
 use crate::command::{ControlCommand, Next};
-use crate::{keys, CoreFault, ServerState};
+use crate::{keys, CoreFault, ServerRun, ServerState};
 use durkenzo::word;
 use durkenzo_store::Revision;
 use durkenzo_store_sys::{self as sys, Code, DirectorStep};
@@ -66,12 +66,12 @@ impl Director {
         Ok(self.control.read(placed.0)?)
     }
 
-    /// Judges the command: it is to be sent, or refused by the first fault that applies.
-    pub(crate) fn command(&mut self, command: ControlCommand) -> Result<(), CoreFault> {
+    /// Judges the command, where this process runs the server that it names, 0 if none was seen: it is to be sent, or
+    /// refused by the first fault that applies.
+    pub(crate) fn command(&mut self, command: ControlCommand, runs: u64) -> Result<(), CoreFault> {
         let (kind, shard, server) = command.parts();
-        Ok(self
-            .control
-            .command(DirectorStep::of_shard(kind, shard, server))?)
+        let step = DirectorStep::of_shard(kind, shard, server);
+        Ok(self.control.command(step, runs)?)
     }
 
     /// What is sent.
@@ -160,10 +160,11 @@ impl Director {
         Ok(self.control.record_of(shard)?.0)
     }
 
-    /// How far the server's restart has come.
-    pub(crate) fn state_of(&mut self, server: u16) -> Result<ServerState, CoreFault> {
-        let number = self.control.state_of(server)?;
-        ServerState::of_number(number).ok_or(CoreFault(Code::BAD_ARGUMENT))
+    /// How far the server's restart has come, and of which process that is said.
+    pub(crate) fn run_of(&mut self, server: u16) -> Result<ServerRun, CoreFault> {
+        let (number, process) = self.control.state_of(server)?;
+        let state = ServerState::of_number(number).ok_or(CoreFault(Code::BAD_ARGUMENT))?;
+        Ok(ServerRun { state, process })
     }
 }
 

@@ -87,7 +87,7 @@ fn accepted(director: &mut Director, record: &[u8]) -> Result<(), String> {
         format!("{word} is {again:?} elsewhere")
     })?;
     for server in [1, 2] {
-        let state = director.state_of(server).map_err(|it| it.to_string())?;
+        let (state, _) = director.state_of(server).map_err(|it| it.to_string())?;
         holds(state <= 4, || format!("server {server} has state {state}"))?;
         director
             .next_of_server(server)
@@ -96,7 +96,7 @@ fn accepted(director: &mut Director, record: &[u8]) -> Result<(), String> {
     let next = director.next_of_shard(0).map_err(|it| it.to_string())?;
     if next.is_command() {
         director
-            .command(next)
+            .command(next, 0)
             .map_err(|it| format!("{next:?} is refused: {it:?}"))?;
         director.sending().map_err(|it| it.to_string())?;
     }

@@ -5,7 +5,7 @@ use sm_codec::{
 use sm_ownership::{Mode, Record};
 use sm_place::ServerState;
 use sm_ranges::{ServerId, Stand};
-use sm_store::{Head, Item};
+use sm_store::{Head, Item, ServerRun};
 use std::process::Abort;
 
 // The example of the crate's documentation.
@@ -77,14 +77,23 @@ fn lets_no_bytes_stand(rt: HostRuntime) {
 
 #[test]
 fn reads_a_state_again(rt: HostRuntime) {
-    let stored = StoredState {
-        state: ServerState::Failed,
+    let mut stored = StoredState {
+        run: ServerRun {
+            state: ServerState::Failed,
+            process: 9,
+        },
         process: 7,
     };
     let mut bytes = write_state(rt.alloc(), &stored).expect(&rt, "memory");
     assert!(rt; matches!(read_state(&bytes), Ok(found) if found == stored));
     bytes[8] = 5;
     assert!(rt; matches!(read_state(&bytes), Err(ReadError::Fault(Fault::State))));
+    // Version 1 names no process of the server.
+    bytes[0] = 1;
+    bytes[8] = 4;
+    bytes.truncate(17);
+    stored.run.process = 0;
+    assert!(rt; matches!(read_state(&bytes), Ok(found) if found == stored));
 }
 
 #[test]

@@ -7,6 +7,7 @@ use sm_ownership::{Change, Record};
 use sm_place::{Books, ServerState};
 use sm_ranges::{ServerId, ShardId, Stand};
 use sm_rows::{GroupRow, ServerRow, ShardRow, equal_domains};
+use sm_store::ServerRun;
 use sm_tasks::{RestartFault, Tasks};
 use std::alloc::Global;
 use std::process::Abort;
@@ -15,7 +16,9 @@ use std::process::Abort;
 #[derive(Drop)]
 struct MemoryStore {
     records: [RecordRead; 4],
-    states: [ServerState; 3],
+    runs: [ServerRun; 3],
+    // The process that runs each server.
+    processes: [u64; 3],
     // Whether servers' keys are there.
     live: [bool; 3],
     elected: u64,
@@ -36,7 +39,8 @@ impl MemoryStore {
         };
         MemoryStore {
             records: [unwritten; 4],
-            states: [ServerState::Up; 3],
+            runs: [in_state(ServerState::Up); 3],
+            processes: [1, 2, 3],
             live: [false; 3],
             elected: 0,
             placed: 0,
@@ -63,11 +67,28 @@ impl MemoryStore {
                     stood: self.revision,
                 };
             }
-            CommandWrite::State { server, state } => {
-                self.states[usize::from(server.number()) - 1] = state;
+            CommandWrite::State { server, run } => {
+                self.runs[usize::from(server.number()) - 1] = run;
             }
         }
         SendOutcome::Made(self.revision)
+    }
+
+    // The state of the server of this place.
+    fn state(&self, place: usize) -> ServerState {
+        self.runs[place].state
+    }
+
+    // The process that runs the server that the command names.
+    fn process_of(&self, command: &Command) -> u64 {
+        match command {
+            Command::Change(..) => 0,
+            Command::Ask(server)
+            | Command::Approve(server)
+            | Command::Stopped(server)
+            | Command::Back(server)
+            | Command::Fail(server) => self.processes[usize::from(server.number()) - 1],
+        }
     }
 
     // A control is elected, and reads.
@@ -86,11 +107,16 @@ impl MemoryStore {
             lead,
             100,
             records,
-            &self.states,
+            Vec::from_slice(alloc, &self.runs).expect(rt, "memory"),
             self.placed,
         );
         read.ok().expect(rt, "a control")
     }
+}
+
+// A server in this state, which names no process.
+pub fn in_state(state: ServerState) -> ServerRun {
+    ServerRun { state, process: 0 }
 }
 
 // The desk of the settings: each server takes three shards, one server may be leaving, and one shard may be down.
@@ -123,7 +149,10 @@ fn made(
     control: StoreControl,
     command: Command,
 ) -> StoreControl {
-    match control.command(command) {
+    let process = store.process_of(&command);
+    let is_named = control.may_name(process, &command);
+    assert!(rt; is_named);
+    match control.command(process, command) {
         Judged::Sent(sent) => {
             let outcome = store.make(&sent.sending());
             sent.outcome(outcome).expect(rt, "a command that is made")
@@ -164,12 +193,14 @@ fn followers(revision: u64) -> [Follower; 3] {
 fn sends_a_change(rt: HostRuntime) {
     let (one, shard) = (ServerId::of(1), shard(&rt, 0));
     let store = MemoryStore::new();
-    let (desk, states) = (desk(&rt, rt.alloc()), store.states);
+    let desk = desk(&rt, rt.alloc());
     let records = Vec::from_slice(rt.alloc(), &store.records).expect(&rt, "memory");
+    let runs = Vec::from_slice(rt.alloc(), &store.runs).expect(&rt, "memory");
     let lead = Leadership::new(7, 5).expect(&rt, "a revision");
-    let read = StoreControl::read(desk, lead, 100, records, &states, 4);
+    let read = StoreControl::read(desk, lead, 100, records, runs, 4);
     let control = read.ok().expect(&rt, "a control");
-    let Judged::Sent(sent) = control.command(Command::Change(shard, Change::Assign(one))) else {
+    let assign = Command::Change(shard, Change::Assign(one));
+    let Judged::Sent(sent) = control.command(0, assign) else {
         return;
     };
     assert!(rt; sent.sending().elected == 5);
@@ -228,7 +259,7 @@ fn migrates_across_leaders(rt: HostRuntime) {
 
     // The old leader goes on although another one was elected: its command isn't made, so it reads again.
     let control = store.elect(&rt, rt.alloc(), 8);
-    let Judged::Sent(late) = old.command(Command::Change(k, Change::AddShard)) else {
+    let Judged::Sent(late) = old.command(0, Command::Change(k, Change::AddShard)) else {
         return;
     };
     let outcome = store.make(&late.sending());
@@ -257,7 +288,7 @@ fn reads_after_an_unknown_outcome(rt: HostRuntime) {
     let mut store = MemoryStore::new();
     let control = store.elect(&rt, rt.alloc(), 7);
     let assign = Command::Change(k, Change::Assign(one));
-    let Judged::Sent(sent) = control.command(assign) else {
+    let Judged::Sent(sent) = control.command(0, assign) else {
         return;
     };
     assert!(rt; store.make(&sent.sending()) == SendOutcome::Made(2));
@@ -267,7 +298,7 @@ fn reads_after_an_unknown_outcome(rt: HostRuntime) {
     let control = store.read(&rt, rt.alloc(), 7);
     assert!(rt;
         matches!(
-            control.command(assign),
+            control.command(0, assign),
             Judged::Refused(_, CommandFault::Change(_))
         )
     );
@@ -289,7 +320,8 @@ fn restarts_under_caps(rt: HostRuntime) {
     control = taken(&rt, &mut store, control, step);
     control = made(&rt, &mut store, control, Command::Ask(one));
     assert!(rt; control.next_of_server(one) == NextStep::Waits);
-    let Judged::Refused(_, fault) = control.command(Command::Approve(one)) else {
+    assert!(rt; control.may_name(1, &Command::Approve(one)));
+    let Judged::Refused(_, fault) = control.command(1, Command::Approve(one)) else {
         return;
     };
     assert!(rt; fault == CommandFault::Restart(RestartFault::GlobalCap));
@@ -313,9 +345,15 @@ fn restarts_under_caps(rt: HostRuntime) {
     assert!(rt; store.records[3].state.stand == Stand::Serving(ServerId::of(3)));
     let step = control.next_of_server(two);
     control = taken(&rt, &mut store, control, step);
-    assert!(rt; store.states[1] == ServerState::Stopped);
-    control = made(&rt, &mut store, control, Command::Back(two));
+    assert!(rt; store.state(1) == ServerState::Stopped);
+    assert!(rt; control.process_of(two) == 2);
+    // A leader that has just begun tells the process that was stopped from the one after it.
+    let control = store.elect(&rt, rt.alloc(), 9);
+    assert!(rt; !control.may_name(2, &Command::Back(two)));
+    store.processes[1] = 10;
+    let control = made(&rt, &mut store, control, Command::Back(two));
     assert!(rt; control.next_of_server(two) == NextStep::Nothing);
+    assert!(rt; control.process_of(two) == 10);
 }
 
 // A server whose lease ended is said to have failed, and what it owned goes to others.
@@ -351,7 +389,8 @@ fn fails_no_server_that_is_back(rt: HostRuntime) {
     let control = store.elect(&rt, rt.alloc(), 7);
     assert!(rt; control.fallen_server(&followers(0)[1..]) == Some(one));
     store.live = [true; 3];
-    let Judged::Sent(sent) = control.command(Command::Fail(one)) else {
+    assert!(rt; control.may_name(0, &Command::Fail(one)));
+    let Judged::Sent(sent) = control.command(0, Command::Fail(one)) else {
         return;
     };
     assert!(rt; sent.sending().absent == Some(one));
@@ -362,7 +401,7 @@ fn fails_no_server_that_is_back(rt: HostRuntime) {
     let control = made(&rt, &mut store, control, Command::Ask(one));
     store.live[0] = false;
     made(&rt, &mut store, control, Command::Fail(one));
-    assert!(rt; store.states[0] == ServerState::Failed);
+    assert!(rt; store.state(0) == ServerState::Failed);
 }
 
 // What no commands lead to is a named fault.
@@ -376,7 +415,8 @@ fn reads_no_unlawful_store(rt: HostRuntime) {
         ServerState::Approved,
         ServerState::Up,
     ];
-    let read = StoreControl::read(desk(&rt, rt.alloc()), lead, 100, records, &away, 4);
+    let runs = Vec::from_slice(rt.alloc(), &away.map(in_state)).expect(&rt, "memory");
+    let read = StoreControl::read(desk(&rt, rt.alloc()), lead, 100, records, runs, 4);
     let cap = CommandFault::Restart(RestartFault::GlobalCap);
     assert!(rt; matches!(read, Err(LoadFault::Unreached(fault)) if fault == cap));
     let none = StoreControl::read(
@@ -384,7 +424,7 @@ fn reads_no_unlawful_store(rt: HostRuntime) {
         lead,
         100,
         Vec::new(rt.alloc()),
-        &store.states,
+        Vec::from_slice(rt.alloc(), &store.runs).expect(&rt, "memory"),
         4,
     );
     assert!(rt; matches!(none, Err(LoadFault::Different)));

@@ -1,4 +1,4 @@
-use crate::lead::desk;
+use crate::lead::{desk, in_state};
 use crate::shard::{HEAD, LIMITS, item};
 use crate::sum::Sum;
 use sm_desk::Command;
@@ -22,15 +22,9 @@ fn elected(rt: &impl Abort, alloc: Global) -> StoreControl {
         stood: 0,
     };
     let records = Vec::from_slice(alloc, &[unwritten; 4]).expect(rt, "memory");
+    let runs = Vec::from_slice(alloc, &[in_state(ServerState::Up); 3]).expect(rt, "memory");
     let lead = Leadership::new(9, 1).expect(rt, "a revision");
-    let read = StoreControl::read(
-        desk(rt, alloc),
-        lead,
-        100,
-        records,
-        &[ServerState::Up; 3],
-        0,
-    );
+    let read = StoreControl::read(desk(rt, alloc), lead, 100, records, runs, 0);
     read.ok().expect(rt, "a control")
 }
 
@@ -52,7 +46,7 @@ fn made(
     let shard = ShardId::new(0).expect(rt, "a shard");
     let command = Command::Change(shard, change);
     assert!(rt; control.has_waited(acks, &command));
-    match control.command(command) {
+    match control.command(0, command) {
         Judged::Sent(sent) => {
             let outcome = SendOutcome::Made(revision);
             sent.outcome(outcome).expect(rt, "a command that is made")
@@ -71,8 +65,9 @@ fn executes_once_it_is_assigned(rt: HostRuntime) {
     let (item, head) = (item(7, 5), HEAD);
     let mut server = started(&rt, one);
     let control = elected(&rt, rt.alloc());
-    assert!(rt; control.has_waited(&[], &Command::Change(shard, Change::Assign(one))));
-    let Judged::Sent(sent) = control.command(Command::Change(shard, Change::Assign(one))) else {
+    let assign = Command::Change(shard, Change::Assign(one));
+    assert!(rt; control.has_waited(&[], &assign));
+    let Judged::Sent(sent) = control.command(0, assign) else {
         return;
     };
     let control = sent.outcome(SendOutcome::Made(2)).expect(&rt, "made");

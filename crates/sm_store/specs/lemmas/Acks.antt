@@ -1,6 +1,6 @@
 -- What was acked stays acked, and a control's wait is for that.
 use Rattle.std.proofs.Common.{◌≡◌, ◌≤◌, ℕ, Bool, true, List, [], ◌∷◌, ◌++◌, arith, ⊎_elim, inl, inr}
-use Rattle.std.specs.Prelude.{◌==◌, ◌⊎◌, IfSome, Option, Some, None, max, nat_le}
+use Rattle.std.specs.Prelude.{◌==◌, IfSome, Option, Some, None, max, nat_le}
 use Rattle.std.proofs.lemmas.Bool.{cond_both, leb-true, or_cases}
 use Rattle.sm_ownership.specs.declared.change.Change.{Change}
 use Rattle.sm_place.specs.declared.server_state.ServerState.TheVariants.{Failed}

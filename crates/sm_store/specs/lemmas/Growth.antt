@@ -123,11 +123,12 @@ module _ {Q P : Type 0} (charter : Charter Q P) where
   }
   may_grow more log (Clearing keys) may =
       all_map (MayClear charter log) (MayClear charter (more ++ log)) (clear_grows more log) keys may
-  may_grow more log (Restarting process server state elected placed) may = record {
+  may_grow more log (Restarting process server run elected placed) may = record {
     led = led_grows more log process elected may.led;
     read = may.read;
     placement_was = found_grows _ _ more log _ _ may.placement_was;
     allowed = may.allowed;
+    next = may.next;
   }
   may_grow more log (Settling settings) may = tt
   may_grow more log (Following server revision acks told) may =
@@ -160,7 +161,7 @@ module _ {Q P : Type 0} (charter : Charter Q P) where
       (Naming at head number parts logged)).writes) [] refl
   added_next shard log (Clearing keys) right =
       next_none (made shard log) (touches {Q = Q} {P = P} (head_key shard) (Deletes keys ∷ [])) [] refl
-  added_next shard log (Restarting process server state elected placed) right = tt
+  added_next shard log (Restarting process server run elected placed) right = tt
   added_next shard log (Settling settings) right = tt
   added_next shard log (Following server revision acks told) right = tt
   added_next shard log (Checking compares) right = tt

@@ -58,7 +58,7 @@ module _ {Q P : Type 0} (charter : Charter Q P) (shard : ℕ) where
       (record { batches = omega arith; base = omega arith }))
       (λ apart. risen_same (before log))
   risen_one log (Clearing keys) right = risen_same (before log)
-  risen_one log (Restarting process server state elected placed) right = risen_same (before log)
+  risen_one log (Restarting process server run elected placed) right = risen_same (before log)
   risen_one log (Settling settings) right = risen_same (before log)
   risen_one log (Following server revision acks told) right = risen_same (before log)
   risen_one log (Checking compares) right = risen_same (before log)
@@ -111,8 +111,8 @@ module _ {Q P : Type 0} (charter : Charter Q P) (shard : ℕ) where
   goes_one log (Naming at head number parts logged) right = inl
       (no_made (transaction_of {Q = Q} {P = P} (Naming at head number parts logged)).writes refl)
   goes_one log (Clearing keys) right = inl (no_made (transaction_of {Q = Q} {P = P} (Clearing keys)).writes refl)
-  goes_one log (Restarting process server state elected placed) right = inl (no_made
-      (transaction_of {Q = Q} {P = P} (Restarting process server state elected placed)).writes refl)
+  goes_one log (Restarting process server run elected placed) right = inl (no_made
+      (transaction_of {Q = Q} {P = P} (Restarting process server run elected placed)).writes refl)
   goes_one log (Settling settings) right = inl (no_made
       (transaction_of {Q = Q} {P = P} (Settling settings)).writes refl)
   goes_one log (Following server revision acks told) right = inl (no_made

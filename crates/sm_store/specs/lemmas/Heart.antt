@@ -67,7 +67,7 @@ module _ {Q P : Type 0} where
   revised_one key now before (Heads shard head) same = inl (cond-true _ now before same)
   revised_one key now before (Executes shard number server items) same = inl (cond-true _ now before same)
   revised_one key now before (Bases shard number place part) same = inl (cond-true _ now before same)
-  revised_one key now before (Enters process name state) same = inl (cond-true _ now before same)
+  revised_one key now before (Enters process name run) same = inl (cond-true _ now before same)
   revised_one key now before (Commands process) same = inl (cond-true _ now before same)
   revised_one key now before (Settles settings) same = inl (cond-true _ now before same)
   revised_one key now before (Follows server revision) same = inl (cond-true _ now before same)

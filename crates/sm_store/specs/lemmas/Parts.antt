@@ -64,7 +64,7 @@ module _ {Q P : Type 0} (charter : Charter Q P) (shard number place : ℕ) where
       (some_or (at == shard && (n == number && i == place)) one part (part_at shard number place log) is)
   written log (Naming at head n parts logged) part right is = inl is
   written log (Clearing keys) part right is = inl (none_or (deletes_key keys (Part shard number place)) part _ is)
-  written log (Restarting process server state elected placed) part right is = inl is
+  written log (Restarting process server run elected placed) part right is = inl is
   written log (Settling settings) part right is = inl is
   written log (Following server revision acks told) part right is = inl is
   written log (Checking compares) part right is = inl is
@@ -148,7 +148,7 @@ module _ {Q P : Type 0} (charter : Charter Q P) (shard number place : ℕ) where
   stays_one log (Clearing keys) right newest has =
       kept log keys (has_none (Part shard number place) (IsBehind charter log)
       (λ key behind. behind_apart log key behind newest) keys right) has
-  stays_one log (Restarting process server state elected placed) right newest has = has
+  stays_one log (Restarting process server run elected placed) right newest has = has
   stays_one log (Settling settings) right newest has = has
   stays_one log (Following server revision acks told) right newest has = has
   stays_one log (Checking compares) right newest has = has

@@ -63,7 +63,7 @@ module _ {Q P : Type 0} (charter : Charter Q P) (shard revision : ℕ) where
       changing log process at change next elected placed right
   record_deed log (Electing process) right = inl refl
   record_deed log (Expiring keys) right = inl refl
-  record_deed log (Restarting process server state elected placed) right = inl refl
+  record_deed log (Restarting process server run elected placed) right = inl refl
   record_deed log (Settling settings) right = inl refl
   record_deed log (Executing at server items head stood logged) right = inl refl
   record_deed log (Basing at number place part) right = inl refl

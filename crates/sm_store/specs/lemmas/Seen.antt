@@ -92,7 +92,7 @@ module _ {Q P : Type 0} (charter : Charter Q P) (shard : ℕ) where
   written log revision (Clearing keys) number items above right rights is =
       inl (none_or (deletes_key keys (Batch shard (number + 1))) items _ is)
   written log revision (Following server seen acks told) number items above right rights is = inl is
-  written log revision (Restarting process server state elected placed) number items above right rights is = inl is
+  written log revision (Restarting process server run elected placed) number items above right rights is = inl is
   written log revision (Settling settings) number items above right rights is = inl is
   written log revision (Checking compares) number items above right rights is = inl is
   written log revision Foreign number items above right rights is = inl is

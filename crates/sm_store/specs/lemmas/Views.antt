@@ -44,7 +44,7 @@ module _ {Q P : Type 0} where
   led_local before (Heads shard head) apart = refl
   led_local before (Executes shard number server items) apart = refl
   led_local before (Bases shard number place part) apart = refl
-  led_local before (Enters process name state) apart = refl
+  led_local before (Enters process name run) apart = refl
   led_local before (Commands process) apart = refl
   led_local before (Settles settings) apart = refl
   led_local before (Follows server revision) apart = refl
@@ -58,7 +58,7 @@ module _ {Q P : Type 0} where
   stood_local shard before (Heads at head) apart = refl
   stood_local shard before (Executes at number server items) apart = refl
   stood_local shard before (Bases at number place part) apart = refl
-  stood_local shard before (Enters process name state) apart = refl
+  stood_local shard before (Enters process name run) apart = refl
   stood_local shard before (Commands process) apart = refl
   stood_local shard before (Settles settings) apart = refl
   stood_local shard before (Follows server revision) apart = refl
@@ -72,7 +72,7 @@ module _ {Q P : Type 0} where
   headed_local shard before (Heads at head) apart = cond-false (at == shard) head before apart
   headed_local shard before (Executes at number server items) apart = refl
   headed_local shard before (Bases at number place part) apart = refl
-  headed_local shard before (Enters process name state) apart = refl
+  headed_local shard before (Enters process name run) apart = refl
   headed_local shard before (Commands process) apart = refl
   headed_local shard before (Settles settings) apart = refl
   headed_local shard before (Follows server revision) apart = refl
@@ -87,7 +87,7 @@ module _ {Q P : Type 0} where
   batched_local shard number before (Executes at n server items) apart =
       cond-false (at == shard && n == number) (Some items) before apart
   batched_local shard number before (Bases at n place part) apart = refl
-  batched_local shard number before (Enters process name state) apart = refl
+  batched_local shard number before (Enters process name run) apart = refl
   batched_local shard number before (Commands process) apart = refl
   batched_local shard number before (Settles settings) apart = refl
   batched_local shard number before (Follows server revision) apart = refl
@@ -103,7 +103,7 @@ module _ {Q P : Type 0} where
   based_local shard number place before (Executes at n server items) apart = refl
   based_local shard number place before (Bases at n i part) apart =
       cond-false (at == shard && (n == number && i == place)) (Some part) before apart
-  based_local shard number place before (Enters process name state) apart = refl
+  based_local shard number place before (Enters process name run) apart = refl
   based_local shard number place before (Commands process) apart = refl
   based_local shard number place before (Settles settings) apart = refl
   based_local shard number place before (Follows server revision) apart = refl
@@ -145,7 +145,7 @@ module _ {Q P : Type 0} where
   settled_local : IsLocal settled settings_key
   settled_local before (Leads process) apart = refl
   settled_local before (Stands process at change next) apart = refl
-  settled_local before (Enters process name state) apart = refl
+  settled_local before (Enters process name run) apart = refl
   settled_local before (Commands process) apart = refl
   settled_local before (Settles settings) apart = absurd (true≢false apart)
   settled_local before (Heads at head) apart = refl
@@ -182,7 +182,7 @@ module _ {Q P : Type 0} where
   placed_apart (Electing process) earlier apart = refl
   placed_apart (Expiring keys) earlier apart = refl
   placed_apart (Changing process shard change next elected placed) earlier apart = absurd (true≢false apart)
-  placed_apart (Restarting process server state elected placed) earlier apart = absurd (true≢false apart)
+  placed_apart (Restarting process server run elected placed) earlier apart = absurd (true≢false apart)
   placed_apart (Settling settings) earlier apart = refl
   placed_apart (Executing shard server items head stood logged) earlier apart = refl
   placed_apart (Basing shard number place part) earlier apart = refl

@@ -151,8 +151,8 @@ module _ {Q P : Type 0} (charter : Charter Q P) (shard revision : ℕ) where
       (record { within = mine.within; all = λ _. mine.all; there = λ _. mine.there }))
       (λ apart. based_same log deed above right rights was)
   based_one log (Clearing keys) above right rights was = based_same log (Clearing keys) above right rights was
-  based_one log (Restarting process server state elected placed) above right rights was =
-      based_same log (Restarting process server state elected placed) above right rights was
+  based_one log (Restarting process server run elected placed) above right rights was =
+      based_same log (Restarting process server run elected placed) above right rights was
   based_one log (Settling settings) above right rights was =
       based_same log (Settling settings) above right rights was
   based_one log (Following server revision acks told) above right rights was =
@@ -256,8 +256,8 @@ module _ {Q P : Type 0} (charter : Charter Q P) (shard revision : ℕ) where
       (λ number newest below. deleted_stay charter shard log keys number
       (has_none (Batch shard (number + 1)) (IsBehind charter log)
       (λ key behind. behind_apart charter shard log key number behind newest) keys right)) was
-  there_one log (Restarting process server state elected placed) above right rights was =
-      there_same log (Restarting process server state elected placed) (λ number newest below. refl) was
+  there_one log (Restarting process server run elected placed) above right rights was =
+      there_same log (Restarting process server run elected placed) (λ number newest below. refl) was
   there_one log (Settling settings) above right rights was =
       there_same log (Settling settings) (λ number newest below. refl) was
   there_one log (Following server revision acks told) above right rights was =

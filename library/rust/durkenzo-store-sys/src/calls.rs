@@ -247,6 +247,7 @@ extern "C" {
         kind: u8,
         shard: u16,
         server: u16,
+        process: u64,
     ) -> u32;
     pub fn durkenzo_director_sending(
         director: *mut Handle,
@@ -287,7 +288,12 @@ extern "C" {
         word: *mut u64,
         stood: *mut u64,
     ) -> u32;
-    pub fn durkenzo_director_state_of(director: *mut Handle, server: u16, state: *mut u8) -> u32;
+    pub fn durkenzo_director_state_of(
+        director: *mut Handle,
+        server: u16,
+        state: *mut u8,
+        process: *mut u64,
+    ) -> u32;
     pub fn durkenzo_director_close(director: *mut Handle);
 }
 

@@ -102,6 +102,8 @@ impl Code {
     pub const DIRECTOR_NOT_FOLLOWED: Code = Code(96);
     /// A server that the command waits for hasn't acked the shard's record.
     pub const DIRECTOR_NOT_ACKED: Code = Code(97);
+    /// The server's process is the one that was stopped, or none was seen.
+    pub const DIRECTOR_EARLIER_PROCESS: Code = Code(98);
     /// No record has the word.
     pub const PERMIT_BAD_WORD: Code = Code(4);
     /// The first of the control's codes of a line of settings.

@@ -4,7 +4,7 @@ use crate::Code;
 pub use crate::calls::DirectorStep;
 
 /// A record or a state, and the bytes of the key of commands behind it, are no longer.
-const ROOM: usize = 26;
+const ROOM: usize = 34;
 /// A call on the control for what comes next of this shard or server.
 type NextCall = unsafe extern "C" fn(*mut Handle, u16, *mut DirectorStep) -> u32;
 
@@ -169,15 +169,16 @@ impl Director {
         Code::judged(unsafe { calls::durkenzo_director_read(&mut self.handle, placed) })
     }
 
-    /// Judges the command: it is to be sent, or refused by the first fault that applies.
-    pub fn command(&mut self, step: DirectorStep) -> Result<(), Code> {
+    /// Judges the command, where this process runs the server that it names, 0 where none was seen: it is to be sent, or
+    /// refused by the first fault that applies.
+    pub fn command(&mut self, step: DirectorStep, process: u64) -> Result<(), Code> {
         let DirectorStep {
             shard,
             server,
             kind,
         } = step;
         Code::judged(unsafe {
-            calls::durkenzo_director_command(&mut self.handle, kind, shard, server)
+            calls::durkenzo_director_command(&mut self.handle, kind, shard, server, process)
         })
     }
 
@@ -272,10 +273,12 @@ impl Director {
         Ok((word, stood))
     }
 
-    /// The number of the server's state.
-    pub fn state_of(&mut self, server: u16) -> Result<u8, Code> {
-        let (handle, mut state) = (&mut self.handle, 0);
-        Code::judged(unsafe { calls::durkenzo_director_state_of(handle, server, &mut state) })?;
-        Ok(state)
+    /// The number of the server's state, and the process that it names, 0 for none.
+    pub fn state_of(&mut self, server: u16) -> Result<(u8, u64), Code> {
+        let (handle, mut state, mut process) = (&mut self.handle, 0, 0);
+        Code::judged(unsafe {
+            calls::durkenzo_director_state_of(handle, server, &mut state, &mut process)
+        })?;
+        Ok((state, process))
     }
 }

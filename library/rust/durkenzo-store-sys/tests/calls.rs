@@ -140,15 +140,15 @@ fn a_shard_is_dropped_once_all_follow() -> Result<(), Code> {
         (12, DirectorStep::ADD_SHARD, 0),
     ] {
         acked(&mut director)?;
-        director.command(DirectorStep::of_shard(kind, 0, server))?;
+        director.command(DirectorStep::of_shard(kind, 0, server), 0)?;
         director.made(at)?;
     }
     let drop = DirectorStep::of_shard(DirectorStep::DROP_SHARD, 0, 0);
     director.follower(2, 11)?;
-    assert_eq!(director.command(drop), Err(NOT_FOLLOWED));
+    assert_eq!(director.command(drop, 0), Err(NOT_FOLLOWED));
     director.forget_followers()?;
     director.follower(2, 12)?;
-    director.command(drop)
+    director.command(drop, 0)
 }
 
 /// Both servers have acked the first shard, as far as generations of these tests go.
@@ -165,7 +165,7 @@ fn a_change_waits_for_who_has_to_let_go() -> Result<(), Code> {
     let mut made = 8;
     let mut make = |director: &mut Director, kind, server| {
         made += 1;
-        director.command(command(kind, server))?;
+        director.command(command(kind, server), 0)?;
         director.made(made)
     };
     make(&mut director, DirectorStep::ASSIGN, 1)?;
@@ -173,14 +173,14 @@ fn a_change_waits_for_who_has_to_let_go() -> Result<(), Code> {
     // The next owner acks the record of generation 2, and not one before.
     director.ack(0, 2, 1)?;
     let drop = command(DirectorStep::PREPARE_DROP_SHARD, 0);
-    assert_eq!(director.command(drop), Err(Code::DIRECTOR_NOT_ACKED));
+    assert_eq!(director.command(drop, 0), Err(Code::DIRECTOR_NOT_ACKED));
     assert_eq!(director.next_of_shard(0)?.kind, DirectorStep::WAITS);
     director.forget_acks()?;
     director.ack(0, 2, 2)?;
     make(&mut director, DirectorStep::PREPARE_DROP_SHARD, 0)?;
     for kind in [DirectorStep::ADD_SHARD, DirectorStep::CANCEL] {
         assert_eq!(
-            director.command(command(kind, 0)),
+            director.command(command(kind, 0), 0),
             Err(Code::DIRECTOR_NOT_ACKED)
         );
     }
@@ -192,7 +192,7 @@ fn a_change_waits_for_who_has_to_let_go() -> Result<(), Code> {
 #[test]
 fn a_command_compares_the_election_by_which_it_leads() -> Result<(), Code> {
     let mut director = leading()?;
-    director.command(DirectorStep::of_shard(DirectorStep::ASSIGN, 0, 1))?;
+    director.command(DirectorStep::of_shard(DirectorStep::ASSIGN, 0, 1), 0)?;
     let sending = director.sending()?;
     assert_eq!((sending.elected, sending.placed), (3, 0));
     Ok(())
@@ -201,7 +201,7 @@ fn a_command_compares_the_election_by_which_it_leads() -> Result<(), Code> {
 #[test]
 fn what_was_lost_is_to_be_read_again() -> Result<(), Code> {
     let mut director = leading()?;
-    director.command(DirectorStep::of_shard(DirectorStep::ASSIGN, 0, 1))?;
+    director.command(DirectorStep::of_shard(DirectorStep::ASSIGN, 0, 1), 0)?;
     director.lost()?;
     assert_eq!(director.next_of_shard(0).err(), Some(UNREAD));
     Ok(())

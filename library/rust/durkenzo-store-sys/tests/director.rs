@@ -34,11 +34,11 @@ fn refusals_have_codes() {
     assert_eq!(core.record(&[1], 0), Err(Code(93)));
     assert_eq!(core.read(0), Err(Code(95)));
     assert_eq!(
-        core.command(DirectorStep::of_server(DirectorStep::WAITS, 0)),
+        core.command(DirectorStep::of_server(DirectorStep::WAITS, 0), 0),
         Err(Code(2))
     );
     assert_eq!(
-        core.command(DirectorStep::of_shard(DirectorStep::ASK, 1, 1)),
+        core.command(DirectorStep::of_shard(DirectorStep::ASK, 1, 1), 0),
         Err(Code(2))
     );
     assert_eq!(core.follower(4_096, 1), Err(Code(2)));
@@ -54,9 +54,9 @@ fn a_command_is_sent_and_made() {
     let step = core.next_of_drain(0).unwrap();
     assert_eq!(step, DirectorStep::of_shard(DirectorStep::ASSIGN, 0, 1));
     assert!(core
-        .command(DirectorStep::of_shard(DirectorStep::PAUSE, 0, 0))
+        .command(DirectorStep::of_shard(DirectorStep::PAUSE, 0, 0), 0)
         .is_err());
-    core.command(step).unwrap();
+    core.command(step, 0).unwrap();
     let sent = core.sending().unwrap();
     assert_eq!((sent.elected, sent.placed, sent.number), (3, 0, 0));
     assert_eq!((sent.is_state, sent.absent), (false, 0));
@@ -68,13 +68,40 @@ fn a_command_is_sent_and_made() {
     assert_eq!(core.fallen(), Ok(1));
     core.follower(1, 9).unwrap();
     assert_eq!(core.fallen(), Ok(2));
-    core.command(DirectorStep::of_server(DirectorStep::FAIL, 2))
+    core.command(DirectorStep::of_server(DirectorStep::FAIL, 2), 0)
         .unwrap();
     let sent = core.sending().unwrap();
     assert_eq!((sent.number, sent.is_state, sent.absent), (2, true, 2));
     core.made(10).unwrap();
-    assert_eq!(core.state_of(2), Ok(4));
-    core.command(DirectorStep::of_server(DirectorStep::BACK, 2))
+    assert_eq!(core.state_of(2), Ok((4, 0)));
+    core.command(DirectorStep::of_server(DirectorStep::BACK, 2), 0)
         .unwrap();
     assert_eq!(core.sending().unwrap().absent, 0);
+}
+
+#[test]
+fn a_server_is_stopped_of_a_process_and_up_again_by_a_later_one() {
+    let mut core = Director::new(SETTINGS, 7, 3).unwrap();
+    (0..2).for_each(|_| core.record(&UNWRITTEN, 0).unwrap());
+    (0..3).for_each(|_| core.state(&UNWRITTEN).unwrap());
+    core.read(0).unwrap();
+    let mut made = 3;
+    let mut make = |core: &mut Director, kind, process| {
+        core.command(DirectorStep::of_server(kind, 2), process)?;
+        made += 1;
+        core.made(made)
+    };
+    let earlier = Err(Code::DIRECTOR_EARLIER_PROCESS);
+    make(&mut core, DirectorStep::ASK, 0).unwrap();
+    make(&mut core, DirectorStep::APPROVE, 0).unwrap();
+    assert_eq!(make(&mut core, DirectorStep::STOPPED, 0), earlier);
+    make(&mut core, DirectorStep::STOPPED, 5).unwrap();
+    assert_eq!(core.state_of(2), Ok((3, 5)));
+    assert_eq!(make(&mut core, DirectorStep::BACK, 0), earlier);
+    assert_eq!(make(&mut core, DirectorStep::BACK, 5), earlier);
+    make(&mut core, DirectorStep::BACK, 6).unwrap();
+    assert_eq!(core.state_of(2), Ok((0, 6)));
+    // What the desk refuses is refused for that.
+    let up = make(&mut core, DirectorStep::BACK, 6);
+    assert_eq!(up, Err(Code::DIRECTOR_ALREADY_UP));
 }

@@ -12,9 +12,9 @@ use Rattle.sm_lead.proofs.laws.commands_ask_for_nothing.Goals as goal
 asks_nothing : {Q : Type 0} (P : Type 0) (asked : List (Ask Q)) (sending : CommandSending) (write : CommandWrite)
     → AsksFor {P = P} asked (transaction_of (deed_of sending write))
 asks_nothing P asked sending (Record shard change next) = λ k. tt
-asks_nothing P asked sending (State server state) = λ k. tt
+asks_nothing P asked sending (State server run) = λ k. tt
 
 pub returns : goal.returns
-returns g c = λ asked control command txn is.
-    subst (AsksFor asked) (sym is) (asks_nothing _ asked (sending_of control (write_of control command))
-    (write_of control command))
+returns g c = λ asked control process command txn is.
+    subst (AsksFor asked) (sym is) (asks_nothing _ asked (sending_of control (write_of control process command))
+    (write_of control process command))

@@ -2,5 +2,6 @@ use Rattle.sm_lead.proofs.Knowing.{may_be_sent}
 use Rattle.sm_lead.proofs.laws.commands_may_be_sent.Goals as goal
 
 pub returns : goal.returns
-returns g c = λ parts log control acks command sound knows made none waited.
-    may_be_sent parts log control sound knows c.change_refused_exactly.ensures acks made command none waited
+returns g c = λ parts log control acks process command sound knows made none waited named.
+    may_be_sent parts log control sound knows c.change_refused_exactly.ensures acks made process command none waited
+    named

@@ -1,4 +1,4 @@
-use Rattle.std.proofs.Common.{◌≡◌, refl, sym, subst, List, true}
+use Rattle.std.proofs.Common.{◌≡◌, true, refl, sym, subst, List}
 use Rattle.std.specs.Prelude.{None}
 use Rattle.sm_place.specs.Sound.{AreSound}
 use Rattle.sm_store.specs.Deeds.{MaySend}
@@ -7,10 +7,11 @@ use Rattle.sm_lead.specs.declared.ack_read.AckRead.{AckRead}
 use Rattle.sm_lead.specs.Waits.{has_waited}
 use Rattle.sm_lead.specs.declared.follower.Follower.{Follower}
 use Rattle.sm_lead.specs.declared.store_control.StoreControl.{StoreControl}
-use Rattle.sm_lead.specs.Commands.{command_fault, write_of}
+use Rattle.sm_lead.specs.Commands.{command_fault, may_name, write_of}
 use Rattle.sm_lead.specs.Placements.{charter_of, rows_of}
 use Rattle.sm_lead.specs.Sendings.{command_transaction, sending_of}
 use Rattle.sm_director.specs.Directors.{IsFollowed, IsPrepared}
+use Rattle.sm_director.proofs.Refusals.{refuses}
 use Rattle.sm_director.proofs.director.Director.command.Goals as goal
 
 -- what is sent is what the law says of the control that judged it
@@ -26,7 +27,9 @@ returns-in-Sent-command-clause-sent c =
     subst (λ (read : List AckRead). has_waited c.in-Stands.control read c.args.command ≡ true)
     c.deref-in-Stands.ensures.value
     (c.if-not-has_waited.ensures.waited refl) in
-    let written = subst (λ (k : StoreControl). sent.write ≡ write_of k c.args.command) same judged.3 in (
+    let written = subst (λ (k : StoreControl). sent.write ≡ write_of k c.args.process c.args.command) same judged.3 in
+    let named = subst (λ (k : StoreControl). may_name k (write_of k c.args.process c.args.command) ≡ true) same
+    (sym c.if-not-is_named.ensures) in (
       c.in-Stands.control,
       sent,
       sym c.in-Stands.ensures.value,
@@ -41,10 +44,15 @@ returns-in-Sent-command-clause-sent c =
           subst (λ (it : CommandWrite). MaySend (charter_of (rows_of sent.control.desk.books) sent.control.desk.caps
           sent.control.ceiling parts) log (command_transaction (sending_of sent.control it)))
           (sym written)
-          (c.commands_may_be_sent.ensures parts log sent.control acks c.args.command sound knows made allowed
-          (subst (λ (k : StoreControl). has_waited k acks c.args.command ≡ true) same waited)),
+          (c.commands_may_be_sent.ensures parts log sent.control acks c.args.process c.args.command sound knows made
+          allowed (subst (λ (k : StoreControl). has_waited k acks c.args.command ≡ true) same waited) named),
       refl,
     )
+
+pub returns-then-not-is_named-clause-refused : goal.returns-then-not-is_named-clause-refused
+returns-then-not-is_named-clause-refused c =
+    refuses c.in-Stands.control c.args.command c.args.self.now c.unnamed-refused.result
+    (sym c.in-Stands.ensures.value) c.unnamed-refused.ensures
 
 pub returns-in-Refused-clause-refused : goal.returns-in-Refused-clause-refused
 returns-in-Refused-clause-refused c =

@@ -11,4 +11,5 @@ returns c = record {
   rows = rows_after _ _ _ (rows_after _ _ _ c.in_ok-desk.ensures c.in_ok-desk-2.ensures) c.in_ok-desk-3.ensures;
   stands = search rules;
   states_are = search rules;
+  runs_are = refl;
 }

@@ -1,0 +1,105 @@
+//! A server that was stopped is up again by a later process, whoever leads by then.
+mod common;
+
+use common::cluster::{assign, campaign, kill, until, Net, Node};
+use durkenzo_driver::{
+    CommandFault, ControlCommand, DurableControl, Refused, ServerRun, ServerState,
+};
+use durkenzo_store::{Embedded, Store};
+use std::sync::Arc;
+
+/// Three processes over a store, of which each shard's owner is one.
+struct Three {
+    store: Arc<dyn Store>,
+    net: Arc<Net>,
+    nodes: Vec<Node>,
+}
+
+impl Three {
+    fn new() -> Three {
+        let store: Arc<dyn Store> = Arc::new(Embedded::in_memory());
+        let net = Arc::new(Net::default());
+        let start = |it| net.start(&store, it, 3, |line| Arc::new(line));
+        let nodes = (1..=3).map(start).collect();
+        Three { store, net, nodes }
+    }
+
+    /// Has server 1 be stopped for its restart, by the control of server 3.
+    fn stop(&self) -> DurableControl {
+        let mut control = campaign(&self.nodes[2]);
+        assign(&mut control, 3);
+        for command in [
+            ControlCommand::Ask(1),
+            ControlCommand::Approve(1),
+            ControlCommand::Pause(0),
+            ControlCommand::Stopped(1),
+        ] {
+            control.command(command).unwrap();
+        }
+        control
+    }
+
+    /// Has server 1 have another process.
+    fn start_again(&mut self) {
+        let old = self.nodes.remove(0);
+        old.durable.member().expect("a member").leave();
+        drop(old);
+        let new = self.net.start(&self.store, 1, 3, |line| Arc::new(line));
+        self.nodes.insert(0, new);
+    }
+
+    /// How server 1 is by the number of its process.
+    fn run(&self, state: ServerState) -> ServerRun {
+        let process = self.nodes[0].durable.process();
+        ServerRun { state, process }
+    }
+}
+
+fn is_earlier(told: &Result<(), Refused>) -> bool {
+    matches!(told, Err(Refused::Judged(CommandFault::EarlierProcess)))
+}
+
+#[test]
+fn the_next_leader_tells_the_process_that_was_stopped_from_the_next_one() {
+    let mut three = Three::new();
+    drop(three.stop());
+    let stopped = three.run(ServerState::Stopped);
+    // Another process leads by now, and the one that was stopped is still there.
+    kill(&three.nodes[2]);
+    three.nodes[2].expire();
+    let mut control = campaign(&three.nodes[1]);
+    assert_eq!(control.run_of(1).unwrap(), stopped);
+    assert!(!stopped.is_restarted_by(stopped.process));
+    assert!(is_earlier(&control.command(ControlCommand::Back(1))));
+    assert_eq!(control.run_of(1).unwrap(), stopped);
+
+    three.start_again();
+    let up = three.run(ServerState::Up);
+    assert!(stopped.is_restarted_by(up.process));
+    until("the leader sees that it is back", || {
+        let told = control.command(ControlCommand::Back(1));
+        assert!(told.is_ok() || is_earlier(&told), "{told:?}");
+        told.is_ok()
+    });
+    assert_eq!(control.run_of(1).unwrap(), up);
+}
+
+#[test]
+fn a_server_may_be_stopped_again_once_it_is_back() {
+    let mut three = Three::new();
+    let mut control = three.stop();
+    for _ in 0..2 {
+        three.start_again();
+        until("the leader sees that it is back", || {
+            control.command(ControlCommand::Back(1)).is_ok()
+        });
+        for command in [
+            ControlCommand::Ask(1),
+            ControlCommand::Approve(1),
+            ControlCommand::Stopped(1),
+        ] {
+            control.command(command).unwrap();
+        }
+        assert_eq!(control.run_of(1).unwrap(), three.run(ServerState::Stopped));
+    }
+}
