@@ -3,6 +3,7 @@
 //!
 //! ```rust
 //! let assign = Command::Change(shard, Change::Assign(one));
+//! assert!(rt; control.has_waited(&[], &assign));
 //! let Judged::Sent(sent) = control.command(0, assign) else {
 //!     return;
 //! };
