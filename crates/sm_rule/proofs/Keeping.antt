@@ -1,7 +1,7 @@
 -- The steps on a board keep its rule.
 use Rattle.std.proofs.Common.{◌≡◌, ◌≢◌, ℕ, zero, suc, ◌<◌, ◌≤◌, ◌^◌, true, false, not, List, [], ◌∷◌, ◌++◌, length}
 use Rattle.std.proofs.Common.{replicate, refl, sym, ap, ◌∙◌, subst, arith, le_refl, length-append, inl, inr, ◌⊎◌}
-use Rattle.std.proofs.Common.{⊎_elim, ◌+◌}
+use Rattle.std.proofs.Common.{⊎_elim}
 use Rattle.std.specs.Prelude.{All, IfSome, Option, Some, None, map, reverse, slice_index, slice_index_or, slice_set}
 use Rattle.std.specs.Prelude.{◌==◌}
 use mathlib.Core.Option as math
@@ -42,14 +42,12 @@ use Rattle.sm_rule.specs.declared.view.HeldShard.{HeldShard}
 use Rattle.sm_rule.specs.declared.view.Stage.{Stage}
 use Rattle.sm_rule.specs.declared.view.Stage.TheVariants.{Acting, Cut, Joined}
 use Rattle.sm_rule.specs.declared.view.Heard.{Heard}
-use Rattle.sm_rule.specs.declared.view.Parent.{Parent}
 use Rattle.sm_rule.specs.declared.view.View.{View}
 use Rattle.sm_rule.specs.Admissions.{HoldsPermit, PermitValue}
 use Rattle.sm_rule.specs.Boards.{limit_at}
 use Rattle.sm_rule.specs.Bodies.{all_after, first_after}
 use Rattle.sm_rule.specs.Passes.{IsHeldOf, PassValue, pass_value, slots_of}
-use Rattle.sm_rule.specs.Rule.{AreHome, AreHeard, AreParents, HasCut, IsTrueView, RuleHolds, IsHolding, IsCut, Rule}
-use Rattle.sm_rule.specs.Rule.{IsHeard, NamesParent, table_in}
+use Rattle.sm_rule.specs.Rule.{AreHome, AreHeard, IsTrueView, RuleHolds, IsHolding, IsCut, Rule, IsHeard, table_in}
 use Rattle.sm_rule.specs.Steps.{Entered, Exchanged, IsFree, IsWordAt, Loaded, MayAdd, Stored, TakesBody, is_end}
 use Rattle.sm_rule.specs.Views.{Adds, EndsWith, Looks, adding, all_held, entry_of, first_held, held_after, left_behind}
 use Rattle.sm_rule.specs.Views.{newcomer, record_in, seeing}
@@ -128,12 +126,6 @@ at_end zero id (one ∷ views) view at past is = omega arith
 at_end (suc n) zero (one ∷ views) view at past is = absurd (cc)
 at_end (suc n) (suc id) (one ∷ views) view at past is = at_end n id views view at (omega arith) (omega arith)
 
-pub below_end : {Q : Type 0} (views : List (View Q)) (n : ℕ) (view : View Q) → get_elem? views n ≡ some view
-    → n < length views
-below_end [] n view at = absurd (some-ne-none view (sym at))
-below_end (one ∷ views) zero view at = omega arith
-below_end (one ∷ views) (suc n) view at = let below = below_end views n view at in omega arith
-
 pub at_last : {A : Type 0} (views : List A) (mine view : A) (n : ℕ) → get_elem? (views ++ mine ∷ []) n ≡ some view
     → (get_elem? views n ≡ some view) ⊎ ((n ≡ length views) × (mine ≡ view))
 at_last [] mine view zero at = inr (refl, some-injective mine view at)
@@ -167,67 +159,6 @@ told_pushed {Q} views mine history untold are =
       joined = at_longer views (mine ∷ []) heard.by left_behind before.joined;
     })
     (λ heard is. absurd (none_some heard (sym untold ∙ is)))
-
--- what was cut from parents, once another seat that isn't joined has a view from which no fewer were cut, and which
--- names parents that are so
-pub parents_set : {Q : Type 0} (views : List (View Q)) (id : ℕ) (before after : View Q)
-    → get_elem? views id ≡ some before → before.stage ≢ Joined → (after.stage ≢ Joined → before.cuts ≤ after.cuts)
-    → ((parent : Parent) → NamesParent after parent → HasCut views parent) → AreParents views
-    → AreParents (slice_set views id after)
-parents_set {Q} views id before after at live more named are =
-    let stays : (parent : Parent) → HasCut views parent → HasCut (slice_set views id after) parent = λ parent has. (
-      subst (λ many. parent.number < many) (sym (length-set views id after)) has.0,
-      λ view there acts. views_set
-          (λ m one. m ≡ parent.number → one.stage ≢ Joined → parent.cuts ≤ one.cuts) views id after
-          (λ m one apart found same acting. has.1 one (ap (get_elem? views) (sym same) ∙ found) acting)
-          (λ same acting.
-          at_most parent.cuts before.cuts after.cuts (has.1 before (ap (get_elem? views) (sym same) ∙ at) live)
-          (more acting))
-          parent.number view there refl acts,
-    ) in
-    λ n view there parent names. views_set
-    (λ m one. (it : Parent) → NamesParent one it → HasCut (slice_set views id after) it) views id after
-    (λ m one apart found it its. stays it (are m one found it its))
-    (λ it its. stays it (named it its))
-    n view there parent names
-  where
-    at_most : (a b c : ℕ) → a ≤ b → b ≤ c → a ≤ c
-    at_most a b c first second = omega arith
-
--- and once there is one more seat
-pub parents_pushed : {Q : Type 0} (views : List (View Q)) (mine : View Q)
-    → ((parent : Parent) → NamesParent mine parent → HasCut views parent) → AreParents views
-    → AreParents (views ++ mine ∷ [])
-parents_pushed {Q} views mine named are =
-    let stays : (parent : Parent) → HasCut views parent → HasCut (views ++ mine ∷ []) parent = λ parent has. (
-      longer parent.number (length views) (length (views ++ mine ∷ [])) (length-append views (mine ∷ [])) has.0,
-      λ view there acts. ⊎_elim
-          (λ (before : get_elem? views parent.number ≡ some view). has.1 view before acts)
-          (λ (last : (parent.number ≡ length views) × (mine ≡ view)).
-          absurd (not_below parent.number (length views) has.0 last.0))
-          (at_last views mine view parent.number there),
-    ) in
-    λ n view there parent names. views_pushed
-    (λ m one. (it : Parent) → NamesParent one it → HasCut (views ++ mine ∷ []) it) views mine
-    (λ m one found it its. stays it (are m one found it its))
-    (λ it its. stays it (named it its))
-    n view there parent names
-  where
-    longer : (n m l : ℕ) → l ≡ m + 1 → n < m → n < l
-    longer n m l more below = omega arith
-
-    not_below : (n m : ℕ) → n < m → n ≡ m → ⊥
-    not_below n m below same = omega arith
-
--- a seat that was cut from none, and was told of none, names none
-pub names_none : {Q : Type 0} (view : View Q) → view.parent ≡ None → view.heard ≡ None → (parent : Parent)
-    → NamesParent view parent → ⊥
-names_none {Q} view uncut untold parent names =
-    ⊎_elim
-    (λ (its : view.parent ≡ Some parent). none_some parent (sym uncut ∙ its))
-    (λ (its : (heard : Heard Q) × (view.heard ≡ Some heard) × (heard.parent ≡ Some parent)).
-    none_some its.0 (sym untold ∙ its.1))
-    names
 
 -- what was seen, and what came later, in order
 pub in_order : {Q : Type 0} (later seen history : List (Entry Q)) → later ++ reverse seen ≡ history
@@ -319,8 +250,6 @@ look_keeps rests limit limits id word words homes views history view holds at li
           (λ n one apart there. holds.cut n one there) (λ is. absurd (acting_uncut view.stage live is));
       heard = told_set views id view (seeing view (reverse history)) history at (acting_unjoined view.stage live)
           (λ heard is. is) holds.heard;
-      parents = parents_set views id view (seeing view (reverse history)) at (acting_unjoined view.stage live)
-          (λ _. le_refl view.cuts) (λ parent names. holds.parents id view at parent names) holds.parents;
       unused = λ n past. holds.unused n (subst (λ many. many ≤ n) long past);
       chaired = subst (λ many. 0 < many) (sym long) holds.chaired;
     }
@@ -364,7 +293,7 @@ module _ {Q : Type 0} (limits : Limits) (entry : Entry Q) (history : List (Entry
   record_adds = record_at-latest limits.count limits.ceiling entry history fit
 
 -- what a seat holds stays held while others add entries
-pub held_stays : {Q : Type 0} (limits : Limits) (number : ℕ) (held : HeldShard Q) (entry : Entry Q)
+held_stays : {Q : Type 0} (limits : Limits) (number : ℕ) (held : HeldShard Q) (entry : Entry Q)
     (history : List (Entry Q)) → IsLegalLatest limits.count limits.ceiling (entry ∷ history) → held.shard ≢ entry.shard
     → IsHolding limits number held history → IsHolding limits number held (entry ∷ history)
 held_stays limits number held entry history legal apart is =
@@ -656,8 +585,6 @@ adds_keep rests limit limits id word new words homes later views history view ki
           (λ is. absurd (acting_uncut view.stage live is));
       heard = told_set views id view mine (entry ∷ history) at (acting_unjoined view.stage live) (λ heard is. is)
           (told_added views entry view history at (acting_unjoined view.stage live) holds.heard);
-      parents = parents_set views id view mine at (acting_unjoined view.stage live) (λ _. le_refl view.cuts)
-          (λ parent names. holds.parents id view at parent names) holds.parents;
       unused = λ n past.
           let before : length views ≤ n = subst (λ many. many ≤ n) long past in
           All-cons (λ one. one.actor ≢ n) entry history (λ is. at_end n id views view at before (sym is))
@@ -962,8 +889,6 @@ enters {S} {Q} rests limit limits slots word server first same table rule size s
           cut = views_pushed (λ m one. one.stage ≡ Cut → IsCut limits m one history) table.views mine holds.cut
               (λ is. absurd (acting_uncut Acting refl is));
           heard = told_pushed table.views mine history refl holds.heard;
-          parents = parents_pushed table.views mine
-              (λ parent names. absurd (names_none mine refl refl parent names)) holds.parents;
           unused = λ m past. holds.unused m (omega arith);
           chaired = omega arith;
         },
@@ -1013,9 +938,6 @@ begins {S} {Q} rests limit limits words bodies slots are many sizes put empty = 
     cut = λ n view at is. absurd (acting_uncut view.stage (ap (λ (one : View Q). one.stage) (only n view at)) is);
     heard =
         λ n view at heard is. absurd (none_some heard (sym (ap (λ (one : View Q). one.heard) (only n view at)) ∙ is));
-    parents = λ n view at parent names. absurd (names_none view
-        (ap (λ (one : View Q). one.parent) (only n view at)) (ap (λ (one : View Q). one.heard) (only n view at)) parent
-        names);
     unused = λ n past. All-nil (λ one. one.actor ≢ n);
     chaired = omega arith;
   },
@@ -1047,7 +969,7 @@ carries_body {S} {Q} me view carried at shard body out slots =
     out ∙ ap (λ (all : List (ℕ × Option S)). (view, (at, Some body) ∷ rest all)) slots
 
 -- the store that spends a permit
-pub held_some : {Q : Type 0} (held : Option (HeldShard Q)) (shard : ℕ) (state : Record)
+held_some : {Q : Type 0} (held : Option (HeldShard Q)) (shard : ℕ) (state : Record)
     → option_map {U = ℕ × Record} (λ (one : HeldShard Q). (one.shard, one.state)) held ≡ Some (shard, state)
     → (one : HeldShard Q) × (held ≡ Some one) × (one.shard ≡ shard) × (one.state ≡ state)
 held_some None shard state is = absurd (none_some (shard, state) is)

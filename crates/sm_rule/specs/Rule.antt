@@ -1,6 +1,5 @@
 -- The rule of a board: what its words are, where the bodies are, and what each seat knows.
-use Rattle.std.specs.Prelude.{ℕ, true, false, ◌≡◌, ◌≢◌, ◌<◌, ◌≤◌, ◌⊎◌, List, ◌++◌, Option, Some, length, map}
-use Rattle.std.specs.Prelude.{reverse}
+use Rattle.std.specs.Prelude.{ℕ, true, false, ◌≡◌, ◌≢◌, ◌<◌, ◌≤◌, List, ◌++◌, Option, Some, length, map, reverse}
 use mathlib.Core.Option as math
 use mathlib.Core.Option.{some}
 use lib.ListN.{get_elem?}
@@ -14,9 +13,8 @@ use Rattle.sm_word.specs.Word.{word_of}
 use Rattle.sm_rule.specs.Boards.{limit_at}
 use Rattle.sm_rule.specs.declared.limits.Limits.{Limits}
 use Rattle.sm_rule.specs.declared.view.HeldShard.{HeldShard}
-use Rattle.sm_rule.specs.declared.view.Stage.TheVariants.{Acting, Cut, Joined}
+use Rattle.sm_rule.specs.declared.view.Stage.TheVariants.{Acting, Cut}
 use Rattle.sm_rule.specs.declared.view.Heard.{Heard}
-use Rattle.sm_rule.specs.declared.view.Parent.{Parent}
 use Rattle.sm_rule.specs.declared.view.View.{View}
 use Rattle.sm_rule.specs.Views.{left_behind}
 
@@ -35,11 +33,6 @@ pub record IsHolding {Q : Type 0} (limits : Limits) (number : ℕ) (held : HeldS
   pub own : is_admission_of number (latest_of history held.shard) ≡ true
   pub first : first_of (reverse history) held.shard ≡ held.first
   pub all : all_of (reverse history) held.shard ≡ held.all
-
--- what a seat holds stands in all that it has seen: its own admission is the shard's latest entry
-abbrev pub ViewHolds : {Q : Type 0} → View Q → Type 0
-ViewHolds {Q} view =
-    (held : HeldShard Q) → view.held ≡ Some held → IsHolding view.limits view.number held (reverse view.seen)
 
 -- what a seat knows is so: the history begins with what it has seen, and has no more entries of its number
 pub record IsTrueView {Q : Type 0} (limits : Limits) (number : ℕ) (view : View Q)
@@ -73,22 +66,6 @@ abbrev pub AreHeard : {Q : Type 0} → List (View Q) → List (Entry Q) → Type
 AreHeard views history = (number : ℕ) (view : View _) → get_elem? views number ≡ some view → (heard : Heard _)
     → view.heard ≡ Some heard → IsHeard views heard history
 
--- the seat was cut from that parent, or was told of one that was
-abbrev pub NamesParent : {Q : Type 0} → View Q → Parent → Type 0
-NamesParent view parent =
-    (view.parent ≡ Some parent) ⊎ ((heard : Heard _) × (view.heard ≡ Some heard) × (heard.parent ≡ Some parent))
-
--- from the parent's seat so many were cut, or more, unless another has taken that seat in
-abbrev pub HasCut : {Q : Type 0} → List (View Q) → Parent → Type 0
-HasCut views parent =
-    (parent.number < length views)
-    × ((view : View _) → get_elem? views parent.number ≡ some view → view.stage ≢ Joined → parent.cuts ≤ view.cuts)
-
--- all parents that seats name are so
-abbrev pub AreParents : {Q : Type 0} → List (View Q) → Type 0
-AreParents views = (number : ℕ) (view : View _) → get_elem? views number ≡ some view → (parent : Parent)
-    → NamesParent view parent → HasCut views parent
-
 -- the bodies of the idle shards are at home: each rests on all requests that the history has for its shard, and has the
 -- shard's limit
 abbrev pub AreHome : {S Q : Type 0} → (S → ℕ → List Q → Type 0) → (S → ℕ) → Limits → List (math.Option (Option S))
@@ -99,8 +76,8 @@ AreHome {S} keeps limit limits homes history =
     (all_of (reverse history) shard) × (limit body ≡ limit_at limits shard)
 
 -- the words are those of the table of a legal history of known servers; the bodies of its idle shards are at home; each
--- seat that acts knows it as far as it has looked, and so do those that were cut off or taken in; each parent was cut
--- as often as its seats say; a number that no seat has yet has no entry in it
+-- seat that acts knows it as far as it has looked, and so do those that were cut off or taken in; a number that no seat
+-- has yet has no entry in it
 pub record RuleHolds {S Q : Type 0} (keeps : S → ℕ → List Q → Type 0) (limit : S → ℕ) (limits : Limits) (words : List ℕ)
     (homes : List (math.Option (Option S))) (views : List (View Q)) (history : List (Entry Q)) : Type 0 where
   pub legal : IsLegalLatest limits.count limits.ceiling history
@@ -113,7 +90,6 @@ pub record RuleHolds {S Q : Type 0} (keeps : S → ℕ → List Q → Type 0) (l
   pub cut : (number : ℕ) (view : View Q) → get_elem? views number ≡ some view → view.stage ≡ Cut
       → IsCut limits number view history
   pub heard : AreHeard views history
-  pub parents : AreParents views
   pub unused : (number : ℕ) → length views ≤ number → NoneBy number history
   pub chaired : 0 < length views
 

@@ -1,5 +1,5 @@
 -- What each kind of step on a board tells its caller.
-use Rattle.std.specs.Prelude.{ℕ, ◌≡◌, ◌≢◌, ◌≤◌, Bool, List, ◌∷◌, true, false, Option, Some, None}
+use Rattle.std.specs.Prelude.{ℕ, ◌≡◌, ◌≢◌, Bool, List, ◌∷◌, true, false, Option, Some, None}
 use Rattle.atomic_table.specs.Table.{Me, Step, rest}
 use Rattle.sm_ownership.specs.declared.entry.Entry.{Entry}
 use Rattle.sm_ownership.specs.declared.entry.Kind.{Kind}
@@ -9,12 +9,11 @@ use Rattle.sm_ownership.specs.History.{IsLegal, admits_only, all_of, ending_of, 
 use Rattle.sm_word.specs.Known.{KnownKind}
 use Rattle.sm_word.specs.Word.{IsWellFormed, word_of}
 use Rattle.sm_rule.specs.declared.view.Heard.{Heard}
-use Rattle.sm_rule.specs.declared.view.Parent.{Parent}
 use Rattle.sm_rule.specs.declared.view.View.{View}
 use Rattle.sm_rule.specs.Boards.{limit_at}
 use Rattle.sm_rule.specs.Bodies.{all_after, first_after}
-use Rattle.sm_rule.specs.Rule.{IsTrueView, ViewHolds}
-use Rattle.sm_rule.specs.Views.{Adds, Begins, IsMet, Looks, all_held, first_held, half_of, newcomer, record_in}
+use Rattle.sm_rule.specs.Rule.{IsTrueView}
+use Rattle.sm_rule.specs.Views.{Adds, Begins, IsMet, Looks, all_held, first_held, newcomer, record_in}
 
 -- the word is that of the shard's record in all that the view has seen
 abbrev pub IsWordAt : {Q : Type 0} → ℕ → View Q → ℕ → Type 0
@@ -33,9 +32,8 @@ Entered server step first found after =
     × IsLegal first.0.limits.count first.0.limits.ceiling after.0.seen
     × (after.0 ≡ newcomer first.0.limits after.0.number server after.0.seen)
 
--- the view of a seat that was cut from another one, which is this view by then: as that of a new seat with the other's
--- server, but for another number than the other's, for the history, which extends what the other had seen, and for the
--- parent
+-- the view of a seat that was cut from another one: as that of a new seat with the other's server, but for another
+-- number than the other's, and for the history, which extends what the other had seen
 abbrev pub IsHalf : {Q : Type 0} → View Q → View Q → Type 0
 IsHalf view half =
     (half.number ≢ 0)
@@ -43,21 +41,17 @@ IsHalf view half =
     × NoneBy half.number half.seen
     × Begins view.seen half.seen
     × IsLegal view.limits.count view.limits.ceiling half.seen
-    × (half ≡ half_of view half.number half.seen)
+    × (half ≡ newcomer view.limits half.number view.server half.seen)
 
 -- the first load of a seat that was cut from another
 abbrev pub Enrolled : {S Q : Type 0} → Step S → Me S (View Q) → ℕ → Me S (View Q) → Type 0
 Enrolled step before found after = IsHalf before.0 after.0 × (after.1 ≡ before.1)
 
--- the load after another seat was taken in: more was seen, as at any load, and all that the other had seen; what is
--- held still stands; and if the other was cut from this one, so many were cut from it
+-- the load after another seat was taken in: more was seen, as at any load, and all that the other had seen
 abbrev pub Met : {S Q : Type 0} → Step S → Me S (View Q) → ℕ → Me S (View Q) → Type 0
 Met step before found after =
     Looks before.0 after.0
     × ((heard : Heard _) → before.0.heard ≡ Some heard → IsMet heard.by heard.seen after.0.seen)
-    × ViewHolds after.0
-    × ((heard : Heard _) (parent : Parent) → before.0.heard ≡ Some heard → heard.parent ≡ Some parent
-    → parent.number ≡ before.0.number → parent.cuts ≤ before.0.cuts)
     × (after.1 ≡ before.1)
 
 -- an admission takes the shard's slot, with a body of its limit that rests on all requests of the shard; a change takes

@@ -1,5 +1,5 @@
 -- What the view of a seat becomes, and how what was seen grows.
-use Rattle.std.specs.Prelude.{ℕ, ◌≡◌, ◌<◌, ◌+◌, List, [], ◌∷◌, ◌++◌, Option, Some, None, drop, length}
+use Rattle.std.specs.Prelude.{ℕ, ◌≡◌, ◌<◌, List, [], ◌∷◌, ◌++◌, Option, Some, None, drop, length}
 use Rattle.sm_ownership.specs.declared.entry.Ending.{Ending}
 use Rattle.sm_ownership.specs.declared.entry.Ending.TheVariants.{Nothing, Request, Checkpoint}
 use Rattle.sm_ownership.specs.declared.entry.Entry.{Entry}
@@ -80,38 +80,19 @@ newcomer limits number server history =
       seen = history;
       stage = Acting;
       heard = None;
-      cuts = 0;
-      parent = None;
     }
 
 -- the history that a view has seen is a legal one
 abbrev pub HasSeenLegal : {Q : Type 0} → View Q → Type 0
 HasSeenLegal view = IsLegal view.limits.count view.limits.ceiling view.seen
 
--- the view of a seat from which one more was cut
-abbrev pub cutting : {Q : Type 0} → View Q → View Q
-cutting view = record view { cuts = view.cuts + 1 }
-
 -- the view of a seat that is cut from another, until its first load gives it a number
 abbrev pub cut_off : {Q : Type 0} → View Q → View Q
-cut_off view =
-    record view {
-      stage = Cut;
-      held = None;
-      heard = None;
-      cuts = 0;
-      parent = Some (record { number = view.number; cuts = view.cuts + 1 });
-    }
-
--- its view once that load gave it this number, and it has seen this history
-abbrev pub half_of : {Q : Type 0} → View Q → ℕ → List (Entry Q) → View Q
-half_of view number history =
-    record (newcomer view.limits number view.server history) { cuts = view.cuts; parent = view.parent }
+cut_off view = record view { stage = Cut; held = None; heard = None }
 
 -- a view that takes in another, and what is left of the other
 abbrev pub informed : {Q : Type 0} → View Q → View Q → View Q
-informed view other =
-    record view { heard = Some (record { by = other.number; seen = other.seen; parent = other.parent }) }
+informed view other = record view { heard = Some (record { by = other.number; seen = other.seen }) }
 
 abbrev pub left_behind : {Q : Type 0} → View Q
 left_behind = record {
@@ -122,8 +103,6 @@ left_behind = record {
   seen = [];
   stage = Joined;
   heard = None;
-  cuts = 0;
-  parent = None;
 }
 
 -- a view that has seen this history

@@ -15,7 +15,6 @@ mod closing;
 mod executing;
 mod making;
 mod telling;
-mod two_passes;
 
 use crate::chair::Chair;
 use crate::origin::Origin;

@@ -125,9 +125,9 @@ impl<S, Q, B: Asks<Q>> Play<Option<S>, View<Q>> for Store<B> {
 pub struct Halves;
 
 impl<Q> Split<View<Q>> for Halves {
-    ghost use Rattle.sm_rule.specs.Views.{cut_off, cutting};
+    ghost use Rattle.sm_rule.specs.Views.{cut_off};
 
-    ghost left = { cutting };
+    ghost left = { λ view. view };
 
     ghost right = { cut_off };
 }

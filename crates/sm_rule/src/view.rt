@@ -18,16 +18,6 @@ pub struct View<Q> {
     pub stage: Stage,
     /// The seat that it has taken in last.
     pub heard: Option<Heard<Q>>,
-    /// How many seats were cut from it.
-    pub cuts: u64,
-    /// The seat from which it was cut, if it was.
-    pub parent: Option<Parent>,
-}
-
-/// A seat from which another was cut: its number, and how many had been cut from it by then, with that other.
-pub struct Parent {
-    pub number: u64,
-    pub cuts: u64,
 }
 
 /// Whether a seat acts.
@@ -48,9 +38,8 @@ pub struct HeldShard<Q> {
     pub all: LinkedList<Q>,
 }
 
-/// What a seat that was taken in had seen, its number, and the seat from which it was cut.
+/// What a seat that was taken in had seen, and its number.
 pub struct Heard<Q> {
     pub by: u64,
     pub seen: LinkedList<Entry<Q>>,
-    pub parent: Option<Parent>,
 }

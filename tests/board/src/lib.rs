@@ -33,5 +33,3 @@ mod rule;
 mod service;
 #[cfg(test)]
 mod stale;
-#[cfg(test)]
-mod two_passes;

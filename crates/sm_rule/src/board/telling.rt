@@ -1,12 +1,10 @@
 //! What one caller tells another.
-ghost use Rattle.std.specs.Prelude.{◌≡◌, ◌≢◌, ◌≤◌, [], None, Some};
+ghost use Rattle.std.specs.Prelude.{◌≡◌, ◌≢◌, [], None};
 ghost use Rattle.sm_ownership.specs.History.{NoneBy};
-ghost use Rattle.sm_rule.specs.declared.view.Parent.{Parent};
 ghost use Rattle.sm_rule.specs.declared.view.Stage.TheVariants.{Acting};
-ghost use Rattle.sm_rule.specs.Passes.{HasLegalFront, HoldsInSeen, PassLooks};
-ghost use Rattle.sm_rule.specs.Rule.{ViewHolds};
+ghost use Rattle.sm_rule.specs.Passes.{HasLegalFront, PassLooks};
 ghost use Rattle.sm_rule.specs.Steps.{IsHalf};
-ghost use Rattle.sm_rule.specs.Views.{Begins, IsMet, Looks, cut_off, cutting, informed};
+ghost use Rattle.sm_rule.specs.Views.{Begins, IsMet, Looks, informed};
 
 use super::Board;
 use crate::chair::Chair;
@@ -66,38 +64,33 @@ impl<S: Service> Board<S> {
     }
 
     /// Tells the pass all that the note had seen: it has then seen that too, and no more entries of the note's number.
-    /// What the pass holds stands in all of it. It can't be refused.
+    /// It can't be refused.
     pub fn meet(&self, pass: &mut Pass<S>, note: Note<S>)
         requires board { pass.old.board ≡ self.now }
         requires note { note.board ≡ self.now }
         ensures looks { PassLooks pass.old pass.new }
         ensures met { IsMet note.number note.seen pass.new.seen }
-        ensures holds { HoldsInSeen pass.new }
     {
         let Note { seat } = note;
         self.take_in(&mut pass.seat, seat);
     }
 
     // A new seat with a number of its own, which has seen all that this one has.
-    // It names this one as its parent.
-    pub(super) fn cut(
-        &self,
-        seat: &mut Seat<Option<S>, View<S::Request>>,
-    ) -> Seat<Option<S>, View<S::Request>>
+    fn cut(&self, seat: &mut Seat<Option<S>, View<S::Request>>) -> Seat<Option<S>, View<S::Request>>
         requires table { seat.old.table_id ≡ self.now.id }
         requires live { seat.old.me.0.stage ≡ Acting }
         ensures table { seat.new.table_id ≡ seat.old.table_id }
-        ensures cut { seat.new.me ≡ (cutting seat.old.me.0, seat.old.me.1) }
+        ensures unchanged { seat.new.me ≡ seat.old.me }
         ensures new_table { result.table_id ≡ self.now.id }
         ensures slots { result.me.1 ≡ [] }
-        ensures half { IsHalf (cut_off seat.old.me.0) result.me.0 }
+        ensures half { IsHalf seat.old.me.0 result.me.0 }
     {
         let mut new = self.table.shared.split_seat::<Halves>(seat);
         let _ = self.table.shared.load::<Enroll>(&mut new, 0);
         new
     }
 
-    // Takes in another seat, and looks. If the other was cut from this one, it says no more cuts than this one has.
+    // Takes in another seat, and looks.
     pub(super) fn take_in(
         &self,
         seat: &mut Seat<Option<S>, View<S::Request>>,
@@ -112,9 +105,6 @@ impl<S: Service> Board<S> {
         ensures slots { seat.new.me.1 ≡ seat.old.me.1 }
         ensures seen { Looks (informed seat.old.me.0 other.me.0) seat.new.me.0 }
         ensures met { IsMet other.me.0.number other.me.0.seen seat.new.me.0.seen }
-        ensures holds { ViewHolds seat.new.me.0 }
-        ensures parent { (parent : Parent) → other.me.0.parent ≡ Some parent → parent.number ≡ seat.old.me.0.number
-            → parent.cuts ≤ seat.old.me.0.cuts }
     {
         self.table.shared.join_seat::<Halves>(seat, other);
         let _ = self.table.shared.load::<Meet>(seat, 0);
