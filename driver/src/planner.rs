@@ -109,8 +109,8 @@ impl Planner {
         self.director.command(command, runs).map_err(Refused::of)
     }
 
-    /// Has the servers that the shard's record names ack it: data in memory is used by one thread at a time, so a server
-    /// lets go of a shard before its record changes.
+    /// Has the servers that the shard's record names ack it: data in memory is used by one thread at a time, so a
+    /// server lets go of a shard before its record changes.
     fn have_acked(&mut self, shard: u16) -> Result<(), Refused> {
         self.director.have_acked(shard).map_err(Refused::of)
     }

@@ -130,8 +130,8 @@ struct Moment {
     named: Head,
 }
 
-/// A server that has read the shard. One that has kept what it had made reads only what the log has and it hasn't. Where
-/// that isn't there any more, as a base stands for it, it reads the base as any other.
+/// A server that has read the shard. One that has kept what it had made reads only what the log has and it hasn't.
+/// Where that isn't there any more, as a base stands for it, it reads the base as any other.
 pub(crate) fn recover(
     store: &dyn Store,
     kept: Option<Core>,

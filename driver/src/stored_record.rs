@@ -47,8 +47,8 @@ impl StoredRecord {
             .is_some_and(|it| matches!(it.stand, Stand::Taken { .. }))
     }
 
-    /// Returns the generation that the server is to ack, if whoever leads waits for that: it is the next owner of a shard
-    /// that is prepared, or no longer executes by this record.
+    /// Returns the generation that the server is to ack, if whoever leads waits for that: it is the next owner of a
+    /// shard that is prepared, or no longer executes by this record.
     pub(crate) fn acked_by(&self, server: u16) -> Option<u64> {
         let record = self.record()?;
         let awaited = match record.stand {

@@ -29,8 +29,8 @@ fn three(reads: Reads, lease: Duration) -> (Vec<Node>, DurableControl) {
     (nodes, control)
 }
 
-/// Has shard 0 go to the second process, as far as that needs nobody to have seen it. Processes whose watches are silent
-/// say that they let go, though they go by the record before.
+/// Has shard 0 go to the second process, as far as that needs nobody to have seen it. Processes whose watches are
+/// silent say that they let go, though they go by the record before.
 fn take(control: &mut DurableControl, nodes: &[Node]) {
     for step in [
         ControlCommand::PrepareAddShard(0, 2),

@@ -36,8 +36,8 @@
 //! # Ok::<(), Box<dyn std::error::Error>>(())
 //! ```
 //!
-//! Nothing here decides who may execute. Each such decision is a proved call: a view of the shard, which knows the lease
-//! and what was read ([`durkenzo_store_sys::ShardView`]), the word of the shard's record, or the control.
+//! Nothing here decides who may execute. Each such decision is a proved call: a view of the shard, which knows the
+//! lease and what was read ([`durkenzo_store_sys::ShardView`]), the word of the shard's record, or the control.
 #![forbid(unsafe_code)]
 #![deny(missing_docs)]
 

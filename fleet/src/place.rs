@@ -151,8 +151,8 @@ impl Known {
         Ok(())
     }
 
-    /// Returns the fencing token: the revision of the record or of the server's key, whichever is later. Another process
-    /// executes only by a later record, or under a later key.
+    /// Returns the fencing token: the revision of the record or of the server's key, whichever is later. Another
+    /// process executes only by a later record, or under a later key.
     pub(crate) fn fence(&self) -> u64 {
         self.stood.max(self.view.joined())
     }

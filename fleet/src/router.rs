@@ -175,8 +175,8 @@ impl Router {
         answer_of(&bytes)
     }
 
-    /// Gives the control of the fleet a command, as `["MIGRATE", "3", "2"]`, by way of the owner of the first shard, and
-    /// waits so long for its answer, in lines.
+    /// Gives the control of the fleet a command, as `["MIGRATE", "3", "2"]`, by way of the owner of the first shard,
+    /// and waits so long for its answer, in lines.
     ///
     /// # Errors
     ///

@@ -19,8 +19,8 @@ pub trait Service: Send + Sync + 'static {
     /// Answers a call.
     fn answer(&self, body: &mut Self::Body, call: Call<'_>) -> Vec<u8>;
 
-    /// Returns all that the next owner needs. No call is answered by this body from here on, unless the next owner fails
-    /// before it is the owner: then calls go on by the body as it is.
+    /// Returns all that the next owner needs. No call is answered by this body from here on, unless the next owner
+    /// fails before it is the owner: then calls go on by the body as it is.
     fn hand_over(&self, body: &mut Self::Body) -> Vec<u8>;
 
     /// Prepares for a shard that will come from that server. Its owner answers calls meanwhile.

@@ -59,8 +59,8 @@ impl Faults {
         }
     }
 
-    /// Draws whether this fault strikes, which it does `times` times in `of`. Returns the chance by which it does, if it
-    /// strikes.
+    /// Draws whether this fault strikes, which it does `times` times in `of`. Returns the chance by which it does, if
+    /// it strikes.
     pub fn strike(&self, fault: Fault, times: u64, of: u64, column: Column) -> Option<Chance> {
         let mut drawn = self
             .drawn

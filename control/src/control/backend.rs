@@ -48,8 +48,8 @@ pub trait Backend: Send {
     /// Returns how far the server's restart has come.
     fn state_of(&mut self, server: u16) -> Result<ServerState, BackendFault>;
 
-    /// Returns whether the restart of the server is over if this process runs the server: the process began after the one
-    /// that was to end.
+    /// Returns whether the restart of the server is over if this process runs the server: the process began after the
+    /// one that was to end.
     fn is_restarted_by(&mut self, _server: u16, _process: u64) -> Result<bool, BackendFault> {
         Ok(false)
     }

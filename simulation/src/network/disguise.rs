@@ -20,8 +20,8 @@ impl Disguise {
         })
     }
 
-    /// Takes the bytes by which the caller greets, until they are whole: they go on as they are to be, or are refused by
-    /// these bytes.
+    /// Takes the bytes by which the caller greets, until they are whole: they go on as they are to be, or are refused
+    /// by these bytes.
     pub fn take(&mut self, called: &mut Pipe) -> Option<Option<Vec<u8>>> {
         self.hello.extend(called.bytes.drain(..));
         let (greeting, version, _) = Greeting::read(&self.hello).ok()??;

@@ -360,8 +360,8 @@ struct WatchCreate {
 }
 
 impl WatchRequest {
-    /// Of all keys that begin so, from this moment on, of which all is known. At the revision of a compaction etcd keeps
-    /// no deletions, and says only to who asks for what was before it that something is gone.
+    /// Of all keys that begin so, from this moment on, of which all is known. At the revision of a compaction etcd
+    /// keeps no deletions, and says only to who asks for what was before it that something is gone.
     pub(super) fn from(prefix: &[u8], moment: Revision) -> WatchRequest {
         let (key, range_end) = (prefix.to_vec(), end_of(prefix));
         WatchRequest {

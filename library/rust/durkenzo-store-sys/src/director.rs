@@ -169,8 +169,8 @@ impl Director {
         Code::judged(unsafe { calls::durkenzo_director_read(&mut self.handle, placed) })
     }
 
-    /// Judges the command, where this process runs the server that it names, 0 where none was seen: it is to be sent, or
-    /// refused by the first fault that applies.
+    /// Judges the command, where this process runs the server that it names, 0 where none was seen: it is to be sent,
+    /// or refused by the first fault that applies.
     pub fn command(&mut self, step: DirectorStep, process: u64) -> Result<(), Code> {
         let DirectorStep {
             shard,
