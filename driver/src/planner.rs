@@ -1,4 +1,4 @@
-use crate::command::{ControlCommand, Next, Subject};
+use crate::command::{ControlCommand, Next};
 use crate::keys::VACANT;
 use crate::proved::Director;
 use crate::{CoreFault, Refused, ServerState};
@@ -15,8 +15,9 @@ const ALL_READ: Revision = Revision(u64::MAX);
 /// A proved control without a store. It judges commands and says what comes next, by the stands and states that its
 /// owner gives it. The owner makes the commands, and says which were made.
 ///
-/// It takes for granted that each server sees each change at once, as servers of one process do. It knows no admissions
-/// and no generations: whoever makes a change judges these.
+/// It takes for granted that each server sees each change at once, as servers of one process do, and waits for no ack: data
+/// in memory is used by one thread at a time, so a server lets go of a shard before its record changes. It knows no
+/// admissions and no generations: whoever makes a change judges these.
 ///
 /// ```
 /// use durkenzo::Stand;
@@ -46,7 +47,7 @@ impl Planner {
     ///
     /// `OtherSettings` if the line breaks a rule of settings.
     pub fn new(line: &str) -> Result<Planner, Refused> {
-        let director = Director::new(line, PROCESS, ELECTED).map_err(Refused::of)?;
+        let director = Director::alone(line, PROCESS, ELECTED).map_err(Refused::of)?;
         let mut planner = Planner { director, made: 0 };
         planner.have_all_follow().map_err(Refused::of)?;
         Ok(planner)
@@ -101,18 +102,9 @@ impl Planner {
     ///
     /// `Judged` by the first fault that applies. The planner is then as it was.
     pub fn judge(&mut self, command: ControlCommand) -> Result<(), Refused> {
-        if let Subject::Shard(shard) = command.subject() {
-            self.have_acked(shard)?;
-        }
         // A server begins anew with each step, as no process of its own does.
         let runs = self.made + 1;
         self.director.command(command, runs).map_err(Refused::of)
-    }
-
-    /// Has the servers that the shard's record names ack it: data in memory is used by one thread at a time, so a
-    /// server lets go of a shard before its record changes.
-    fn have_acked(&mut self, shard: u16) -> Result<(), Refused> {
-        self.director.have_acked(shard).map_err(Refused::of)
     }
 
     /// Learns that the command that was judged was made.
@@ -136,7 +128,6 @@ impl Planner {
     ///
     /// `Judged` if there is no such shard.
     pub fn next_of_shard(&mut self, shard: u16) -> Result<Next, Refused> {
-        self.have_acked(shard)?;
         self.director.next_of_shard(shard).map_err(Refused::of)
     }
 

@@ -134,10 +134,11 @@ typedef struct {
 
 /* Makes the control of the store that this line of settings describes (docs/SETTINGS.md, without its line feed), for
  * this process, whose number isn't another one's and which was elected at this revision. It has read nothing yet, and
- * there are so many shards and servers. The handle keeps it, in place of what it kept. Errors: BAD_ARGUMENT where the
- * revision is 0, NO_MEMORY, and 70 to 82. */
+ * there are so many shards and servers. `waits` says whether commands wait for acks, as they must unless all servers of
+ * the store are of this process. The handle keeps it, in place of what it kept. Errors: BAD_ARGUMENT where the revision
+ * is 0, NO_MEMORY, and 70 to 82. */
 uint32_t durkenzo_director(durkenzo_director_handle *director, const uint8_t *line, size_t length, uint64_t process,
-                           uint64_t elected, size_t *shards, size_t *servers);
+                           uint64_t elected, bool waits, size_t *shards, size_t *servers);
 
 /* The server at this place of the settings' rows, from 0. Errors: WRONG_HANDLE, NO_MORE past the last. */
 uint32_t durkenzo_director_server(durkenzo_director_handle *director, size_t at, uint16_t *server);

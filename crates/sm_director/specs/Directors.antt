@@ -1,5 +1,5 @@
 -- What calls do to a director: the control of a shared store by a line of settings, and what was read for it.
-use Rattle.std.specs.Prelude.{ℕ, ◌≡◌, ◌<◌, ◌++◌, ◌∷◌, [], IsTrue, List, Ok, Some}
+use Rattle.std.specs.Prelude.{ℕ, Bool, ◌≡◌, ◌<◌, ◌++◌, ◌∷◌, [], IsTrue, List, Ok, Some}
 use Rattle.std.specs.Global.{Vec}
 use Rattle.sm_codec.specs.declared.stored_record.StoredRecord.{StoredRecord}
 use Rattle.sm_codec.specs.declared.stored_state.StoredState.{StoredState}
@@ -34,13 +34,15 @@ use Rattle.sm_director.specs.declared.director_fault.DirectorFault.TheVariants.{
 use Rattle.sm_director.specs.declared.director_stage.DirectorStage.{DirectorStage}
 use Rattle.sm_director.specs.declared.director_stage.DirectorStage.TheVariants.{Unread, Stands, Sent}
 
--- a director by this line of settings, of a process that was elected at this revision, which has read nothing
-pub record IsNewDirector (line : List ℕ) (process elected : ℕ) (director : Director) : Type 0 where
+-- a director by this line of settings, of a process that was elected at this revision, which has read nothing, and
+-- whose commands wait for acks or don't
+pub record IsNewDirector (line : List ℕ) (process elected : ℕ) (waits : Bool) (director : Director) : Type 0 where
   pub settings : settings_of line ≡ Ok (values_of director.settings)
   pub caps : director.caps.ops ≡ director.settings.ops
   pub was_elected : 0 < elected
   pub process_is : director.lead.process ≡ process
   pub elected_is : director.lead.elected ≡ elected
+  pub waits_is : director.waits ≡ waits
   pub records : director.records.items ≡ []
   pub runs : director.runs.items ≡ []
   pub followers : director.followers.items ≡ []
@@ -54,6 +56,7 @@ with_records director records =
       settings = director.settings;
       caps = director.caps;
       lead = director.lead;
+      waits = director.waits;
       records = records;
       runs = director.runs;
       followers = director.followers;
@@ -68,6 +71,7 @@ with_runs director runs =
       settings = director.settings;
       caps = director.caps;
       lead = director.lead;
+      waits = director.waits;
       records = director.records;
       runs = runs;
       followers = director.followers;
@@ -82,6 +86,7 @@ with_followers director followers =
       settings = director.settings;
       caps = director.caps;
       lead = director.lead;
+      waits = director.waits;
       records = director.records;
       runs = director.runs;
       followers = followers;
@@ -96,6 +101,7 @@ with_acks director acks =
       settings = director.settings;
       caps = director.caps;
       lead = director.lead;
+      waits = director.waits;
       records = director.records;
       runs = director.runs;
       followers = director.followers;
@@ -110,6 +116,7 @@ with_stage director stage =
       settings = director.settings;
       caps = director.caps;
       lead = director.lead;
+      waits = director.waits;
       records = director.records;
       runs = director.runs;
       followers = director.followers;
@@ -122,6 +129,7 @@ pub record KeepsAll (old new : Director) : Type 0 where
   pub settings : new.settings ≡ old.settings
   pub caps : new.caps ≡ old.caps
   pub lead : new.lead ≡ old.lead
+  pub waits : new.waits ≡ old.waits
   pub records : new.records.items ≡ old.records.items
   pub runs : new.runs.items ≡ old.runs.items
   pub followers : new.followers.items ≡ old.followers.items
@@ -173,11 +181,12 @@ desk_of_settings director =
       caps = director.caps;
     }
 
--- the director keeps its settings, its election, its followers and acks, and what was added is let go
+-- the director keeps its settings, its election, whether it waits, its followers and acks, and what was added is let go
 pub record LetsGo (old new : Director) : Type 0 where
   pub settings : new.settings ≡ old.settings
   pub caps : new.caps ≡ old.caps
   pub lead : new.lead ≡ old.lead
+  pub waits : new.waits ≡ old.waits
   pub followers : new.followers ≡ old.followers
   pub acks : new.acks ≡ old.acks
   pub records : new.records.items ≡ []
@@ -187,7 +196,8 @@ pub record LetsGo (old new : Director) : Type 0 where
 abbrev pub LoadsControl : ℕ → Director → Director → Type 0
 LoadsControl placed old new =
     LetsGo old new × (control : StoreControl) × (new.stage ≡ Stands control)
-    × IsLoaded (desk_of_settings old) old.lead old.settings.ceiling old.records.items old.runs.items placed control
+    × IsLoaded (desk_of_settings old) old.lead old.settings.ceiling old.waits old.records.items old.runs.items placed
+    control
 
 -- nothing is read any more
 abbrev pub ForgetsAll : Director → Director → Type 0
@@ -198,7 +208,8 @@ abbrev pub IsAllowedSend : List AckRead → SentCommand → Type 0
 IsAllowedSend acks sent =
     (parts : List (Item (Vec ℕ)) → List (Vec ℕ)) (log : List (Transaction (Vec ℕ) (Vec ℕ)))
     → KnowsStore log sent.control → AreAcksMade log acks
-    → MaySend (charter_of (rows_of sent.control.desk.books) sent.control.desk.caps sent.control.ceiling parts) log
+    → MaySend (charter_of (rows_of sent.control.desk.books) sent.control.desk.caps sent.control.ceiling
+    sent.control.waits parts) log
     (command_transaction (sending_of sent.control sent.write))
 
 -- where the command drops a shard, each follower has read that the shard is taken

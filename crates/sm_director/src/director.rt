@@ -40,6 +40,8 @@ pub struct Director {
     /// The caps of restarts that the settings give.
     pub caps: Tasks,
     pub lead: Leadership,
+    /// Whether commands wait for acks.
+    pub waits: bool,
     /// The records and states that were added, to be read.
     pub records: Vec<RecordRead>,
     pub runs: Vec<ServerRun>,
@@ -50,9 +52,15 @@ pub struct Director {
 
 impl Director {
     /// The director of the store that the line of settings describes, by one who was elected. It has read nothing.
-    pub fn new(alloc: Global, line: &[u8], lead: Leadership) -> Result<Director, SettingsFault>
+    /// `waits` says whether commands wait for acks: they need not if all servers are of one process.
+    pub fn new(
+        alloc: Global,
+        line: &[u8],
+        lead: Leadership,
+        waits: bool,
+    ) -> Result<Director, SettingsFault>
         requires { 0 < lead.elected }
-        ensures made { IfOk result (IsNewDirector line.now lead.process lead.elected) }
+        ensures made { IfOk result (IsNewDirector line.now lead.process lead.elected waits) }
         ensures fault { IfErr result (λ fault. fault ≢ SettingsFault.NoMemory → settings_of line.now ≡ Err fault) }
     {
         match Settings::read(alloc, line) {
@@ -62,6 +70,7 @@ impl Director {
                     settings,
                     caps,
                     lead,
+                    waits,
                     records: Vec::new(alloc),
                     runs: Vec::new(alloc),
                     followers: Vec::new(alloc),
@@ -151,6 +160,7 @@ impl Director {
             desk,
             self.lead,
             self.settings.ceiling,
+            self.waits,
             records,
             runs,
             placed,
@@ -373,7 +383,8 @@ fn is_followed(control: &StoreControl, followers: &[Follower], command: &Command
     }
 }
 
-// Whether whoever the command waits for has let go, and the next owner is prepared before the owner forwards.
+// Whether whoever the command waits for has let go, and the next owner is prepared before the owner forwards; or the
+// control doesn't wait.
 fn has_waited(control: &StoreControl, acks: &[AckRead], command: &Command) -> bool
     ensures waited { IsTrue result → IsTrue (has_waited control.now acks.now command.now) }
     ensures prepared { IsTrue result → IsPrepared control.now acks.now command.now }

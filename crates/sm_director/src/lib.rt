@@ -47,7 +47,8 @@ pub use step_parts::StepParts;
 use words::has_word;
 
 /// Makes the control of the store that the line of settings describes, of a process that was elected at this revision.
-/// It has read nothing. The handle keeps it, in place of what it kept, and there are so many shards and servers.
+/// It has read nothing. `waits` says whether commands wait for acks, as they must unless one process has all servers.
+/// The handle keeps it, in place of what it kept, and there are so many shards and servers.
 #[unsafe(no_mangle)]
 pub extern "C" fn durkenzo_director(
     alloc: Global,
@@ -55,10 +56,12 @@ pub extern "C" fn durkenzo_director(
     line: &[u8],
     process: u64,
     elected: u64,
+    waits: bool,
     shards: &mut usize,
     servers: &mut usize,
 ) -> u32
-    ensures made { result ≡ 0 → KeepsDirector (IsNewDirector line.now process elected) director.new.owned.state }
+    ensures made { result ≡ 0 → KeepsDirector (IsNewDirector line.now process elected waits)
+        director.new.owned.state }
     ensures counts { result ≡ 0 → KeepsDirector (λ made. (shards.new ≡ length made.settings.shards.items)
         × (servers.new ≡ length made.settings.servers.items)) director.new.owned.state }
     ensures fault { 70 ≤ result → BreaksRule line.now result }
@@ -67,7 +70,7 @@ pub extern "C" fn durkenzo_director(
     let Some(lead) = Leadership::new(process, elected) else {
         return BAD_ARGUMENT;
     };
-    let made = match Director::new(alloc, line, lead) {
+    let made = match Director::new(alloc, line, lead, waits) {
         Ok(made) => made,
         Err(fault) => return code_of_line(fault),
     };

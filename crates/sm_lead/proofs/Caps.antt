@@ -2,7 +2,7 @@
 use Rattle.std.proofs.Common.{◌≡◌, ℕ, true, List, [], ◌∷◌, length, Option, Some, None, refl, sym, ap}
 use Rattle.std.proofs.Common.{subst}
 use Rattle.std.proofs.Common.{◌∙◌, arith}
-use Rattle.std.specs.Prelude.{is_none}
+use Rattle.std.specs.Prelude.{Bool, is_none}
 use Rattle.std.proofs.lemmas.List.{get_or-map, get_or-replicate, length-map}
 use Rattle.sm_ownership.specs.History.{vacant}
 use Rattle.sm_rows.specs.declared.domain_row.DomainRow.{DomainRow}
@@ -71,9 +71,9 @@ module _ (rows : SettingsRows) (caps : RestartCaps)
       (rows_commanded (books_in rows before) command ∙ rows_in rows before) in
       (subst AreSound is sound, subst (MeetsCaps caps) is kept)
 
-  module _ {Q P : Type 0} (ceiling : ℕ) (parts : List (Item Q) → List P) where
+  module _ {Q P : Type 0} (ceiling : ℕ) (waits : Bool) (parts : List (Item Q) → List P) where
     deed_step : (log : List (Transaction Q P)) (deed : Deed Q P)
-        → IsRight (charter_of rows caps ceiling parts) log deed → Keeps (placement_of log)
+        → IsRight (charter_of rows caps ceiling waits parts) log deed → Keeps (placement_of log)
         → Keeps (placement_of (transaction_of deed ∷ log))
     deed_step log (Electing process) right keeps = keeps
     deed_step log (Expiring keys) right keeps = keeps
@@ -104,7 +104,7 @@ module _ (rows : SettingsRows) (caps : RestartCaps)
 
     pub keeps_all : Keeps (record { records = λ shard. vacant; states = λ server. states.Up; processes = λ server. 0 })
         → (log : List (Transaction Q P))
-        → AreRight (charter_of rows caps ceiling parts) log → Keeps (placement_of log)
+        → AreRight (charter_of rows caps ceiling waits parts) log → Keeps (placement_of log)
     keeps_all first [] right = first
     keeps_all first (txn ∷ earlier) right =
         subst (λ (t : Transaction Q P). Keeps (placement_of (t ∷ earlier))) (sym right.0.is)

@@ -1,7 +1,8 @@
 -- What a control knows of the store: once it has read, and once its command was made; and which commands it may send.
 use Rattle.std.proofs.Common.{◌≡◌, ◌≢◌, ℕ, ◌<◌, Bool, true, false, List, [], ◌∷◌, ◌++◌, length, get_or, set}
 use Rattle.std.proofs.Common.{Option, Some, None, refl, sym, ap, subst, ◌∙◌, inl, ⊎_elim, arith}
-use Rattle.std.specs.Prelude.{IsTrue, IfSome, find, is_none, unwrap_or, ◌≤◌, ◌==◌, ◌&&◌, ◌↔◌, if◌then◌else◌}
+use Rattle.std.specs.Prelude.{IsTrue, IfSome, find, is_none, not, unwrap_or, ◌≤◌, ◌==◌, ◌&&◌, ◌||◌, ◌↔◌}
+use Rattle.std.specs.Prelude.{if◌then◌else◌}
 use Rattle.std.specs.Option.{option_map, option_or}
 use Rattle.std.specs.List.{AllByRecursion}
 use Rattle.std.proofs.lemmas.Bool.{cases_eq, eq-eqb, ne_eqb, ltb-true, cond-true, cond-false}
@@ -62,6 +63,11 @@ if_known : {A : Type 0} (b : Bool) (a : Option A) (x : A) → (if b then a else 
 if_known true a x is = refl
 if_known false a x is = absurd cc
 
+-- a control that waits has read that the server let go
+must_have_read : (waits read : Bool) → waits ≡ true → (not waits || read) ≡ true → read ≡ true
+must_have_read true read is so = so
+must_have_read false read is so = absurd (false≢true is)
+
 pub none_is : {A : Type 0} (a : Option A) → a ≡ None → is_none a ≡ true
 none_is None is = refl
 none_is (Some x) is = absurd cc
@@ -75,10 +81,10 @@ known_of books a fault none =
 
 module _ {Q P : Type 0} where
   pub reading_known : (log : List (Transaction Q P)) (desk : DeskView) (lead : Leadership) (ceiling : ℕ)
-      (reads : List RecordRead) (runs : List ServerRun) (placed : ℕ) (control : StoreControl)
-      → AreSound control.desk.books → IsLoaded desk lead ceiling reads runs placed control
+      (waits : Bool) (reads : List RecordRead) (runs : List ServerRun) (placed : ℕ) (control : StoreControl)
+      → AreSound control.desk.books → IsLoaded desk lead ceiling waits reads runs placed control
       → IsReadOf log desk lead reads runs placed → KnowsStore log control
-  reading_known log desk lead ceiling reads runs placed control sound loaded read =
+  reading_known log desk lead ceiling waits reads runs placed control sound loaded read =
       let books = control.desk.books in
       let count = loaded.stands.count in
       let long = sound.states in
@@ -150,7 +156,7 @@ module _ {Q P : Type 0} (parts : List (Item Q) → List P) (log : List (Transact
       → is_none (desk_fault (desk_in (rows_of control.desk.books) control.desk.caps knows.read)
       (Rattle.sm_lead.specs.Placements.step_to run.state a)) ≡ true
       → is_next_run (run_at control a) run ≡ true
-      → MaySend (charter_of (rows_of control.desk.books) control.desk.caps control.ceiling parts) log
+      → MaySend (charter_of (rows_of control.desk.books) control.desk.caps control.ceiling control.waits parts) log
       (command_transaction (sending_of control (WritesState a run)))
   restart_may a run known allows next = record {
     deed = Restarting control.lead.process a run control.lead.elected control.placed;
@@ -201,18 +207,18 @@ module _ {Q P : Type 0} (parts : List (Item Q) → List P) (log : List (Transact
       (cases_lt place (length books.servers))
 
   one_let_go : (acks : List AckRead) → AreAcksMade log acks → (k server : ℕ) → k < length control.desk.books.shards
-      → lets_go control acks k server ≡ true → HasLetGo log knows.read k server
-  one_let_go acks were_made k server within is =
+      → IsTrue control.waits → lets_go control acks k server ≡ true → HasLetGo log knows.read k server
+  one_let_go acks were_made k server within waits is =
       let_go_as_read log knows.read k server (acked_in acks k server) (is_failed (state_of control.desk.books server))
       (found_made acks were_made k server) (failed_there server)
       (subst (λ (r : Record). has_let_go r (acked_in acks k server) (is_failed (state_of control.desk.books server))
-      ≡ true) (knows.records k within) is)
+      ≡ true) (knows.records k within) (must_have_read control.waits _ waits is))
 
   all_let_go : (acks : List AckRead) → AreAcksMade log acks → (k : ℕ) → k < length control.desk.books.shards
-      → (found : Option ℕ) → holds_of_named (lets_go control acks k) found ≡ true
+      → IsTrue control.waits → (found : Option ℕ) → holds_of_named (lets_go control acks k) found ≡ true
       → IfSome found (HasLetGo log knows.read k)
-  all_let_go acks were_made k within None is = tt
-  all_let_go acks were_made k within (Some server) is = one_let_go acks were_made k server within is
+  all_let_go acks were_made k within waits None is = tt
+  all_let_go acks were_made k within waits (Some server) is = one_let_go acks were_made k server within waits is
 
   pub may_be_sent : ((ceiling : ℕ) (state : Record) (change : AnyChange)
       → IsTrue (change_fits ceiling state 0 change)
@@ -220,9 +226,9 @@ module _ {Q P : Type 0} (parts : List (Item Q) → List P) (log : List (Transact
       → (acks : List AckRead) → AreAcksMade log acks → (process : ℕ) (command : Command)
       → command_fault control command ≡ None → has_waited control acks command ≡ true
       → may_name control (write_of control process command) ≡ true
-      → MaySend (charter_of (rows_of control.desk.books) control.desk.caps control.ceiling parts) log
+      → MaySend (charter_of (rows_of control.desk.books) control.desk.caps control.ceiling control.waits parts) log
       (command_transaction (sending_of control (write_of control process command)))
-  may_be_sent exactly acks were_made process (Change k change) none waits named =
+  may_be_sent exactly acks were_made process (Change k change) none waited named =
       let both = none_both _ _ none in
       let state = (read_at control.records.items k).state in
       let within = (let_through control.desk.books k change both.0).within in
@@ -240,28 +246,29 @@ module _ {Q P : Type 0} (parts : List (Item Q) → List P) (log : List (Transact
           changed = subst (λ (r : Record). IsChanged control.ceiling r change (after_change state change))
               (knows.records k within)
               (record { fits = (exactly control.ceiling state change).1 faults; is = refl });
-          waited = subst (λ (r : Record). IfSome (gives_up r.stand change) (HasLetGo log knows.read k))
+          waited = λ waits.
+              subst (λ (r : Record). IfSome (gives_up r.stand change) (HasLetGo log knows.read k))
               (knows.records k within)
-              (all_let_go acks were_made k within (gives_up state.stand change) waits);
+              (all_let_go acks were_made k within waits (gives_up state.stand change) waited);
         };
       }
-  may_be_sent exactly acks were_made process (Ask a) none waits named =
+  may_be_sent exactly acks were_made process (Ask a) none waited named =
       restart_may a (run_into control process a states.Asked)
       (known_of control.desk.books a _ (none_both _ _ none).0)
       (allowed (Ask a) (none_both _ _ none).0) named
-  may_be_sent exactly acks were_made process (Approve a) none waits named =
+  may_be_sent exactly acks were_made process (Approve a) none waited named =
       restart_may a (run_into control process a states.Approved)
       (known_of control.desk.books a _ (none_both _ _ none).0)
       (allowed (Approve a) (none_both _ _ none).0) named
-  may_be_sent exactly acks were_made process (Stopped a) none waits named =
+  may_be_sent exactly acks were_made process (Stopped a) none waited named =
       restart_may a (run_into control process a states.Stopped)
       (known_of control.desk.books a _ (none_both _ _ none).0)
       (allowed (Stopped a) (none_both _ _ none).0) named
-  may_be_sent exactly acks were_made process (Back a) none waits named =
+  may_be_sent exactly acks were_made process (Back a) none waited named =
       restart_may a (run_into control process a states.Up)
       (known_of control.desk.books a _ (none_both _ _ none).0)
       (allowed (Back a) (none_both _ _ none).0) named
-  may_be_sent exactly acks were_made process (Fail a) none waits named =
+  may_be_sent exactly acks were_made process (Fail a) none waited named =
       restart_may a (run_into control process a states.Failed)
       (known_of control.desk.books a _ (none_both _ _ none).0)
       (allowed (Fail a) (none_both _ _ none).0) named

@@ -97,5 +97,6 @@ pub record IsAfter (control : StoreControl) (command : Command) (write : Command
   pub records : new.records.items ≡ reads_after control.records.items write revision
   pub runs : new.runs.items ≡ runs_after control.desk control.runs.items write
   pub ceiling : new.ceiling ≡ control.ceiling
+  pub waits : new.waits ≡ control.waits
   pub lead : new.lead ≡ control.lead
   pub placed : new.placed ≡ revision

@@ -1,5 +1,5 @@
 -- What a control knows of the store, and what it may conclude.
-use Rattle.std.specs.Prelude.{ℕ, ◌≡◌, ◌<◌, IsTrue, List, ◌∷◌, ◌++◌, length, slice_index_or}
+use Rattle.std.specs.Prelude.{ℕ, Bool, ◌≡◌, ◌<◌, IsTrue, List, ◌∷◌, ◌++◌, length, slice_index_or}
 use Rattle.sm_place.specs.declared.server_state.ServerState.{ServerState}
 use Rattle.sm_place.specs.declared.server_state.ServerState.TheVariants.{Up}
 use Rattle.sm_place.specs.declared.shard.Shard.{Shard}
@@ -42,10 +42,11 @@ pub record AreStatesRead (states : List ServerState) (reads : List ServerRun) : 
   pub each : (i : ℕ) → i < length reads → slice_index_or states i Up ≡ (slice_index_or reads i unentered).state
 
 -- the control that was made of what was read: its desk has these rows, and each shard and server as was read
-pub record IsLoaded (desk : DeskView) (lead : Leadership) (ceiling : ℕ) (reads : List RecordRead)
+pub record IsLoaded (desk : DeskView) (lead : Leadership) (ceiling : ℕ) (waits : Bool) (reads : List RecordRead)
     (runs : List ServerRun) (placed : ℕ) (control : StoreControl) : Type 0 where
   pub lead_is : control.lead ≡ lead
   pub ceiling_is : control.ceiling ≡ ceiling
+  pub waits_is : control.waits ≡ waits
   pub placed_is : control.placed ≡ placed
   pub reads_are : control.records.items ≡ reads
   pub rows : HasRowsOf desk control.desk

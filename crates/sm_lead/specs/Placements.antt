@@ -1,5 +1,5 @@
 -- The control's rule over a shared store: its books are the settings' rows, with the records and states of the store.
-use Rattle.std.specs.Prelude.{ℕ, ◌≡◌, ◌<◌, is_none, List, length, map, slice_index_or}
+use Rattle.std.specs.Prelude.{ℕ, Bool, ◌≡◌, ◌<◌, is_none, List, length, map, slice_index_or}
 use Rattle.std.specs.List.{range_with_len}
 use Rattle.sm_place.specs.declared.server_state.ServerState.{ServerState}
 use Rattle.sm_place.specs.declared.server_state.ServerState.TheVariants as states
@@ -70,8 +70,9 @@ abbrev pub desk_in : SettingsRows → RestartCaps → Placement → DeskView
 desk_in rows caps placement = record { books = books_in rows placement; caps = caps }
 
 -- the charter of a store whose control has these rows: a command is allowed that the desk refuses by no fault
-abbrev pub charter_of : {Q P : Type 0} → SettingsRows → RestartCaps → ℕ → (List (Item Q) → List P) → Charter Q P
-charter_of rows caps ceiling parts =
+abbrev pub charter_of : {Q P : Type 0} → SettingsRows → RestartCaps → ℕ → Bool → (List (Item Q) → List P)
+    → Charter Q P
+charter_of rows caps ceiling waits parts =
     record {
       count = length rows.shards;
       ceiling = ceiling;
@@ -79,5 +80,6 @@ charter_of rows caps ceiling parts =
           (Change shard change));
       allows_state = λ placement server state. is_none (desk_fault (desk_in rows caps placement)
           (step_to state server));
+      waits = waits;
       parts = parts;
     }

@@ -1,5 +1,5 @@
 -- For whom the control waits, as far as it has read acks.
-use Rattle.std.specs.Prelude.{ℕ, Bool, true, Option, Some, None, ◌≤◌, ◌==◌, ◌&&◌, List, find, unwrap_or}
+use Rattle.std.specs.Prelude.{ℕ, Bool, true, not, Option, Some, None, ◌≤◌, ◌==◌, ◌&&◌, ◌||◌, List, find, unwrap_or}
 use Rattle.std.specs.List.{AllByRecursion}
 use Rattle.std.specs.Option.{option_map}
 use Rattle.sm_ranges.specs.declared.stand.Stand.{Stand}
@@ -19,10 +19,11 @@ abbrev pub acked_in : List AckRead → ℕ → ℕ → ℕ
 acked_in acks shard server =
     unwrap_or (option_map (λ ack. ack.generation) (find (λ ack. ack.shard == shard && ack.server == server) acks)) 0
 
--- the server has acked the shard's record, as far as was read, or has failed
+-- the server has acked the shard's record, as far as was read, or has failed; a control that doesn't wait takes it so
 abbrev pub lets_go : StoreControl → List AckRead → ℕ → ℕ → Bool
 lets_go control acks shard server =
-    has_let_go (read_at control.records.items shard).state (acked_in acks shard server)
+    not control.waits
+    || has_let_go (read_at control.records.items shard).state (acked_in acks shard server)
     (is_failed (state_of control.desk.books server))
 
 -- if a server is named, this holds of it
@@ -30,7 +31,7 @@ abbrev pub holds_of_named : (ℕ → Bool) → Option ℕ → Bool
 holds_of_named holds None = true
 holds_of_named holds (Some server) = holds server
 
--- whoever the command waits for has let go
+-- whoever the command waits for has let go, or the control doesn't wait
 abbrev pub has_waited : StoreControl → List AckRead → Command → Bool
 has_waited control acks (Change shard change) =
     holds_of_named (lets_go control acks shard) (gives_up (read_at control.records.items shard).state.stand change)
@@ -41,7 +42,7 @@ abbrev pub prepared_of : Stand → Option ℕ
 prepared_of (Prepared owner next) = Some next
 prepared_of stand = None
 
--- the next owner of a prepared shard has acked the record
+-- the next owner of a prepared shard has acked the record, or the control doesn't wait
 abbrev pub is_prepared : StoreControl → List AckRead → ℕ → Bool
 is_prepared control acks shard =
     holds_of_named (lets_go control acks shard) (prepared_of (read_at control.records.items shard).state.stand)

@@ -1,6 +1,6 @@
 //! Laws of controls and the store together.
 
-ghost use Rattle.std.specs.Prelude.{◌≡◌, ℕ, List, None, true};
+ghost use Rattle.std.specs.Prelude.{◌≡◌, ℕ, Bool, List, None, true};
 ghost use Rattle.sm_rows.specs.declared.domain_row.DomainRow.{DomainRow};
 ghost use Rattle.sm_rows.specs.declared.group_row.GroupRow.{GroupRow};
 ghost use Rattle.sm_rows.specs.declared.server_row.ServerRow.{ServerRow};
@@ -34,20 +34,20 @@ use sm_tasks::laws::all_up_meets_caps;
 /// What was read at one moment is what the control knows that is made of it.
 pub fn reading_is_known<Q, P>()
     ensures { (log : List (Transaction Q P)) (desk : DeskView) (lead : Leadership) (ceiling : ℕ)
-        (reads : List RecordRead) (runs : List ServerRun) (placed : ℕ) (control : StoreControl)
-        → AreSound control.desk.books → IsLoaded desk lead ceiling reads runs placed control
+        (waits : Bool) (reads : List RecordRead) (runs : List ServerRun) (placed : ℕ) (control : StoreControl)
+        → AreSound control.desk.books → IsLoaded desk lead ceiling waits reads runs placed control
         → IsReadOf log desk lead reads runs placed
         → KnowsStore log control }
 {}
 
 /// A command that the control doesn't refuse may be sent, once whoever it waits for has let go, by acks that were made,
-/// and of a process that may be named then.
+/// and of a process that may be named then. A control that doesn't wait sends by a charter whose commands don't.
 pub fn commands_may_be_sent<Q, P>()
     ensures { (parts : List (Item Q) → List P) (log : List (Transaction Q P)) (control : StoreControl)
         (acks : List AckRead) (process : ℕ) (command : Command) → AreSound control.desk.books → KnowsStore log control
         → AreAcksMade log acks → command_fault control command ≡ None → has_waited control acks command ≡ true
         → may_name control (write_of control process command) ≡ true
-        → MaySend (charter_of (rows_of control.desk.books) control.desk.caps control.ceiling parts) log
+        → MaySend (charter_of (rows_of control.desk.books) control.desk.caps control.ceiling control.waits parts) log
         (command_transaction (sending_of control (write_of control process command))) }
 {
     change_refused_exactly();
@@ -87,9 +87,10 @@ pub fn commands_keep_rows()
 /// is the law of the store in every run.
 pub fn controls_keep_caps<Q, P>()
     ensures { (servers : List ServerRow) (groups : List GroupRow) (shards : List ShardRow) (domains : List DomainRow)
-        (caps : RestartCaps) (ceiling : ℕ) (parts : List (Item Q) → List P) (log : List (Transaction Q P))
+        (caps : RestartCaps) (ceiling : ℕ) (waits : Bool) (parts : List (Item Q) → List P)
+        (log : List (Transaction Q P))
         → let new = new_books servers groups shards domains in
-        AreSound new → AreRight (charter_of (rows_of new) caps ceiling parts) log
+        AreSound new → AreRight (charter_of (rows_of new) caps ceiling waits parts) log
         → let books = books_in (rows_of new) (placement_of log) in
         AreSound books × MeetsCaps caps books }
 {

@@ -4,7 +4,7 @@
 //!
 //! ```rust
 //! let lead = Leadership::new(7, 5).expect(&rt, "a revision");
-//! let read = StoreControl::read(desk, lead, 100, records, runs, 4);
+//! let read = StoreControl::read(desk, lead, 100, true, records, runs, 4);
 //! let control = read.ok().expect(&rt, "a control");
 //! let assign = Command::Change(shard, Change::Assign(one));
 //! let Judged::Sent(sent) = control.command(0, assign) else {

@@ -21,16 +21,18 @@ use sm_store::server_run::ServerRun;
 impl StoreControl {
     /// The control of what was read at one revision: by a desk of the settings on which nothing has happened, the
     /// record of each shard by number, and how each server runs in the order of the rows. The desk makes the
-    /// commands that lead there, which those of a store are, and is compared.
+    /// commands that lead there, which those of a store are, and is compared. `waits` says whether commands wait for
+    /// acks.
     pub fn read(
         desk: Desk,
         lead: Leadership,
         ceiling: u64,
+        waits: bool,
         records: Vec<RecordRead>,
         runs: Vec<ServerRun>,
         placed: u64,
     ) -> Result<StoreControl, LoadFault>
-        ensures { IfOk result (λ control. IsLoaded desk lead ceiling records.items runs.items placed control) }
+        ensures { IfOk result (λ control. IsLoaded desk lead ceiling waits records.items runs.items placed control) }
     {
         let desk = stand_all(desk, &records)?;
         let desk = enter_all(desk, &runs, false)?;
@@ -45,6 +47,7 @@ impl StoreControl {
             records,
             runs,
             ceiling,
+            waits,
             lead,
             placed,
         })

@@ -84,6 +84,7 @@ impl SentCommand {
             mut records,
             mut runs,
             ceiling,
+            waits,
             lead,
             ..
         } = control;
@@ -95,6 +96,7 @@ impl SentCommand {
             records,
             runs,
             ceiling,
+            waits,
             lead,
             placed: revision,
         }

@@ -28,6 +28,8 @@ pub struct StoreControl {
     pub runs: Vec<ServerRun>,
     /// The greatest generation of a record.
     pub ceiling: u64,
+    /// Whether commands wait for acks. They need not if all servers of the store are of one process.
+    pub waits: bool,
     pub lead: Leadership,
     /// The revision at which the key of commands was last written, 0 where it never was.
     pub placed: u64,

@@ -14,16 +14,18 @@ use sm_ranges::stand::Stand;
 use sm_store::{has_let_go, waits_for};
 
 impl StoreControl {
-    /// Returns whether the server has acked the shard's record, as far as was read, or has failed.
+    /// Returns whether the server has acked the shard's record, as far as was read, or has failed; `true` if the
+    /// control doesn't wait.
     pub fn lets_go(&self, acks: &[AckRead], shard: ShardId, server: ServerId) -> bool
         ensures { result ≡ lets_go self.now acks.now shard server }
     {
         let state = read_at(&self.records, shard).state;
         let failed = is_failed(state_of(&self.desk, server));
-        has_let_go(&state, acked_in(acks, shard, server), failed)
+        !self.waits || has_let_go(&state, acked_in(acks, shard, server), failed)
     }
 
-    /// Returns whether the next owner has acked the record of a prepared shard, or has failed.
+    /// Returns whether the next owner has acked the record of a prepared shard, or has failed; `true` if the control
+    /// doesn't wait.
     pub fn is_prepared(&self, acks: &[AckRead], shard: ShardId) -> bool
         ensures { result ≡ is_prepared self.now acks.now shard }
     {
@@ -34,7 +36,7 @@ impl StoreControl {
     }
 
     /// Returns whether the server that the command waits for has acked the record, or has failed. Commands wait for a
-    /// server if they are `AddShard`, `Reassign`, or `Cancel` once the shard forwards.
+    /// server if they are `AddShard`, `Reassign`, or `Cancel` once the shard forwards, and the control waits.
     pub fn has_waited(&self, acks: &[AckRead], command: &Command) -> bool
         ensures { result ≡ has_waited self.now acks.now command.now }
     {

@@ -127,7 +127,7 @@ module _ {Q P : Type 0} (charter : Charter Q P) (shard server : ℕ) where
       ⊎_elim
       (λ (same : stored_record shard (txn ∷ log) ≡ stored_record shard log).
       subst (MayLetGo server acked) (sym same) was)
-      (λ (changed : IsChange shard log txn).
+      (λ (changed : IsChange charter.waits shard log txn).
       subst (MayLetGo server acked) (sym changed.is)
       (inl (⊎_elim (λ (below : acked < (stored_record shard log).generation). omega arith)
       (λ same. let is = same.0 in omega arith) was)))

@@ -39,7 +39,7 @@ module _ (Q P : Type 0) where
           leads = leads;
           allowed = refl;
           changed = changed;
-          waited = waited;
+          waited = λ waits. waited;
         };
       }
 

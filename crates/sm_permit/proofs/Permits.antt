@@ -1,7 +1,7 @@
 -- Two permits of one shard at one moment are of one process.
 use Rattle.std.proofs.Common.{◌≡◌, ◌≢◌, ℕ, ◌<◌, ◌≤◌, true, List, [], ◌∷◌, ◌++◌, sym, ap}
 use Rattle.std.proofs.Common.{subst, ◌∙◌, arith, ⊎_elim, inl, inr}
-use Rattle.std.specs.Prelude.{◌==◌, ◌⊎◌, Some, not}
+use Rattle.std.specs.Prelude.{◌==◌, ◌⊎◌, IsTrue, Some, not}
 use Rattle.std.proofs.lemmas.Bool.{and_parts, eqb-true, false≢true}
 use Rattle.std.proofs.lemmas.Option.{none-some, same_Some}
 use Rattle.sm_ranges.specs.declared.stand.Stand.{Stand}
@@ -86,7 +86,8 @@ right_past charter [] timeline right = right
 right_past charter (one ∷ later) timeline right =
     right_past charter later timeline (right_before charter one.moment one.revision one.step (later ++ timeline) right)
 
-module _ {Q P : Type 0} (charter : Charter Q P) (terms : Terms) (safe : AreSafe terms) (timeline : List (TimedStep Q P))
+module _ {Q P : Type 0} (charter : Charter Q P) (waits : IsTrue charter.waits) (terms : Terms) (safe : AreSafe terms)
+    (timeline : List (TimedStep Q P))
     (right : AreRight charter (stored timeline)) (waited : KeepsWaits terms.length timeline) (now shard : ℕ) where
   pub under_now : (clock : ℕ → ℕ) (server : ℕ) (mode : Mode) → IsTimely terms clock
       → (permit : HasPermit terms clock timeline now shard server mode)
@@ -106,7 +107,7 @@ module _ {Q P : Type 0} (charter : Charter Q P) (terms : Terms) (safe : AreSafe 
       let from = (stored_record shard (stored older)).generation in
       let executes = accepted (stored_record shard (stored older)).stand server mode permit.accepts_it in
       let all = subst (λ (l : List (TimedStep Q P)). AreRight charter (stored l)) permit.read right in
-      let waits = subst (KeepsWaits span) permit.read waited in
+      let kept = subst (KeepsWaits span) permit.read waited in
       let begins = executes_unacked charter shard server (stored older)
       (right_past charter permit.newer older all) executes in
       let under = subst (λ (l : List (TimedStep Q P)). IsUnder joined (lease_of server l)) permit.read
@@ -115,7 +116,7 @@ module _ {Q P : Type 0} (charter : Charter Q P) (terms : Terms) (safe : AreSafe 
       permit.holds in
       subst (λ (l : List (TimedStep Q P)). acked_of shard server (stored l) < from) (sym permit.read)
       (own_only span shard server joined from permit.newer older
-      (rising_of_right charter (stored (permit.newer ++ older)) all) waits permit.under under holds begins)
+      (rising_of_right charter (stored (permit.newer ++ older)) all) kept permit.under under holds begins)
 
   -- who read an older record is who read this one
   read_before : (clock counter : ℕ → ℕ) (one other : ℕ) (first second : Mode) → IsTimely terms clock
@@ -135,7 +136,7 @@ module _ {Q P : Type 0} (charter : Charter Q P) (terms : Terms) (safe : AreSafe 
       let past = subst (λ (l : List (TimedStep Q P)). AreRight charter (stored l)) later
       (right_past charter another.newer last all) in
       let grown = stored_grows more older (rising_of_right charter (stored (more ++ older)) past) in
-      let waits = subst (KeepsWaits span) another.read waited in
+      let kept = subst (KeepsWaits span) another.read waited in
       let under_last : IsUnder joined (lease_of one last) =
       under_since one joined another.newer last (rising_of_right charter (stored (another.newer ++ last)) all)
       (subst (λ (l : List (TimedStep Q P)). joined ≤ last_revision (stored l)) (sym later) (omega arith))
@@ -145,9 +146,9 @@ module _ {Q P : Type 0} (charter : Charter Q P) (terms : Terms) (safe : AreSafe 
       let now_acked = subst (λ (l : List (TimedStep Q P)). acked_of shard one (stored l) < from) another.read acked in
       omega arith in
       let executes = accepted (stored_record shard (stored older)).stand one first permit.accepts_it in
-      let still = subst (StillNamed charter span shard one joined from) (sym later)
-      (stays charter span shard one joined from more older past
-      (subst (KeepsWaits span) later (waited_before span one another.newer last waits))
+      let still = subst (StillNamed charter waits span shard one joined from) (sym later)
+      (stays charter waits span shard one joined from more older past
+      (subst (KeepsWaits span) later (waited_before span one another.newer last kept))
       within
       (subst (λ (l : List (TimedStep Q P)). IsUnder joined (lease_of one l)) later under_last)
       (subst (λ (l : List (TimedStep Q P)). acked_of shard one (stored l) < from) later acked_last)
@@ -164,20 +165,22 @@ module _ {Q P : Type 0} (charter : Charter Q P) (terms : Terms) (safe : AreSafe 
 
 -- at each moment at most one process may execute for a shard
 pub one_permit : {Q P : Type 0} (charter : Charter Q P) (terms : Terms) (timeline : List (TimedStep Q P))
-    → AreSafe terms → AreRight charter (stored timeline) → KeepsWaits terms.length timeline → OnePermit terms timeline
-one_permit {Q = Q} {P = P} charter terms timeline safe right waited now shard one other first second clock counter
+    → IsTrue charter.waits → AreSafe terms → AreRight charter (stored timeline) → KeepsWaits terms.length timeline
+    → OnePermit terms timeline
+one_permit {Q = Q} {P = P} charter terms timeline waits safe right waited now shard one other first second clock counter
     timely timely_too permit another =
     let same : one ≡ other =
     ⊎_elim
     (λ (later : (more : List (TimedStep Q P)) × (another.older ≡ more ++ permit.older)).
-    read_before charter terms safe timeline right waited now shard clock counter one other first second timely permit
-    another later.0 later.1)
+    read_before charter waits terms safe timeline right waited now shard clock counter one other first second timely
+    permit another later.0 later.1)
     (λ (before : (more : List (TimedStep Q P)) × (permit.older ≡ more ++ another.older)).
-    sym (read_before charter terms safe timeline right waited now shard counter clock other one second first timely_too
-    another permit before.0 before.1))
+    sym (read_before charter waits terms safe timeline right waited now shard counter clock other one second first
+    timely_too another permit before.0 before.1))
     (pasts permit.newer permit.older another.newer another.older (sym permit.read ∙ another.read)) in
-    let under = under_now charter terms safe timeline right waited now shard clock one first timely permit in
-    let also = under_now charter terms safe timeline right waited now shard counter other second timely_too another in (
+    let under = under_now charter waits terms safe timeline right waited now shard clock one first timely permit in
+    let also =
+    under_now charter waits terms safe timeline right waited now shard counter other second timely_too another in (
       same,
       same_process permit.lease.joined another.lease.joined (lease_of other timeline)
           (subst (λ (n : ℕ). IsUnder permit.lease.joined (lease_of n timeline)) same under) also,

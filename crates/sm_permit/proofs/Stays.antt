@@ -1,7 +1,7 @@
 -- A shard's record goes on to name a server whose key lies there, and that lets go of nothing.
 use Rattle.std.proofs.Common.{◌≡◌, ◌≢◌, ℕ, ◌<◌, ◌≤◌, List, [], ◌∷◌, ◌++◌, sym}
 use Rattle.std.proofs.Common.{subst, arith, ⊎_elim, inl, inr}
-use Rattle.std.specs.Prelude.{◌==◌, ◌⊎◌, Option, Some, None, IfSome, unwrap_or}
+use Rattle.std.specs.Prelude.{◌==◌, ◌⊎◌, IsTrue, Option, Some, None, IfSome, unwrap_or}
 use Rattle.std.proofs.lemmas.Bool.{cond_both}
 use Rattle.std.proofs.lemmas.Option.{none-some}
 use Rattle.sm_ranges.specs.declared.stand.Stand.{Stand}
@@ -66,7 +66,7 @@ pub record Remains (server from : ℕ) (state : ServerState) (held : Record) : T
   pub named : IsNamed held.stand server
   pub since : from ≤ held.generation
 
-module _ {Q P : Type 0} (charter : Charter Q P) (span shard server joined from : ℕ) where
+module _ {Q P : Type 0} (charter : Charter Q P) (waits : IsTrue charter.waits) (span shard server joined from : ℕ) where
   abbrev pub StillNamed : List (TimedStep Q P) → Type 0
   StillNamed timeline =
       Remains server from (stored_state server (stored timeline)) (stored_record shard (stored timeline))
@@ -92,13 +92,13 @@ module _ {Q P : Type 0} (charter : Charter Q P) (span shard server joined from :
         named = subst (λ (r : Record). IsNamed r.stand server) (sym same) was.named;
         since = subst (λ (r : Record). from ≤ r.generation) (sym same) was.since;
       })
-      (λ (changed : IsChange shard log txn).
+      (λ (changed : IsChange charter.waits shard log txn).
       let since = was.since in
       record {
         stands = stands;
         named = subst (λ (r : Record). IsNamed r.stand server) (sym changed.is)
             (named_stays held.stand changed.change changed.after server (HasLetGo log (placement_of log) shard)
-            changed.leads changed.waited (not_let_go earlier holds was) was.named);
+            changed.leads (changed.waited waits) (not_let_go earlier holds was) was.named);
         since = subst (λ (r : Record). from ≤ r.generation) (sym changed.is) (omega arith);
       })
       (record_step charter shard log txn right)

@@ -1,7 +1,7 @@
 -- What is decided by what is so is a permit, or an ack that may be made; and what a process knows stays so.
 use Rattle.std.proofs.Common.{◌≡◌, ◌≢◌, ℕ, ◌<◌, ◌≤◌, Bool, true, false, List, [], ◌∷◌, ◌++◌, refl, sym, ap}
 use Rattle.std.proofs.Common.{subst, ◌∙◌, arith, ⊎_elim, inl, inr, append-nil}
-use Rattle.std.specs.Prelude.{◌==◌, ◌&&◌, ◌||◌, ◌⊎◌, IfSome, Option, Some, None, max, nat_le, nat_lt, not}
+use Rattle.std.specs.Prelude.{◌==◌, ◌&&◌, ◌||◌, ◌⊎◌, IfSome, IsTrue, Option, Some, None, max, nat_le, nat_lt, not}
 use Rattle.std.proofs.lemmas.Bool.{and_parts, cond_both, eqb-true, eq-eqb, false≢true, leb-true, ltb-true, not-true}
 use Rattle.std.proofs.lemmas.Bool.{or_cases, true≢false}
 use Rattle.std.proofs.lemmas.Option.{none-some, same_Some}
@@ -95,14 +95,15 @@ module _ {Q P : Type 0} (terms : Terms) (clock : ℕ → ℕ) (timeline : List (
       }
 
 pub are_one : {Q P : Type 0} (charter : Charter Q P) (terms : Terms) (timeline : List (TimedStep Q P))
-    → AreSafe terms → AreRight charter (stored timeline) → KeepsWaits terms.length timeline → AreOne terms timeline
+    → IsTrue charter.waits → AreSafe terms → AreRight charter (stored timeline) → KeepsWaits terms.length timeline
+    → AreOne terms timeline
 unfolding permits
-are_one charter terms timeline safe right waited now shard first second clock counter view another timely timely_too
-    knows knows_too is is_too =
+are_one charter terms timeline waits safe right waited now shard first second clock counter view another timely
+    timely_too knows knows_too is is_too =
     let permit = permits terms clock timeline now shard view first knows is in
     let also = permits terms counter timeline now shard another second knows_too is_too in
-    let both = one_permit charter terms timeline safe right waited now shard view.server another.server first second
-    clock counter timely timely_too permit also in
+    let both = one_permit charter terms timeline waits safe right waited now shard view.server another.server first
+    second clock counter timely timely_too permit also in
     (both.0, knows.joined_is ∙ both.1 ∙ sym knows_too.joined_is)
 
 named_server : (found : Option ℕ) (server : ℕ) → found ≡ Some server → is_server found server ≡ true

@@ -1,5 +1,5 @@
 -- A run in which a permit goes from one server to another, so that the law of permits speaks of something.
-use Rattle.std.specs.Prelude.{ℕ, true, false, List, [], ◌∷◌}
+use Rattle.std.specs.Prelude.{ℕ, IsTrue, true, false, List, [], ◌∷◌}
 use Rattle.sm_ranges.specs.declared.stand.Stand.{Stand}
 use Rattle.sm_ranges.specs.declared.stand.Stand.TheVariants.{Serving, Prepared, Forwarding, Taken}
 use Rattle.sm_ownership.specs.declared.change.Change.{Change}
@@ -18,13 +18,14 @@ some_terms = record { length = 100; allowed = 90; moments = 11; ticks = 10 }
 abbrev pub exact : ℕ → ℕ
 exact moment = moment
 
--- a control of one shard that may do all that the rule allows
+-- a control of one shard that may do all that the rule allows, once whoever that waits for has let go
 abbrev pub any_charter : {Q P : Type 0} → Charter Q P
 any_charter = record {
   count = 1;
   ceiling = 9;
   allows_change = λ read shard change. true;
   allows_state = λ read server state. true;
+  waits = true;
   parts = λ items. [];
 }
 
@@ -69,6 +70,7 @@ added =
 -- the run keeps all that the law asks. Before it hands over server 1 may still execute, by the record by which it was
 -- assigned the shard; from then on server 2 may, first what server 1 forwards
 pub record IsMoved (Q P : Type 0) : Type 0 where
+  pub waits : IsTrue (any_charter {Q = Q} {P = P}).waits
   pub safe : AreSafe some_terms
   pub timely : IsTimely some_terms exact
   pub right : AreRight any_charter (stored (added {Q = Q} {P = P}))

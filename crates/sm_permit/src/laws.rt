@@ -1,6 +1,6 @@
 //! The law of permits.
 
-ghost use Rattle.std.specs.Prelude.{◌≡◌, ◌≤◌, ℕ, true, List};
+ghost use Rattle.std.specs.Prelude.{◌≡◌, ◌≤◌, ℕ, IsTrue, true, List};
 ghost use Rattle.sm_ownership.specs.declared.mode.Mode.{Mode};
 ghost use Rattle.sm_store.specs.Store.{stored_record};
 ghost use Rattle.sm_store.specs.Clients.{Automaton};
@@ -17,17 +17,19 @@ ghost use Rattle.sm_permit.specs.Views.{AreOne, StaysKnown, Knows, WasGranted, m
 use sm_store::laws::runs_are_lawful;
 
 /// At each moment at most one process may execute for a shard. Take any timeline whose log keeps the law of the store,
-/// as it does in every run: so each change has waited for who executed before. If the store ends no lease early and no
-/// clock is slower than the terms say, then two permits of one shard at one moment are of one process.
+/// as it does in every run, by a charter whose commands wait for acks: so each change has waited for who executed
+/// before. If the store ends no lease early and no clock is slower than the terms say, then two permits of one shard at
+/// one moment are of one process.
 pub fn one_permit<Q, P>()
-    ensures { (charter : Charter Q P) (terms : Terms) (timeline : List (TimedStep Q P)) → AreSafe terms
-        → AreRight charter (stored timeline) → KeepsWaits terms.length timeline → OnePermit terms timeline }
+    ensures { (charter : Charter Q P) (terms : Terms) (timeline : List (TimedStep Q P)) → IsTrue charter.waits
+        → AreSafe terms → AreRight charter (stored timeline) → KeepsWaits terms.length timeline
+        → OnePermit terms timeline }
 {}
 
 /// The same in every run of all processes over the store, as the timeline has it with its moments.
 pub fn one_permit_in_runs<Q, P, R, S>()
     ensures { (service : Automaton S Q R) (charter : Charter Q P) (events : List (Event Q P R)) (terms : Terms)
-        (timeline : List (TimedStep Q P)) → MightHappen service charter events
+        (timeline : List (TimedStep Q P)) → IsTrue charter.waits → MightHappen service charter events
         → (system_after events).log ≡ stored timeline → AreSafe terms → KeepsWaits terms.length timeline
         → OnePermit terms timeline }
 {
@@ -36,13 +38,15 @@ pub fn one_permit_in_runs<Q, P, R, S>()
 }
 
 /// If what a process knows is so, it has a permit whenever `ShardView::may_execute` says that it may execute. So of all
-/// processes that decide by that, at most one may at one moment. If `may_ack` says so, an ack of its record is allowed.
+/// processes that decide by that, at most one may at one moment, if commands wait for acks. If `may_ack` says so, an
+/// ack of its record is allowed.
 pub fn views_decide<Q, P>()
     ensures permits { (terms : Terms) (clock : ℕ → ℕ) (timeline : List (TimedStep Q P)) (now shard : ℕ)
         (view : ShardView) (mode : Mode) → Knows terms clock timeline now shard view
         → may_execute view mode (clock now) ≡ true → HasPermit terms clock timeline now shard view.server mode }
-    ensures one { (charter : Charter Q P) (terms : Terms) (timeline : List (TimedStep Q P)) → AreSafe terms
-        → AreRight charter (stored timeline) → KeepsWaits terms.length timeline → AreOne terms timeline }
+    ensures one { (charter : Charter Q P) (terms : Terms) (timeline : List (TimedStep Q P)) → IsTrue charter.waits
+        → AreSafe terms → AreRight charter (stored timeline) → KeepsWaits terms.length timeline
+        → AreOne terms timeline }
     ensures acks { (charter : Charter Q P) (terms : Terms) (clock : ℕ → ℕ) (timeline : List (TimedStep Q P))
         (now shard : ℕ) (view : ShardView) → AreRight charter (stored timeline)
         → Knows terms clock timeline now shard view → may_ack view ≡ true

@@ -130,7 +130,7 @@ module _ {Q P : Type 0} (charter : Charter Q P) where
         allowed = subst (λ (p : Placement). IsTrue (charter.allows_change p shard change)) (sym now) may.allowed;
         changed = subst (λ (p : Placement). IsChanged charter.ceiling (p.records shard) change next) (sym now)
             may.changed;
-        waited = subst (λ (p : Placement). HasWaited log p shard change) (sym now) may.waited;
+        waited = λ waits. subst (λ (p : Placement). HasWaited log p shard change) (sym now) (may.waited waits);
       }
   right_one log (Executing shard server items head stood logged) right held may =
       let first = first_held log (record_key shard) stood (at (head_key shard) logged ∷ []) held in

@@ -29,12 +29,14 @@ use Rattle.sm_store.specs.Store.{last_revision, made_at, unmade}
 use Rattle.sm_store.specs.Waits.{HasWaited, MayLetGo}
 
 -- what all processes go by: how many shards there are, the greatest generation of a record, which changes and states
--- the control allows by the records and states as they are, and the parts of a base that stands for requests
+-- the control allows by the records and states as they are, whether commands wait for acks, and the parts of a base
+-- that stands for requests
 pub record Charter (Q P : Type 0) : Type 0 where
   pub count : ℕ
   pub ceiling : ℕ
   pub allows_change : Placement → ℕ → Change → Bool
   pub allows_state : Placement → ℕ → ServerState → Bool
+  pub waits : Bool
   pub parts : List (Item Q) → List P
 
 -- what a process does to the store
@@ -160,7 +162,7 @@ pub record HasLed {Q P : Type 0} (log : List (Transaction Q P)) (process elected
   pub was_elected : 0 < elected
   pub leads : WasFound leader_of leader_key log process elected
 
--- one who has read that it leads, and all records and states, and for whom the change waits
+-- one who has read that it leads, and all records and states; whoever the change waits for has let go
 pub record MayChange {Q P : Type 0} (charter : Charter Q P) (log : List (Transaction Q P)) (process shard : ℕ)
     (change : Change) (next : Record)
     (elected placed : ℕ) : Type 0 where
@@ -170,7 +172,7 @@ pub record MayChange {Q P : Type 0} (charter : Charter Q P) (log : List (Transac
   pub placement_was : WasFound placement_of placement_key log read placed
   pub allowed : IsTrue (charter.allows_change read shard change)
   pub changed : IsChanged charter.ceiling (read.records shard) change next
-  pub waited : HasWaited log read shard change
+  pub waited : IsTrue charter.waits → HasWaited log read shard change
 
 -- and whose step of a restart they allow, of a process that may be named then
 pub record MayRestart {Q P : Type 0} (charter : Charter Q P) (log : List (Transaction Q P)) (process server : ℕ)
@@ -275,7 +277,8 @@ IsHonest charter (txn ∷ earlier) = WasHonest charter earlier txn × IsHonest c
 -- below, `log` is the store before the deed
 
 -- the change is made by who leads, and the rule allows it of the record, and the control of all records and states;
--- `AddShard`, `Reassign`, and `Cancel` once it forwards, wait until the server that gives up has acked or failed
+-- if commands wait, `AddShard`, `Reassign`, and `Cancel` once it forwards, wait until the server that gives up has
+-- acked or failed
 pub record IsRightChange {Q P : Type 0} (charter : Charter Q P) (log : List (Transaction Q P)) (process shard : ℕ)
     (change : Change)
     (next : Record) : Type 0 where
@@ -283,7 +286,7 @@ pub record IsRightChange {Q P : Type 0} (charter : Charter Q P) (log : List (Tra
   pub leads : leader_of log ≡ process
   pub allowed : IsTrue (charter.allows_change (placement_of log) shard change)
   pub changed : IsChanged charter.ceiling (stored_record shard log) change next
-  pub waited : HasWaited log (placement_of log) shard change
+  pub waited : IsTrue charter.waits → HasWaited log (placement_of log) shard change
 
 -- the step of a restart is made by who leads, and all records and states allow it, of a process that may be named then;
 -- a server is said to have failed while its key isn't there

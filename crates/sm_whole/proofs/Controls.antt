@@ -1,5 +1,5 @@
 -- What a control knows stays so as the store goes on, and so does each step of it.
-use Rattle.std.proofs.Common.{◌≡◌, ℕ, List, ◌++◌, Option, Some, None, refl, sym, subst, ◌∙◌}
+use Rattle.std.proofs.Common.{◌≡◌, ℕ, Bool, List, ◌++◌, Option, Some, None, refl, sym, subst, ◌∙◌}
 use Rattle.std.specs.Option.{option_or}
 use Rattle.sm_place.specs.Sound.{AreSound}
 use Rattle.sm_tasks.specs.Caps.{RestartCaps}
@@ -46,6 +46,7 @@ module _ {Q P : Type 0} where
     pub sound : AreSound control.desk.books
     pub rows : HasRowsOf (desk_given given) control.desk
     pub ceiling : control.ceiling ≡ given.ceiling
+    pub waits : control.waits ≡ given.waits
 
   -- a command that such a control sent
   pub record IsGoodCommand (given : Given) (log : List (Transaction Q P)) (sent : SentCommand) : Type 0 where
@@ -61,6 +62,7 @@ module _ {Q P : Type 0} where
     sound = good.sound;
     rows = good.rows;
     ceiling = good.ceiling;
+    waits = good.waits;
   }
 
   pub command_grows : (given : Given) (more log : List (Transaction Q P)) (sent : SentCommand)
@@ -75,20 +77,25 @@ module _ {Q P : Type 0} where
   -- a command that was judged may be sent by the charter
   pub sent_may : (parts : List (Item Q) → List P) (given : Given) (log : List (Transaction Q P))
       (sent : SentCommand) → (good : IsGoodCommand given log sent)
-      → MaySend (charter_of (rows_of sent.control.desk.books) sent.control.desk.caps sent.control.ceiling parts) log
+      → MaySend (charter_of (rows_of sent.control.desk.books) sent.control.desk.caps sent.control.ceiling
+      sent.control.waits parts) log
       (command_transaction (sending_of sent.control (write_of sent.control good.process sent.command)))
-      → MaySend (charter_of (rows_of (first_books given.rows)) given.caps given.ceiling parts) log (command_sent sent)
+      → MaySend (charter_of (rows_of (first_books given.rows)) given.caps given.ceiling given.waits parts) log
+      (command_sent sent)
   sent_may parts given log sent good may =
       let control = sent.control in
       let first = rows_of (first_books given.rows) in
-      subst (λ (write : CommandWrite). MaySend (charter_of first given.caps given.ceiling parts) log
+      subst (λ (write : CommandWrite). MaySend (charter_of first given.caps given.ceiling given.waits parts) log
       (command_transaction (sending_of control write))) (sym good.write)
-      (subst (λ (ceiling : ℕ). MaySend (charter_of first given.caps ceiling parts) log
+      (subst (λ (waits : Bool). MaySend (charter_of first given.caps given.ceiling waits parts) log
+      (command_transaction (sending_of control (write_of control good.process sent.command)))) good.by.waits
+      (subst (λ (ceiling : ℕ). MaySend (charter_of first given.caps ceiling control.waits parts) log
       (command_transaction (sending_of control (write_of control good.process sent.command)))) good.by.ceiling
-      (subst (λ (caps : RestartCaps). MaySend (charter_of first caps control.ceiling parts) log
+      (subst (λ (caps : RestartCaps). MaySend (charter_of first caps control.ceiling control.waits parts) log
       (command_transaction (sending_of control (write_of control good.process sent.command)))) good.by.rows.caps
-      (subst (λ (rows : SettingsRows). MaySend (charter_of rows control.desk.caps control.ceiling parts) log
-      (command_transaction (sending_of control (write_of control good.process sent.command)))) good.by.rows.rows may)))
+      (subst (λ (rows : SettingsRows). MaySend
+      (charter_of rows control.desk.caps control.ceiling control.waits parts) log
+      (command_transaction (sending_of control (write_of control good.process sent.command)))) good.by.rows.rows may))))
 
   -- the control that sent a command knows the store once it is told that this was made
   pub left_knows : (charter : Charter Q P) (given : Given) (log : List (Transaction Q P)) (sent : SentCommand)
@@ -118,4 +125,5 @@ module _ {Q P : Type 0} where
           caps = rows.caps ∙ good.by.rows.caps;
         };
         ceiling = after.ceiling ∙ good.by.ceiling;
+        waits = after.waits ∙ good.by.waits;
       }

@@ -55,14 +55,14 @@ pub record ControlLaws (Q R : Type 0) : Type 0 where
   pub rows : (control new : StoreControl) (command : Command) (write : CommandWrite) (revision : ℕ)
       → IsAfter control command write revision new → HasRowsOf control.desk new.desk
   pub reading : (log : StoreLog Q R) (desk : DeskView) (lead : Leadership) (ceiling : ℕ)
-      (reads : List RecordRead) (runs : List ServerRun) (placed : ℕ) (control : StoreControl)
-      → AreSound control.desk.books → IsLoaded desk lead ceiling reads runs placed control
+      (waits : Bool) (reads : List RecordRead) (runs : List ServerRun) (placed : ℕ) (control : StoreControl)
+      → AreSound control.desk.books → IsLoaded desk lead ceiling waits reads runs placed control
       → IsReadOf log desk lead reads runs placed → KnowsStore log control
   pub sending : (parts : List (Item Q) → List (Part R)) (log : StoreLog Q R) (control : StoreControl)
       (acks : List AckRead) (process : ℕ) (command : Command) → AreSound control.desk.books → KnowsStore log control
       → AreAcksMade log acks → command_fault control command ≡ None → has_waited control acks command ≡ true
       → may_name control (write_of control process command) ≡ true
-      → MaySend (charter_of (rows_of control.desk.books) control.desk.caps control.ceiling parts) log
+      → MaySend (charter_of (rows_of control.desk.books) control.desk.caps control.ceiling control.waits parts) log
       (command_transaction (sending_of control (write_of control process command)))
   pub outcome : (charter : Charter Q (Part R)) (log : StoreLog Q R) (control new : StoreControl) (process : ℕ)
       (command : Command) (revision : ℕ) → AreRight charter log → AreSound control.desk.books
@@ -73,9 +73,9 @@ pub record ControlLaws (Q R : Type 0) : Type 0 where
       (txn : Transaction Q (Part R))
       → txn ≡ command_transaction (sending_of control (write_of control process command)) → AsksFor asked txn
   pub caps : (servers : List ServerRow) (groups : List GroupRow) (shards : List ShardRow) (domains : List DomainRow)
-      (caps : RestartCaps) (ceiling : ℕ) (parts : List (Item Q) → List (Part R)) (log : StoreLog Q R)
+      (caps : RestartCaps) (ceiling : ℕ) (waits : Bool) (parts : List (Item Q) → List (Part R)) (log : StoreLog Q R)
       → AreSound (new_books servers groups shards domains)
-      → AreRight (charter_of (rows_of (new_books servers groups shards domains)) caps ceiling parts) log
+      → AreRight (charter_of (rows_of (new_books servers groups shards domains)) caps ceiling waits parts) log
       → AreSound (books_in (rows_of (new_books servers groups shards domains)) (placement_of log))
       × MeetsCaps caps (books_in (rows_of (new_books servers groups shards domains)) (placement_of log))
 
@@ -217,11 +217,13 @@ module _ {M Q R : Type 0} (service : Automaton M Q R) (given : Given) where
         might = run.might;
         controls = (
           record {
-            knows = laws.reading log (desk_given given) lead given.ceiling reads runs placed control may.0 loaded
+            knows = laws.reading log (desk_given given) lead given.ceiling given.waits reads runs placed control may.0
+                loaded
                 may.2;
             sound = may.0;
             rows = loaded.rows;
             ceiling = loaded.ceiling_is;
+            waits = loaded.waits_is;
           },
           run.controls,
         );
@@ -335,7 +337,7 @@ module _ {M Q R : Type 0} (service : Automaton M Q R) (given : Given) where
       (books_in (rows_of (first_books given.rows)) (placement_of (whole_after acts).fleet.system.log))
   keeps_caps laws fleets acts sound run =
       let rows = given.rows in
-      laws.caps rows.servers rows.groups rows.shards rows.domains given.caps given.ceiling (base_of service)
+      laws.caps rows.servers rows.groups rows.shards rows.domains given.caps given.ceiling given.waits (base_of service)
       (whole_after acts).fleet.system.log sound (lawful laws fleets acts run).right
 
   pub executed : ControlLaws Q R → FleetLaws service → (acts : List (WholeAct M Q R)) → IsRun service given acts

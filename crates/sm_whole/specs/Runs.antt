@@ -32,12 +32,13 @@ use Rattle.sm_lead.specs.Placements.{SettingsRows, charter_of, rows_of}
 use Rattle.sm_lead.specs.Sendings.{IsJudged, command_transaction, sending_of}
 use Rattle.sm_lead.specs.Waits.{AreAcksMade, has_waited}
 
--- what all processes were given: the rows of the settings, the caps by which restarts are approved, and the greatest
--- generation of a record
+-- what all processes were given: the rows of the settings, the caps by which restarts are approved, the greatest
+-- generation of a record, and whether commands wait for acks
 pub record Given : Type 0 where
   pub rows : SettingsRows
   pub caps : RestartCaps
   pub ceiling : ℕ
+  pub waits : Bool
 
 -- the books of these rows before any command
 abbrev pub first_books : SettingsRows → BooksView
@@ -50,7 +51,7 @@ desk_given given = record { books = first_books given.rows; caps = given.caps }
 -- the charter by which the store is judged
 abbrev pub charter_given : {M Q R : Type 0} → Automaton M Q R → Given → Charter Q (Part R)
 charter_given service given =
-    charter_of (rows_of (first_books given.rows)) given.caps given.ceiling (base_of service)
+    charter_of (rows_of (first_books given.rows)) given.caps given.ceiling given.waits (base_of service)
 
 -- the store with its servers, whatever any control ever knew, and the commands that controls sent
 pub record Whole (M Q R : Type 0) : Type 0 where
@@ -143,13 +144,13 @@ IsConcluded sent Lost left = left ≡ None
 IsConcluded sent Unknown left = left ≡ None
 
 -- it may happen: a server acts as it may, a control is made of what stood in the store at one moment, judges a command
--- as its contract says, of a process that may be named, once whoever it waits for has let go by acks that were made, or
--- goes on from what it is told
+-- as its contract says, of a process that may be named, once whoever it waits for has let go by acks that were made, if
+-- commands wait, or goes on from what it is told
 abbrev pub MayBeActed : {M Q R : Type 0} → Automaton M Q R → Given → Whole M Q R → WholeAct M Q R → Type 0
 MayBeActed service given whole (Serves act) = MayServe service (charter_given service given) whole.fleet act
 MayBeActed service given whole (Loads lead reads runs placed control) =
     AreSound control.desk.books
-    × IsLoaded (desk_given given) lead given.ceiling reads runs placed control
+    × IsLoaded (desk_given given) lead given.ceiling given.waits reads runs placed control
     × IsReadOf whole.fleet.system.log (desk_given given) lead reads runs placed
 MayBeActed service given whole (Judges control acks process command judged) =
     IsAmong control whole.controls × AreAcksMade whole.fleet.system.log acks

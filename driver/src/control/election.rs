@@ -22,13 +22,27 @@ impl DurableControl {
 
     /// Goes on from an election anew: all is to be read again.
     fn go_on_from(&mut self, elected: Revision) -> Result<(), Refused> {
-        let process = self.durable.process();
-        self.director = Director::new(&self.line, process, elected).map_err(Refused::of)?;
+        self.director = director(&self.durable, &self.line, elected)?;
         (self.elected, self.has_stray) = (elected, false);
         (self.is_behind, self.followers) = (true, None);
         self.written = WrittenRevisions::default();
         Ok(())
     }
+}
+
+/// The proved control of this process, which was elected at this revision. Without a server of its own the process has all
+/// servers, so commands wait for no ack.
+pub(super) fn director(
+    durable: &Durable,
+    line: &str,
+    elected: Revision,
+) -> Result<Director, Refused> {
+    let process = durable.process();
+    let made = match durable.member() {
+        Some(_) => Director::new(line, process, elected),
+        None => Director::alone(line, process, elected),
+    };
+    made.map_err(Refused::of)
 }
 
 /// Writes the leader's key for this process, and returns its revision.

@@ -61,7 +61,7 @@ impl DurableControl {
         line: &str,
         elected: Revision,
     ) -> Result<DurableControl, Refused> {
-        let director = Director::new(line, durable.process(), elected).map_err(Refused::of)?;
+        let director = election::director(&durable, line, elected)?;
         let servers = u16::try_from(director.servers()).unwrap_or(u16::MAX);
         let mut control = DurableControl {
             durable,
@@ -207,8 +207,11 @@ impl DurableControl {
     }
 
     /// Tells the director which of the servers that the shard's record names have acked it, if it waits for one: as
-    /// this process has seen acks, which count once they were made. Without a server of its own all are of this process.
+    /// this process has seen acks, which count once they were made.
     fn hear_acks(&mut self, shard: u16) -> Result<(), Refused> {
+        let Some(member) = self.durable.member().cloned() else {
+            return Ok(());
+        };
         let Some(record) = self.record_read(shard)? else {
             return Ok(());
         };
@@ -219,15 +222,9 @@ impl DurableControl {
             Stand::Paused(owner) => [Some(owner), None],
             Stand::Vacant | Stand::Serving(_) | Stand::Taken { .. } => return Ok(()),
         };
-        let heard = match self.durable.member() {
-            None => self.director.have_acked(shard),
-            Some(member) => {
-                let acked = |it| Some((it, member.acked(shard, it)?));
-                self.director
-                    .acked(shard, named.into_iter().flatten().filter_map(acked))
-            }
-        };
-        heard.map_err(Refused::of)
+        let acked = |it| Some((it, member.acked(shard, it)?));
+        let heard = named.into_iter().flatten().filter_map(acked);
+        self.director.acked(shard, heard).map_err(Refused::of)
     }
 
     /// Makes the command, or says why not.

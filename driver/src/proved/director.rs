@@ -1,6 +1,5 @@
 use crate::command::{ControlCommand, Next};
 use crate::{keys, CoreFault, ServerRun, ServerState};
-use durkenzo::word;
 use durkenzo_store::Revision;
 use durkenzo_store_sys::{self as sys, Code, DirectorStep};
 
@@ -36,8 +35,19 @@ pub(crate) struct Director {
 
 impl Director {
     /// That of the store which this line of settings describes, for this process, which was elected at this revision.
+    /// Its commands wait for acks.
     pub(crate) fn new(line: &str, process: u64, elected: Revision) -> Result<Director, CoreFault> {
         let control = sys::Director::new(line, process, elected.0)?;
+        Ok(Director { control })
+    }
+
+    /// The same, for a process that has all servers of the store: its commands wait for no ack.
+    pub(crate) fn alone(
+        line: &str,
+        process: u64,
+        elected: Revision,
+    ) -> Result<Director, CoreFault> {
+        let control = sys::Director::alone(line, process, elected.0)?;
         Ok(Director { control })
     }
 
@@ -122,16 +132,6 @@ impl Director {
             self.control.ack(shard, server, generation)?;
         }
         Ok(())
-    }
-
-    /// All servers that the shard's record names have acked it, as they are of one process.
-    pub(crate) fn have_acked(&mut self, shard: u16) -> Result<(), CoreFault> {
-        let record = word::record(self.word_of(shard)?);
-        let (named, generation) = record.map_or(([None; 2], 0), |it| {
-            ([it.owner(), it.other()], it.generation)
-        });
-        let servers = named.into_iter().flatten();
-        self.acked(shard, servers.map(|it| (it, generation)))
     }
 
     /// What comes next of the shard.

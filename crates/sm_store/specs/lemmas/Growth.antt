@@ -97,7 +97,7 @@ module _ {Q P : Type 0} (charter : Charter Q P) where
     placement_was = found_grows _ _ more log _ _ may.placement_was;
     allowed = may.allowed;
     changed = may.changed;
-    waited = waited_grows more log may.read shard change may.waited;
+    waited = λ waits. waited_grows more log may.read shard change (may.waited waits);
   }
   may_grow more log (Executing shard server items head stood logged) may = record {
     within = may.within;

@@ -2,7 +2,7 @@
 -- record.
 use Rattle.std.proofs.Common.{◌≡◌, ℕ, ◌+◌, ◌<◌, true, false, List, [], ◌∷◌, ◌++◌, refl, sym, ap}
 use Rattle.std.proofs.Common.{subst, ◌∙◌, arith, ⊎_elim, inl, inr}
-use Rattle.std.specs.Prelude.{◌==◌, ◌⊎◌, Option, Some, None, is_some, nat_lt, not}
+use Rattle.std.specs.Prelude.{Bool, IsTrue, ◌==◌, ◌⊎◌, Option, Some, None, is_some, nat_lt, not}
 use Rattle.std.proofs.lemmas.Bool.{and_parts, cases_Bool, cond-true, cond-false, eqb-true, false≢true}
 use Rattle.sm_ranges.specs.declared.stand.Stand.{Stand}
 use Rattle.sm_ownership.specs.declared.change.Change.{Change}
@@ -14,18 +14,19 @@ use Rattle.sm_store.specs.Deeds.{AreRight, Charter, Deed, Electing, Expiring, Ch
 use Rattle.sm_store.specs.Deeds.{Basing, Naming, Clearing, Following, Checking, Foreign, IsRight, WasRight, done_at}
 use Rattle.sm_store.specs.Waits.{HasWaited}
 
--- a transaction changes the shard's record as the rule says, once whoever the change waits for has let go
-pub record IsChange {Q P : Type 0} (shard : ℕ) (log : List (Transaction Q P)) (txn : Transaction Q P) : Type 0 where
+-- a transaction changes the shard's record as the rule says; if changes wait, whoever this one waits for has let go
+pub record IsChange {Q P : Type 0} (waits : Bool) (shard : ℕ) (log : List (Transaction Q P))
+    (txn : Transaction Q P) : Type 0 where
   pub change : Change
   pub is : stored_record shard (txn ∷ log) ≡ after_change (stored_record shard log) change
   pub after : Stand
   pub leads : stand_after (stored_record shard log).stand change ≡ Some after
-  pub waited : HasWaited log (placement_of log) shard change
+  pub waited : IsTrue waits → HasWaited log (placement_of log) shard change
 
 -- or leaves it
-abbrev pub RecordStep : {Q P : Type 0} → ℕ → List (Transaction Q P) → Transaction Q P → Type 0
-RecordStep shard log txn =
-    (stored_record shard (txn ∷ log) ≡ stored_record shard log) ⊎ IsChange shard log txn
+abbrev pub RecordStep : {Q P : Type 0} → Bool → ℕ → List (Transaction Q P) → Transaction Q P → Type 0
+RecordStep waits shard log txn =
+    (stored_record shard (txn ∷ log) ≡ stored_record shard log) ⊎ IsChange waits shard log txn
 
 some_there : {A : Type 0} (found : Option A) → is_some found ≡ true → (x : A) × (found ≡ Some x)
 some_there None is = absurd (false≢true is)
@@ -34,7 +35,8 @@ some_there (Some x) is = (x, refl)
 module _ {Q P : Type 0} (charter : Charter Q P) (shard revision : ℕ) where
   changing : (log : List (Transaction Q P)) (process at : ℕ) (change : Change) (next : Record) (elected placed : ℕ)
       → IsRight charter log (Changing process at change next elected placed)
-      → RecordStep shard log (done_at {Q = Q} {P = P} revision (Changing process at change next elected placed))
+      → RecordStep charter.waits shard log
+      (done_at {Q = Q} {P = P} revision (Changing process at change next elected placed))
   changing log process at change next elected placed right =
       ⊎_elim
       (λ (yes : (at == shard) ≡ true).
@@ -52,13 +54,13 @@ module _ {Q P : Type 0} (charter : Charter Q P) (shard revision : ℕ) where
         is = cond-true (at == shard) next state yes ∙ is;
         after = found.0;
         leads = found.1;
-        waited = subst (λ (n : ℕ). HasWaited log (placement_of log) n change) same right.waited;
+        waited = λ waits. subst (λ (n : ℕ). HasWaited log (placement_of log) n change) same (right.waited waits);
       }))
       (λ (no : (at == shard) ≡ false). inl (cond-false (at == shard) next (stored_record shard log) no))
       (cases_Bool (at == shard))
 
   record_deed : (log : List (Transaction Q P)) (deed : Deed Q P) → IsRight charter log deed
-      → RecordStep shard log (done_at revision deed)
+      → RecordStep charter.waits shard log (done_at revision deed)
   record_deed log (Changing process at change next elected placed) right =
       changing log process at change next elected placed right
   record_deed log (Electing process) right = inl refl
@@ -85,9 +87,10 @@ changed_since was held after more (inr later) = inr (omega arith)
 
 module _ {Q P : Type 0} (charter : Charter Q P) (shard : ℕ) where
   pub record_step : (log : List (Transaction Q P)) (txn : Transaction Q P) → WasRight charter log txn
-      → RecordStep shard log txn
+      → RecordStep charter.waits shard log txn
   record_step log txn right =
-      subst (RecordStep shard log) (sym right.is) (record_deed charter shard txn.revision log right.deed right.right)
+      subst (RecordStep charter.waits shard log) (sym right.is)
+      (record_deed charter shard txn.revision log right.deed right.right)
 
   -- the shard's record is the same after more transactions, or a later one
   pub record_since : (later past : List (Transaction Q P)) → AreRight charter (later ++ past)
@@ -100,6 +103,6 @@ module _ {Q P : Type 0} (charter : Charter Q P) (shard : ℕ) where
       let on = record_since later past right.1 in
       ⊎_elim
       (λ (same : stored_record shard (txn ∷ log) ≡ held). subst (IsSince was) (sym same) on)
-      (λ (changed : IsChange shard log txn).
+      (λ (changed : IsChange charter.waits shard log txn).
       changed_since was held (stored_record shard (txn ∷ log)) (ap (λ (r : Record). r.generation) changed.is) on)
       (record_step log txn right.0)

@@ -224,6 +224,7 @@ extern "C" {
         length: usize,
         process: u64,
         elected: u64,
+        waits: bool,
         shards: *mut usize,
         servers: *mut usize,
     ) -> u32;

@@ -92,12 +92,22 @@ impl Drop for Director {
 // the call's alone.
 impl Director {
     /// That of the store which this line of settings describes, for this process, which was elected at this revision.
+    /// Its commands wait for acks.
     pub fn new(line: &str, process: u64, elected: u64) -> Result<Director, Code> {
         Director::of(line.as_bytes(), process, elected)
     }
 
     /// The same, of a line that may be any bytes.
     pub fn of(line: &[u8], process: u64, elected: u64) -> Result<Director, Code> {
+        Director::opened(line, process, elected, true)
+    }
+
+    /// The same, for a process that has all servers of the store: its commands wait for no ack.
+    pub fn alone(line: &str, process: u64, elected: u64) -> Result<Director, Code> {
+        Director::opened(line.as_bytes(), process, elected, false)
+    }
+
+    fn opened(line: &[u8], process: u64, elected: u64, waits: bool) -> Result<Director, Code> {
         let (mut handle, mut shards, mut servers) = (Handle::empty(), 0, 0);
         let (line, length) = (line.as_ptr(), line.len());
         Code::judged(unsafe {
@@ -107,6 +117,7 @@ impl Director {
                 length,
                 process,
                 elected,
+                waits,
                 &mut shards,
                 &mut servers,
             )

@@ -42,7 +42,7 @@ returns-in-Sent-command-clause-sent c =
       waited,
       λ parts log knows made.
           subst (λ (it : CommandWrite). MaySend (charter_of (rows_of sent.control.desk.books) sent.control.desk.caps
-          sent.control.ceiling parts) log (command_transaction (sending_of sent.control it)))
+          sent.control.ceiling sent.control.waits parts) log (command_transaction (sending_of sent.control it)))
           (sym written)
           (c.commands_may_be_sent.ensures parts log sent.control acks c.args.process c.args.command sound knows made
           allowed (subst (λ (k : StoreControl). has_waited k acks c.args.command ≡ true) same waited) named),

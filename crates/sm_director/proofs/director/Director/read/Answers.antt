@@ -13,6 +13,7 @@ returns-in-Ok-clause-made c =
         settings = refl;
         caps = refl;
         lead = refl;
+        waits = refl;
         followers = refl;
         acks = refl;
         records = ap (λ (v : Vec RecordRead). v.items) c.replace-records.ensures.after ∙ c.new.ensures.items;
@@ -20,11 +21,11 @@ returns-in-Ok-clause-made c =
       },
       c.in-Ok.control,
       refl,
-      subst (λ (desk : DeskView). IsLoaded desk old.lead old.settings.ceiling old.records.items old.runs.items
-          c.args.placed c.in-Ok.control) c.in_ok-desk.ensures
-          (subst (λ (v : Vec RecordRead). IsLoaded c.in_ok-desk.desk old.lead old.settings.ceiling v.items
-          old.runs.items c.args.placed c.in-Ok.control) c.replace-records.ensures.value
-          (subst (λ (v : Vec ServerRun). IsLoaded c.in_ok-desk.desk old.lead old.settings.ceiling
+      subst (λ (desk : DeskView). IsLoaded desk old.lead old.settings.ceiling old.waits old.records.items
+          old.runs.items c.args.placed c.in-Ok.control) c.in_ok-desk.ensures
+          (subst (λ (v : Vec RecordRead). IsLoaded c.in_ok-desk.desk old.lead old.settings.ceiling old.waits
+          v.items old.runs.items c.args.placed c.in-Ok.control) c.replace-records.ensures.value
+          (subst (λ (v : Vec ServerRun). IsLoaded c.in_ok-desk.desk old.lead old.settings.ceiling old.waits
           c.replace-records.result.items v.items c.args.placed c.in-Ok.control) c.replace-runs.ensures.value
           c.in-Ok.ensures)),
     )

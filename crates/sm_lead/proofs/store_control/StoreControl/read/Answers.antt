@@ -6,6 +6,7 @@ pub returns : goal.returns
 returns c = record {
   lead_is = refl;
   ceiling_is = refl;
+  waits_is = refl;
   placed_is = refl;
   reads_are = refl;
   rows = rows_after _ _ _ (rows_after _ _ _ c.in_ok-desk.ensures c.in_ok-desk-2.ensures) c.in_ok-desk-3.ensures;
