@@ -66,6 +66,8 @@ impl World {
         let Some(process) = self.processes[place].as_mut() else {
             return;
         };
+        self.timeline
+            .note(process.column(), || format!("is asked {}", words.join(" ")));
         let life = process.sender.life;
         let reply_to = OperatorReply::of((&self.ledger, &self.store), words, life);
         process.ask(Asked {
