@@ -250,6 +250,20 @@ fn a_process_that_is_elected_anew_leads_on() {
 }
 
 #[test]
+fn a_process_that_leads_again_outdates_what_it_sent_before() {
+    let late = Late::new();
+    let nodes = Net::of_three(&late.store, 1);
+    let mut before = campaign(&nodes[0]);
+    let assigned = ControlCommand::Assign(0, 1);
+    late.withhold(|| before.command(assigned));
+    drop(before);
+    let mut control = campaign(&nodes[0]);
+    late.assert_outdated(keys::COMMANDS);
+    late.assert_outdated(keys::LEADER);
+    control.command(assigned).unwrap();
+}
+
+#[test]
 fn who_saw_that_nobody_leads_is_not_elected_anew() {
     let late = Late::new();
     let nodes = Net::of_three(&late.store, 1);

@@ -1,6 +1,7 @@
 //! What lies in the store and what requests mean, read here anew: nothing of the proved library is used.
 use crate::claim::{Listed, MapQuery};
 use std::collections::BTreeMap;
+use std::fmt;
 
 /// A shard's record. The phase is 0 vacant, 1 serving, 2 prepared, 3 forwarding, 4 taken, 5 paused.
 #[derive(Clone, Copy, Debug, Default, PartialEq, Eq)]
@@ -78,6 +79,26 @@ impl DecodedRecord {
             1 | 2 | 4 => self.owner == server,
             3 => self.other == server && from == self.owner,
             _ => false,
+        }
+    }
+}
+
+impl fmt::Display for DecodedRecord {
+    /// The phase, and the servers of which it tells.
+    fn fmt(&self, f: &mut fmt::Formatter<'_>) -> fmt::Result {
+        let phases = [
+            "vacant",
+            "serving",
+            "prepared",
+            "forwarding",
+            "taken",
+            "paused",
+        ];
+        let phase = phases.get(self.phase as usize).unwrap_or(&"unknown");
+        match (self.owner, self.other) {
+            (0, _) => f.write_str(phase),
+            (owner, 0) => write!(f, "{phase}:{owner}"),
+            (owner, other) => write!(f, "{phase}:{owner}:{other}"),
         }
     }
 }

@@ -1,5 +1,7 @@
 //! How timelines tell of transactions and of what became of them.
 use crate::flight::Became;
+use crate::key::DecodedKey;
+use crate::reading::{self, DecodedRecord};
 use durkenzo_store::{Outcome, Seen, Transaction};
 
 /// Returns a key without the zeros that pad its numbers.
@@ -14,7 +16,10 @@ pub fn key(key: &[u8]) -> String {
 
 /// Returns what a transaction writes and deletes, or that it only compares.
 pub fn summary(transaction: &Transaction) -> String {
-    let puts = transaction.puts.iter().map(|it| key(&it.key));
+    let puts = transaction
+        .puts
+        .iter()
+        .map(|it| written(&it.key, &it.value));
     let deletes = transaction.deletes.iter().map(|it| format!("-{}", key(it)));
     let written: Vec<String> = puts.chain(deletes).collect();
     match written.is_empty() {
@@ -24,6 +29,24 @@ pub fn summary(transaction: &Transaction) -> String {
         }
         false => written.join(" "),
     }
+}
+
+/// Returns a key that is written, with what it comes to hold if that is a record or a state.
+fn written(bytes: &[u8], value: &[u8]) -> String {
+    let held = match DecodedKey::of(bytes) {
+        Some(DecodedKey::Record(_)) => DecodedRecord::of(value).map(|it| it.to_string()),
+        Some(DecodedKey::State(_)) => reading::state(value).map(|it| state(it.0).to_owned()),
+        _ => None,
+    };
+    match held {
+        Some(held) => format!("{}={held}", key(bytes)),
+        None => key(bytes),
+    }
+}
+
+/// The name of a server's state.
+fn state(number: u64) -> &'static str {
+    ["up", "asked", "approved", "stopped", "failed"][number as usize]
 }
 
 /// Returns what became of a transaction.

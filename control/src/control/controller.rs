@@ -192,10 +192,10 @@ impl Controller {
     }
 
     /// Makes what comes next of work that is under way: later if a process that has just come is still to read what the
-    /// command takes for known.
+    /// command takes for known, or if the process of its server isn't seen now.
     pub(super) fn step(&mut self, command: ControlCommand) -> Result<Advance, Refusal> {
         match self.make(command) {
-            Err(refusal) if refusal.is_for_now() => Ok(Advance::Later),
+            Err(refusal) if refusal.is_for_now() || refusal.is_of_process() => Ok(Advance::Later),
             made => made.map(|()| Advance::Again),
         }
     }
@@ -502,6 +502,7 @@ mod tests {
     use super::super::plain_backend::{PlainBackend, Teller};
     use super::super::Words;
     use super::*;
+    use durkenzo_driver::CommandFault;
     use std::sync::mpsc::Receiver;
 
     /// Has the control take this command in its turn.
@@ -536,6 +537,17 @@ mod tests {
         assert_eq!(busy.try_recv(), Ok(Ok(ControlAnswer::Done)));
         assert_eq!(control.wait(), None);
         assert_eq!(backend.plain().stands, [Stand::Serving(1); 2]);
+    }
+
+    #[test]
+    fn a_step_waits_for_a_process_that_is_not_seen() {
+        let backend = PlainBackend::of(1, Stand::Paused(1));
+        let unseen = Refused::Judged(CommandFault::EarlierProcess);
+        backend.plain().unmade = Some(unseen);
+        let mut control = backend.control();
+        let stopped = ControlCommand::Stopped(1);
+        assert!(matches!(control.step(stopped), Ok(Advance::Later)));
+        assert!(matches!(control.step(stopped), Ok(Advance::Again)));
     }
 
     /// Each would have all shards go to the other one's server.

@@ -255,6 +255,11 @@ impl Refusal {
         self.name == NOT_NOW
     }
 
+    /// Whether the server's process is the one that was stopped, or none was seen.
+    pub(super) fn is_of_process(&self) -> bool {
+        self.name == STILL_STOPPED
+    }
+
     /// Whether another process leads, so that this one's control makes nothing more.
     pub(super) fn is_of_leader(&self) -> bool {
         self.name == NOT_LEADER

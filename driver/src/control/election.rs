@@ -1,5 +1,5 @@
 //! How a process comes to lead, and has nothing more be made of what it sent before.
-use super::{DurableControl, WrittenRevisions};
+use super::{DurableControl, WrittenRevisions, TRIES};
 use crate::proved::Director;
 use crate::{keys, Durable, Refused};
 use durkenzo_store::{LeaseId, Outcome, Reading, Revision, Transaction, WriteError};
@@ -58,17 +58,25 @@ pub(super) fn elect(durable: &Durable) -> Result<Revision, Refused> {
     }
 }
 
-/// Writes the leader's key for this process if nobody has it, and returns its revision; none if another process has it.
+/// Writes the leader's key for this process if no other one has it, and returns its revision; none if one has it.
+///
+/// If it is this process's already, by an election of which it didn't know, or of a control that has ended, it is
+/// elected anew: what was sent by then isn't made from then on, and writes the leader's key no more.
 pub(super) fn campaigned(durable: &Durable) -> Result<Option<Revision>, Refused> {
     let lease = durable.member().and_then(|it| it.lease());
     let lease = Some(lease.ok_or(Refused::NotLeader)?);
-    match elected_after(durable, Revision::NEVER, lease) {
-        Err(WriteError::Unknown(_)) => {
-            let found = durable.store().read(&[keys::LEADER])?;
-            Ok(own_election(durable, &found))
+    let mut before = Revision::NEVER;
+    for _ in 0..TRIES {
+        let transaction = election(durable, before, lease).or_read(keys::LEADER);
+        match durable.store().make(transaction)? {
+            Outcome::Made(revision) => return Ok(Some(revision)),
+            Outcome::Lost(found) => match own_election(durable, &found) {
+                Some(own) => before = own,
+                None => return Ok(None),
+            },
         }
-        elected => Ok(elected?),
     }
+    Err(Refused::in_vain())
 }
 
 /// Writes the leader's key for this process if it was last written at this revision, and returns its revision. If this

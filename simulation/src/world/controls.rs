@@ -66,6 +66,8 @@ impl World {
         let Some(process) = self.processes[place].as_mut() else {
             return;
         };
+        self.timeline
+            .note(process.column(), || format!("is asked {}", words.join(" ")));
         let life = process.sender.life;
         let reply_to = OperatorReply::of((&self.ledger, &self.store), words, life);
         process.ask(Asked {
@@ -278,11 +280,21 @@ impl World {
         for shard in 0..self.shards {
             let record = self.record_of(shard);
             let is_left = record.phase == PAUSED && self.state_of(record.owner as u16) <= ASKED;
-            // One that another process replaced finds nobody who leads.
-            if let Some(place) = self.place().filter(|_| is_left) {
+            if is_left {
                 let words = ["SM", "RESUME", &shard.to_string()].map(str::to_owned);
-                self.ask_control(place, &words);
+                self.ask_one(&words);
             }
+        }
+    }
+
+    /// An operator asks one of the processes that run: one that another process replaced finds nobody who leads.
+    fn ask_one(&mut self, words: &[String]) {
+        let running: Vec<usize> = (0..PROCESSES)
+            .filter(|it| self.processes[*it].is_some())
+            .collect();
+        let at = self.chance.below(running.len().max(1) as u64) as usize;
+        if let Some(place) = running.get(at) {
+            self.ask_control(*place, words);
         }
     }
 
