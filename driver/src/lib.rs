@@ -29,6 +29,7 @@ mod key_list;
 pub mod keys;
 mod lease_clock;
 mod lowest;
+#[deny(clippy::disallowed_methods)]
 mod member;
 mod members;
 mod open_fault;
@@ -67,7 +68,7 @@ pub use elsewhere::{Came, Elsewhere, HandOver, Own};
 pub use intent::Intent;
 pub use join_fault::JoinFault;
 pub use kept_lease::KeptLease;
-pub use member::Member;
+pub use member::{JoinStep, Joining, Member};
 pub use members::{Live, Members};
 pub use open_fault::OpenFault;
 pub use planner::Planner;

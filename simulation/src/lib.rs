@@ -8,6 +8,7 @@
 //! law is shrunk to the fewest faults that do.
 #![forbid(unsafe_code)]
 
+mod beginning;
 pub mod bug;
 pub mod chance;
 pub mod claim;

@@ -21,26 +21,14 @@ pub struct Line {
     shared: SharedStore,
     /// The number of its way to members.
     route: usize,
-    /// Whether transactions are answered at once, as of a sender that waits for each.
-    is_waiting: bool,
 }
 
 impl Line {
-    /// Returns the way of a process's shards, by its place.
-    pub fn of_shards(shared: &SharedStore, place: usize) -> Line {
-        Line::new(shared, place, false)
-    }
-
-    /// Returns the way of a process's member, which waits for each of its transactions.
-    pub fn of_member(shared: &SharedStore, place: usize) -> Line {
-        Line::new(shared, place, true)
-    }
-
-    fn new(shared: &SharedStore, place: usize, is_waiting: bool) -> Line {
+    /// Returns a way of its own for the process at this place.
+    pub fn of(shared: &SharedStore, place: usize) -> Line {
         Line {
             shared: shared.clone(),
             route: locked(shared).new_route(Column::Process(place)),
-            is_waiting,
         }
     }
 
@@ -73,9 +61,6 @@ impl Line {
 
 impl Store for Line {
     fn submit(&self, transaction: Transaction, done: Done) {
-        if self.is_waiting {
-            return done(self.make(transaction));
-        }
         let mut store = self.store();
         let transaction = store.spoilt(transaction, self.route);
         let column = store.column_of(self.route);

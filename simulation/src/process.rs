@@ -5,14 +5,14 @@ use crate::links::{Inbox, LinkShape, LinkedHost};
 use crate::mail::{Mails, Message, Sender};
 use crate::simulated_host::SimulatedHost;
 use crate::simulated_peers::SimulatedPeers;
-use crate::simulated_store::{locked, SharedStore};
+use crate::simulated_store::SharedStore;
 use crate::time::Time;
 use crate::timeline::Column;
+use crate::world::SERVERS;
 use durkenzo_control::control::{Asked, Campaigner};
 use durkenzo_control::links::Links;
 use durkenzo_driver::{
-    Acks, Addresses, Chores, Clock, Durable, DurableControl, HandOver, JoinFault, Member, Own,
-    Tuning,
+    Acks, Chores, Clock, Durable, DurableControl, HandOver, Member, OpenFault, Own, Tuning,
 };
 use std::sync::atomic::AtomicBool;
 use std::sync::Arc;
@@ -48,32 +48,20 @@ pub struct Process {
 }
 
 impl Process {
-    /// Starts a process with this server, one of so many, of so many shards.
+    /// Starts the shards of a process whose server is there, so many.
     pub fn start(
         (shared, mails, time, shape): (&SharedStore, &Mails, &Time, Option<&LinkShape>),
         sender: Sender,
-        (server, servers): (u16, u16),
+        member: Arc<Member>,
         shards: u16,
         tuning: Tuning,
-    ) -> Result<Process, JoinFault> {
-        let (leases, own) = (time.clone(), time.clone());
-        let watches = locked(shared).watches();
-        let mut addresses = Addresses::default();
-        if shape.is_some() {
-            addresses.servers = sender.place.to_string();
-        }
-        let member = Arc::new(Member::join_without_thread(
-            Arc::new(Line::of_member(shared, sender.place)),
-            server,
-            addresses,
-            LEASE,
-            move || leases.passed(),
-        )?);
+    ) -> Result<Process, OpenFault> {
+        let own = time.clone();
         let links = shape.map(|it| it.links(&member, time));
         let sends = links.as_ref().zip(shape);
         let elsewhere = sends.map(|(links, shape)| shape.hand_over(links, sender));
         let (durable, chores) = Durable::open_without_threads(
-            Arc::new(Line::of_shards(shared, sender.place)),
+            Arc::new(Line::of(shared, sender.place)),
             shards,
             tuning,
             Own {
@@ -85,7 +73,7 @@ impl Process {
         )?;
         let (durable, inbox) = (Arc::new(durable), Inbox::default());
         if let Some((links, shape)) = links.as_ref().zip(shape) {
-            shape.begin(links, servers, &durable, &inbox);
+            shape.begin(links, SERVERS, &durable, &inbox);
         }
         Ok(Process {
             sender,
@@ -102,7 +90,7 @@ impl Process {
             is_stopping: Arc::default(),
             paused_until: Duration::ZERO,
             read: Vec::new(),
-            watches: locked(shared).watches() - watches,
+            watches: 0,
         })
     }
 

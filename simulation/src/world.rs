@@ -1,8 +1,10 @@
 //! Three servers, one of which may run twice, clients and a store, and what happens to them by chance.
 mod controls;
+mod members;
 mod network;
 mod rest;
 
+use crate::beginning::Beginning;
 use crate::bug::Bug;
 use crate::chance::Chance;
 use crate::client::{Asking, Claims, Client};
@@ -30,7 +32,7 @@ use std::sync::atomic::{AtomicBool, Ordering};
 use std::sync::{Arc, Mutex, MutexGuard, Weak};
 use std::time::Duration;
 
-const SERVERS: u16 = 3;
+pub const SERVERS: u16 = 3;
 /// One more than there are servers: one that is believed dead goes on.
 const PROCESSES: usize = 4;
 const SHARDS: u16 = 2;
@@ -59,7 +61,7 @@ const WAIT: Duration = Duration::from_millis(300);
 type Happening = fn(&mut World);
 
 /// What happens, and how often beside the others.
-const HAPPENINGS: [(Happening, u64); 16] = [
+const HAPPENINGS: [(Happening, u64); 15] = [
     (World::ask, 16),
     (World::fly, 30),
     (World::read, 14),
@@ -68,8 +70,7 @@ const HAPPENINGS: [(Happening, u64); 16] = [
     (World::deliver, 6),
     (World::answer, 4),
     (World::tick, 4),
-    (World::keep_leases, 2),
-    (World::tell_followed, 4),
+    (World::turn_members, 6),
     (World::lapse, 2),
     (World::trouble_store, 4),
     (World::crash, 1),
@@ -121,6 +122,8 @@ pub struct World {
     told: Claims,
     tuning: Tuning,
     processes: Vec<Option<Process>>,
+    /// Those whose servers aren't there yet, by their places.
+    beginnings: Vec<Option<Beginning>>,
     /// How many processes have been started.
     lives: u64,
     clients: Vec<Client>,
@@ -214,6 +217,7 @@ impl World {
             told: Claims::default(),
             tuning,
             processes: (0..PROCESSES).map(|_| None).collect(),
+            beginnings: (0..PROCESSES).map(|_| None).collect(),
             lives: 0,
             clients: (1..=CLIENTS).map(Client::new).collect(),
             asked: Vec::new(),
@@ -226,6 +230,10 @@ impl World {
     /// Each server runs; then all happens that chance has happen, and comes to its end.
     fn pass(&mut self) {
         (0..usize::from(SERVERS)).for_each(|it| self.start(it));
+        while self.beginnings.iter().any(Option::is_some) {
+            self.fly();
+            self.turn_beginnings();
+        }
         let (is_controlled, events) = match self.control {
             Some(_) => (true, CONTROLLED_EVENTS),
             None => (false, EVENTS),
@@ -258,7 +266,7 @@ impl World {
         }
         process.control = Some(control);
         while self.has_heard() {}
-        self.tell_followed();
+        self.turn_members();
     }
 
     /// Nothing fails any more, so within some time all that was asked is over: it is answered or refused.
@@ -290,9 +298,9 @@ impl World {
         }
         for process in self.processes.iter_mut().flatten() {
             process.do_chores();
-            process.member.keep_lease();
-            process.member.tell_followed();
+            process.member.turn();
         }
+        self.turn_beginnings();
         // Processes that crashed are seen to be gone.
         self.lapse();
     }
@@ -455,60 +463,10 @@ impl World {
         }
     }
 
-    fn keep_leases(&mut self) {
-        let left_out = self.chance.below(2 * PROCESSES as u64) as usize;
-        let now = self.time.passed();
-        let others = self.processes.iter().enumerate();
-        let others = others.filter(|it| it.0 != left_out);
-        let others = others.filter_map(|it| it.1.as_ref());
-        for process in others.filter(|it| it.paused_until <= now) {
-            process.member.keep_lease();
-        }
-    }
-
-    fn tell_followed(&mut self) {
-        let there = self.processes.iter().flatten();
-        there.for_each(|it| it.member.tell_followed());
-    }
-
-    /// A process starts, of a server whose key isn't there.
+    /// A process starts.
     fn start_one(&mut self) {
         let at = self.chance.below(PROCESSES as u64) as usize;
         self.start_at(at);
-    }
-
-    /// A process starts at this place, unless one runs there or the key of its server is there.
-    fn start_at(&mut self, at: usize) {
-        let key = format!("server/{:05}", server_of(at));
-        if self.processes[at].is_none() && !self.store().has(key.as_bytes()) {
-            self.start(at);
-        }
-    }
-
-    fn start(&mut self, place: usize) {
-        self.lives += 1;
-        self.tally.starts += 1;
-        let sender = Sender {
-            place,
-            life: self.lives,
-        };
-        let was_calm = std::mem::replace(&mut self.store().is_calm, true);
-        if self.chance.is_true(1, 3) {
-            let others = self.chance.below(12);
-            self.store().begin_processes(others);
-        }
-        let shape = self.link_shape(sender);
-        let surroundings = (&self.store, &self.mails, &self.time, shape.as_ref());
-        let (server, shards) = ((server_of(place), SERVERS), self.shards);
-        let started = Process::start(surroundings, sender, server, shards, self.tuning);
-        let mut process = started.expect("nobody has its name");
-        if let Some(control) = &self.control {
-            process.have_control(&self.mails, control);
-        }
-        let begins = || format!("begins as process {}", process.member.process());
-        self.timeline.note(process.column(), begins);
-        self.processes[place] = Some(process);
-        self.store().is_calm = was_calm;
     }
 
     /// How the links of a process are, if it has those that ship.
@@ -544,6 +502,7 @@ impl World {
     }
 
     fn crash_at(&mut self, place: usize) {
+        self.beginnings[place] = None;
         let process = self.processes[place].take();
         process.into_iter().for_each(|it| self.bury(it));
     }

@@ -50,7 +50,9 @@ pub(super) fn links_of(server: u16, milliseconds: &Arc<AtomicU64>) -> Links<Test
     let addresses = Addresses::default();
     let store = Arc::new(Embedded::in_memory());
     let length = Duration::from_secs(60);
-    let member = Member::join_without_thread(store, server, addresses, length, || Duration::ZERO);
+    let (stands, passed) = (Clock::new(|| moment(0)), || Duration::ZERO);
+    let joining = Member::join_without_thread(store, server, addresses, length, stands, passed);
+    let member = joining.unwrap().wait();
     let mut terms = terms("");
     terms.identity.server = server;
     let milliseconds = milliseconds.clone();

@@ -328,7 +328,7 @@ impl Node {
     pub fn revive(&self) {
         self.is_cut.store(false, Ordering::Release);
         self.member().keep_lease();
-        self.member().tell_followed();
+        until("its key is there", || self.member().lease().is_some());
     }
 }
 

@@ -6,7 +6,7 @@ use crate::key::DecodedKey;
 use crate::law::Broken;
 use crate::operator;
 use crate::operator_reply::OperatorReply;
-use crate::process::{Process, LEASE};
+use crate::process::Process;
 use crate::reading::{self, DecodedRecord};
 use crate::timeline::Column;
 use durkenzo_control::control::{Asked, Words};
@@ -19,8 +19,7 @@ const ROUND: u64 = 10;
 const BEGINNING: u64 = 1_000;
 const WELL: u64 = 4_000;
 const OVER: u64 = 8_000;
-/// In how many rounds leases are kept, and operators look at what waits for them.
-const KEEPING: u64 = 30;
+/// In how many rounds operators look at what waits for them.
 const LOOKING: u64 = 300;
 /// For how many milliseconds a process is paused at most.
 const PAUSE: u64 = 3_000;
@@ -36,11 +35,11 @@ const PAUSED: u64 = 5;
 impl World {
     /// Has the processes campaign, until one leads and all shards have owners.
     pub(super) fn begin_controls(&mut self) {
-        for round in 0..BEGINNING {
+        for _ in 0..BEGINNING {
             if (0..self.shards).all(|it| self.is_served(it)) {
                 return;
             }
-            self.pass_round(round);
+            self.pass_round();
         }
         self.find("shards get owners at the beginning", String::new());
     }
@@ -261,7 +260,7 @@ impl World {
             if round % LOOKING == 0 {
                 self.look_after(missing);
             }
-            self.pass_round(round);
+            self.pass_round();
         }
         is_so(self)
     }
@@ -299,7 +298,7 @@ impl World {
     }
 
     /// Some time passes, in which all that is due is done.
-    fn pass_round(&mut self, round: u64) {
+    fn pass_round(&mut self) {
         self.time.pass(ROUND);
         for process in self.processes.iter_mut().flatten() {
             process.take_turn_if_due();
@@ -313,11 +312,9 @@ impl World {
         while self.has_heard() {}
         for process in self.processes.iter_mut().flatten() {
             process.do_chores();
-            if round % KEEPING == 0 {
-                process.member.keep_lease();
-            }
-            process.member.tell_followed();
+            process.member.turn();
         }
+        self.turn_beginnings();
         self.lapse();
     }
 
@@ -411,9 +408,6 @@ impl World {
         self.fault.get_or_insert(Broken { law, by });
     }
 }
-
-/// A lease is kept more than twice in its length.
-const _: () = assert!(LEASE.as_millis() as u64 > 2 * KEEPING * ROUND);
 
 /// Returns whether somebody is still to go on with what lies at this key.
 fn is_intent(key: &[u8]) -> bool {

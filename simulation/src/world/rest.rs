@@ -43,13 +43,14 @@ impl World {
     fn left(&self) -> Left {
         let (store, mails) = (self.store(), self.mails.lock().expect("no panic"));
         let running = || self.processes.iter().flatten();
+        let beginning = self.beginnings.iter().flatten().count();
         let of_steps = mails.messages.len() + mails.answers.len();
         Left {
             flights: store.flights.len(),
             messages: of_steps + mails.commands.len() + mails.commands_back.len(),
             half_connected: self.network.as_ref().map_or(0, |it| it.half_connected()),
             readings: running().map(|it| it.read.len()).sum(),
-            leases: store.leases().saturating_sub(running().count()),
+            leases: store.leases().saturating_sub(running().count() + beginning),
             watches: store.watches() - running().map(|it| it.watches).sum::<usize>(),
         }
     }
