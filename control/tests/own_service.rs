@@ -1,8 +1,8 @@
 //! Two processes of a service of its own, whose requests and answers only that service reads: it shouts texts.
 use durkenzo_control::links::{
-    put_text, Destination, Fields, ForwardedCommand, ForwardedMessage, ForwardedRequest, Host,
-    Identity, Links, PeerSession, Reason, ReceivedRequests, ReplySender, ReturnedRequests, Terms,
-    WireFault, FIRST_TABLE,
+    put_text, Admission, Destination, Fields, ForwardedCommand, ForwardedMessage, ForwardedRequest,
+    Host, Identity, Links, PeerSession, Reason, ReceivedRequests, ReplySender, ReturnedRequests,
+    Terms, WireFault, FIRST_TABLE,
 };
 use durkenzo_driver::{Addresses, Came, Member};
 use durkenzo_store::{Embedded, Revision, Store};
@@ -229,6 +229,7 @@ fn process(store: &Arc<dyn Store>, server: u16) -> Links<Shouter> {
         identity,
         secret: None,
         tls: None,
+        admits: Admission::Processes,
     };
     let links = Links::new(terms, member, WAIT);
     links.begin(listener, 2, Shouter).unwrap();

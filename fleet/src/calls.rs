@@ -1,8 +1,9 @@
 //! A call's way through a server: it is executed, goes on to another server, or waits.
-use crate::connections::{is_open, NotAnswered};
+use crate::connections::NotAnswered;
 use crate::fleet::FleetInner;
 use crate::frame::{CallFrame, Request, Response, MOST};
 use crate::queue::Turn;
+use crate::stream::is_open;
 use crate::{Destination, Enter, Mode, Permit, Service};
 use durkenzo::MOST_HOPS;
 use std::net::TcpStream;

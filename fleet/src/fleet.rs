@@ -1,13 +1,15 @@
 use crate::connections::Connections;
 use crate::follower::{self, Notices};
+use crate::introduction::Introduction;
 use crate::leading;
 use crate::listener::Listener;
 use crate::permit::BodyGuard;
 use crate::place::{Known, Place};
 use crate::retry::end_of;
+use crate::stream::left;
 use crate::{
-    settings, Destination, Enter, JoinError, Mode, Options, Permit, Refused, Service, Shard,
-    Sharding,
+    settings, Destination, Enter, JoinError, Mode, Options, Permit, Refused, Safety, Service,
+    Shard, Sharding,
 };
 use durkenzo::word;
 use durkenzo_control::control::Asked;
@@ -32,6 +34,8 @@ use tokio::sync::Notify;
 const LOOK: Duration = Duration::from_millis(20);
 /// How long a server waits until it asks again to be stopped.
 const ASK_AGAIN: Duration = Duration::from_millis(250);
+/// How long others are asked at most whether they take a process that joins.
+const MEET: Duration = Duration::from_secs(3);
 /// How long a server that was stopped forwards what still comes.
 const LINGER: Duration = Duration::from_millis(500);
 
@@ -81,18 +85,17 @@ impl<S: Service> Fleet<S> {
         store: Arc<dyn Store>,
     ) -> Result<Fleet<S>, JoinError> {
         let sharding = options.sharding()?;
-        if !options.listen.ip().is_loopback() && !options.open {
-            return Err(JoinError::Open(options.listen));
-        }
+        let safety = options.guarded()?;
         // Each connection has a descriptor.
         raise_limit();
-        let (listener, address) = Listener::bind(options.listen)?;
+        let (listener, address) = Listener::bind(options.listen, options.connections)?;
         let at = options
             .advertise
             .clone()
             .unwrap_or_else(|| address.to_string());
         let (notices, noticed) = Notices::new();
-        let inner = FleetInner::joined((service, options, sharding), at, store, &notices)?;
+        let inner =
+            FleetInner::joined((service, options, sharding), (at, &safety), store, &notices)?;
         let inner = Arc::new(inner);
         follower::begin(&inner, noticed)?;
         leading::begin(&inner)?;
@@ -227,7 +230,7 @@ impl<S: Service> FleetInner<S> {
     /// Joins as the server of these options, which others reach at that address.
     fn joined(
         (service, options, sharding): (S, Options, Sharding),
-        at: String,
+        (at, safety): (String, &Safety),
         store: Arc<dyn Store>,
         notices: &Notices,
     ) -> Result<FleetInner<S>, JoinError> {
@@ -248,6 +251,7 @@ impl<S: Service> FleetInner<S> {
             notices.teller(),
         )?;
         let member = Arc::new(member);
+        let connections = met(&member, safety, checksum(settings.as_bytes()))?;
         let own = Own {
             member: member.clone(),
             // No request of such a service goes through a log.
@@ -265,7 +269,7 @@ impl<S: Service> FleetInner<S> {
         Ok(FleetInner {
             service,
             places: (0..shards).map(|_| Place::new(unread)).collect(),
-            connections: Arc::new(Connections::new(checksum(settings.as_bytes()))),
+            connections: Arc::new(connections),
             member,
             durable: Arc::new(durable),
             options,
@@ -417,6 +421,33 @@ impl<S: Service> FleetInner<S> {
             _ => false,
         }
     }
+}
+
+/// Returns the connections of this process, if another one takes it, or none is there.
+///
+/// # Errors
+///
+/// Each one that is there refuses it.
+fn met(member: &Member, safety: &Safety, settings: u64) -> Result<Connections, JoinError> {
+    let own = (member.server(), member.process());
+    let connections = Connections::new(Introduction::of_process(safety, settings, own));
+    let (members, end, mut refused) = (member.members(), end_of(MEET), None);
+    for (_, other) in members.iter().filter(|it| *it.0 != own.0) {
+        let (address, left) = (&other.addresses.servers, left(end));
+        match connections.connect(address, left) {
+            Ok(_) => return Ok(connections),
+            Err(why) if why.is_refusal() => refused = Some(JoinError::NotMet(address.clone(), why)),
+            // It may have failed, and its lease hasn't ended.
+            Err(_) => {}
+        }
+        if Instant::now() >= end {
+            break;
+        }
+    }
+    refused.map_or(Ok(connections), |why| {
+        member.leave();
+        Err(why)
+    })
 }
 
 pub(crate) fn nanoseconds(time: Duration) -> u64 {

@@ -4,8 +4,6 @@ use durkenzo_store_sys::HandOver;
 use std::io::{self, Read};
 use std::time::Duration;
 
-/// What a connection begins with, before the checksum of the fleet's settings.
-pub(crate) const MAGIC: [u8; 4] = *b"DKF1";
 /// How many bytes of a body one frame carries at most. One frame of a body is under way at a time.
 pub(crate) const CHUNK: usize = 256 << 10;
 /// How many bytes a request and an answer have at most.
@@ -139,7 +137,7 @@ impl<'a> Request<'a> {
 
     pub(crate) fn read(bytes: &'a [u8]) -> Result<Request<'a>, WireFault> {
         let mut fields = Fields::new(bytes);
-        Ok(match fields.byte()? {
+        let request = match fields.byte()? {
             1 => Request::Call(CallFrame {
                 shard: fields.short()?,
                 from: fields.short()?,
@@ -160,18 +158,19 @@ impl<'a> Request<'a> {
                     joined: fields.long()?,
                     generation: fields.long()?,
                 },
-                is_changes: fields.byte()? != 0,
+                is_changes: fields.flag()?,
                 at: fields.long()?,
                 total: fields.long()?,
                 bytes: fields.rest(),
             }),
             4 => Request::Command {
-                is_passed_on: fields.byte()? != 0,
+                is_passed_on: fields.flag()?,
                 words: fields.rest(),
             },
             5 => Request::Routes,
             kind => return Err(WireFault::Kind(kind)),
-        })
+        };
+        fields.end().map(|()| request)
     }
 }
 
@@ -213,7 +212,7 @@ impl<'a> Response<'a> {
 
     pub(crate) fn read(bytes: &'a [u8]) -> Result<Response<'a>, WireFault> {
         let mut fields = Fields::new(bytes);
-        Ok(match fields.byte()? {
+        let response = match fields.byte()? {
             1 => Response::Answered {
                 server: fields.short()?,
                 hops: fields.byte()?,
@@ -229,7 +228,8 @@ impl<'a> Response<'a> {
             5 => Response::Taken,
             6 => Response::Text(fields.rest()),
             kind => return Err(WireFault::Answer(kind)),
-        })
+        };
+        fields.end().map(|()| response)
     }
 }
 
@@ -269,6 +269,40 @@ pub(crate) fn words(bytes: &[u8]) -> Result<Vec<&[u8]>, WireFault> {
         }
     }
     Ok(words)
+}
+
+/// Reads the frame with which these bytes begin as a request and as a response, with a command's words. Returns the
+/// bytes of each that it is, spelled anew. Only fuzzing asks for it.
+#[doc(hidden)]
+pub fn respelled(mut bytes: &[u8]) -> [Option<Vec<u8>>; 2] {
+    let mut room = Vec::new();
+    if receive(&mut bytes, &mut room).is_err() {
+        return [None, None];
+    }
+    let request = Request::read(&room).ok().and_then(|request| {
+        let mut out = Vec::new();
+        let Request::Command {
+            is_passed_on,
+            words: told,
+        } = request
+        else {
+            request.write(&mut out);
+            return Some(out);
+        };
+        let words = &spelled(words(told).ok()?);
+        let again = Request::Command {
+            is_passed_on,
+            words,
+        };
+        again.write(&mut out);
+        Some(out)
+    });
+    let response = Response::read(&room).ok().map(|response| {
+        let mut out = Vec::new();
+        response.write(&mut out);
+        out
+    });
+    [request, response]
 }
 
 /// Reads a frame into the room. One that is longer than [`LONGEST`] is refused before there is room for it.
@@ -373,6 +407,8 @@ mod tests {
         assert!(room.capacity() < 1 << 10, "{}", room.capacity());
         assert_eq!(Request::read(&[9]), Err(WireFault::Kind(9)));
         assert_eq!(Request::read(&[1, 0]), Err(WireFault::TooShort));
+        assert_eq!(Request::read(&[5, 0]), Err(WireFault::TooMuch));
+        assert_eq!(Request::read(&[4, 2]), Err(WireFault::Flag(2)));
         assert_eq!(Response::read(&[2, 0xff]), Err(WireFault::Text));
         let command = spelled([&b"SM"[..], b"MIGRATE", b""]);
         assert_eq!(words(&command), Ok(vec![&b"SM"[..], b"MIGRATE", b""]));

@@ -1,4 +1,7 @@
+use crate::MeetError;
 use durkenzo::LayoutFault;
+use durkenzo_control::links::SecretFault;
+use durkenzo_control::tls::{TlsFault, PEER_NAME};
 use durkenzo_driver::{JoinFault, OpenFault};
 use durkenzo_store::{ReadError, StartError, WriteError};
 use std::io;
@@ -11,9 +14,23 @@ pub enum JoinError {
     /// An option is out of bounds.
     #[error("{0}")]
     Options(String),
-    /// Frames aren't encrypted, so they go to this machine only, if nothing else is said.
-    #[error("--listen {0} is reached from other machines, and frames aren't encrypted: say --open in a private network")]
+    /// Other machines reach this one, and have to show nothing.
+    #[error("--listen {0} is reached from other machines, and whoever reaches it may hand over bodies: give --secret-file, or --tls-ca, --tls-cert and --tls-key, or say --open in a private network")]
     Open(std::net::SocketAddr),
+    /// There is no secret as it is given.
+    #[error(transparent)]
+    Secret(#[from] SecretFault),
+    /// Files give no TLS.
+    #[error(transparent)]
+    Tls(#[from] TlsFault),
+    /// The certificate of a process is one of clients.
+    #[error(
+        "--tls-cert hasn't the name DNS:{PEER_NAME}, by which a process is told from a client"
+    )]
+    NoProcess,
+    /// No other server of the fleet takes this process.
+    #[error("{0} isn't met: {1}")]
+    NotMet(String, MeetError),
     /// The store has a fleet of other settings.
     #[error("the store has a fleet of other settings: start with those, or name another etcd\nfound  {found}\nwanted {wanted}")]
     OtherSettings {

@@ -50,9 +50,11 @@ mod enter;
 mod fleet;
 mod follower;
 mod frame;
+mod introduction;
 mod join_error;
 mod leading;
 mod listener;
+mod meet_error;
 mod migration;
 mod options;
 mod permit;
@@ -62,9 +64,13 @@ mod plant;
 mod queue;
 mod retry;
 mod router;
+mod safety;
+#[cfg(test)]
+mod safety_trial;
 mod service;
 mod settings;
 mod shard;
+mod stream;
 #[cfg(test)]
 mod trial;
 
@@ -72,11 +78,15 @@ pub use call_error::CallError;
 pub use durkenzo::Mode;
 pub use enter::{Destination, Enter, Refused};
 pub use fleet::Fleet;
+#[doc(hidden)]
+pub use frame::respelled;
 pub use join_error::JoinError;
-pub use options::Options;
+pub use meet_error::MeetError;
+pub use options::{EtcdOptions, Options};
 pub use permit::Permit;
 pub use retry::Retry;
 pub use router::{Answer, Router};
+pub use safety::{Safety, SafetyOptions};
 pub use service::{Call, Came, Changes, Fault, Service};
 pub use settings::Sharding;
 pub use shard::Shard;

@@ -1,17 +1,25 @@
 use crate::fleet::FleetInner;
 use crate::follower::spawn;
-use crate::frame::{self, Request, Response, MAGIC, WRITTEN};
+use crate::frame::{self, Request, Response};
+use crate::introduction::Guest;
+use crate::stream::Stream;
 use crate::{JoinError, Service};
-use durkenzo_control::links::checksum;
+use durkenzo_control::links::{Closer, PendingHandshake, PendingHandshakes, NO_SERVER};
 use std::collections::HashMap;
-use std::io::{self, BufReader, Read, Write};
+use std::io::{self, BufReader, Write};
 use std::net::{Shutdown, SocketAddr, TcpListener, TcpStream};
 use std::sync::atomic::{AtomicBool, AtomicU64, Ordering};
 use std::sync::{Arc, Mutex, MutexGuard, PoisonError};
 use std::time::{Duration, Instant};
 
-/// How long who connects may take to say of which fleet it is.
+/// How long who connects may take in all to show that it is of the fleet.
 const GREETING: Duration = Duration::from_secs(5);
+/// How many who haven't shown that are waited for at least, and for how many clients there is one more.
+const STRANGERS: usize = 64;
+const CLIENTS: usize = 4;
+/// What is told to who asks what only a process of the fleet may ask, or speaks for another one.
+const NOT_ITS: &str =
+    "only the process of a server may ask so: by TLS its certificate has the name peer.durkenzo";
 /// What a connection has for the time since which it is idle: it is answered, or it is ended.
 const BUSY: u64 = u64::MAX;
 const ENDED: u64 = u64::MAX - 1;
@@ -25,6 +33,8 @@ pub(crate) struct Listener {
 struct Shared {
     is_over: AtomicBool,
     began: Instant,
+    /// Who connected, and hasn't shown yet that it is of the fleet.
+    strangers: Arc<PendingHandshakes>,
     connections: Mutex<Connections>,
 }
 
@@ -38,14 +48,14 @@ struct Connections {
 #[derive(Clone, Copy, Debug, PartialEq, Eq)]
 enum Kind {
     /// It has asked nothing yet.
-    Stranger,
+    Newcomer,
     Client,
     /// A server, which sends calls and commands on, or hands over.
     Server,
 }
 
 struct Connection {
-    stream: TcpStream,
+    socket: Arc<TcpStream>,
     /// How many milliseconds after the listener began it was idle, or [`BUSY`], or [`ENDED`].
     idle_since: AtomicU64,
 }
@@ -58,6 +68,15 @@ struct Place {
 }
 
 impl Shared {
+    fn new(strangers: usize) -> Shared {
+        Shared {
+            is_over: AtomicBool::new(false),
+            began: Instant::now(),
+            strangers: Arc::new(PendingHandshakes::new(strangers)),
+            connections: Mutex::default(),
+        }
+    }
+
     fn connections(&self) -> MutexGuard<'_, Connections> {
         let locked = self.connections.lock();
         locked.unwrap_or_else(PoisonError::into_inner)
@@ -68,26 +87,27 @@ impl Shared {
         self.began.elapsed().as_millis() as u64
     }
 
-    /// Returns a place for who connects, if there is one. Strangers have those of servers.
-    fn admit(self: &Arc<Shared>, stream: TcpStream, most: usize) -> Option<Place> {
-        let idle_since = AtomicU64::new(self.now());
-        let connection = Arc::new(Connection { stream, idle_since });
+    /// Returns a place for who has shown that it is of the fleet, if there is one. Newcomers have those of servers.
+    fn admit(self: &Arc<Shared>, connection: &Arc<Connection>, most: usize) -> Option<Place> {
         let mut all = self.connections();
         let is_client = |kind| kind == Kind::Client;
-        if all.count(|it| !is_client(it)) >= most
-            && !all.end_idle(|it| it == Kind::Stranger)
-            && !all.end_idle(|it| it == Kind::Server)
-        {
+        let is_over = self.is_over.load(Ordering::Acquire);
+        let is_full = all.count(|it| !is_client(it)) >= most
+            && !all.end_idle(|it| it == Kind::Newcomer)
+            && !all.end_idle(|it| it == Kind::Server);
+        if is_over || is_full {
             return None;
         }
+        let now = self.now();
+        connection.idle_since.store(now, Ordering::Release);
         all.next += 1;
         let number = all.next;
         all.by_number
-            .insert(number, (Kind::Stranger, connection.clone()));
+            .insert(number, (Kind::Newcomer, connection.clone()));
         Some(Place {
             shared: self.clone(),
             number,
-            connection,
+            connection: connection.clone(),
         })
     }
 }
@@ -111,10 +131,17 @@ impl Connections {
         let ended = connection.change(since, ENDED);
         if ended {
             // Its thread, which reads, learns it by this.
-            let _ = connection.stream.shutdown(Shutdown::Both);
+            connection.end();
             self.by_number.remove(&number);
         }
         ended
+    }
+}
+
+impl Closer for Connection {
+    fn end(&self) {
+        // If it has ended already, there is nothing to do.
+        let _ = self.socket.shutdown(Shutdown::Both);
     }
 }
 
@@ -153,14 +180,14 @@ impl Drop for Place {
 }
 
 impl Listener {
-    pub(crate) fn bind(address: SocketAddr) -> Result<(Listener, SocketAddr), JoinError> {
+    /// Listens there, for so many clients at once.
+    pub(crate) fn bind(
+        address: SocketAddr,
+        clients: usize,
+    ) -> Result<(Listener, SocketAddr), JoinError> {
         let bound = TcpListener::bind(address).and_then(|it| Ok((it.local_addr()?, it)));
         let (at, socket) = bound.map_err(|error| JoinError::Address(address.to_string(), error))?;
-        let shared = Arc::new(Shared {
-            is_over: AtomicBool::new(false),
-            began: Instant::now(),
-            connections: Mutex::default(),
-        });
+        let shared = Arc::new(Shared::new(STRANGERS.max(clients / CLIENTS)));
         Ok((Listener { socket, shared }, at))
     }
 
@@ -182,7 +209,7 @@ impl Listener {
         // It waits for the next one.
         drop(TcpStream::connect_timeout(&address, GREETING));
         for (_, connection) in self.shared.connections().by_number.values() {
-            let _ = connection.stream.shutdown(Shutdown::Read);
+            let _ = connection.socket.shutdown(Shutdown::Read);
         }
     }
 }
@@ -197,14 +224,18 @@ fn accept<S: Service>(socket: &TcpListener, shared: &Arc<Shared>, fleet: &Arc<Fl
             std::thread::sleep(Duration::from_millis(10));
             continue;
         };
-        let Some(place) = shared.admit(stream, fleet.options.connections) else {
-            tracing::warn!("as many connections are served as may");
+        let connection = Arc::new(Connection {
+            socket: Arc::new(stream),
+            idle_since: AtomicU64::new(shared.now()),
+        });
+        let Some(stranger) = shared.strangers.take(connection.clone()) else {
+            tracing::warn!("as many who aren't known yet are waited for as may be");
             continue;
         };
-        let fleet = fleet.clone();
+        let (fleet, shared) = (fleet.clone(), shared.clone());
         let serve = move || {
-            // Whoever connects ends it, or sends what can't be read.
-            if let Err(error) = serve(&fleet, &place) {
+            // Whoever connects isn't of the fleet, ends it, or sends what can't be read.
+            if let Err(error) = serve(&fleet, &shared, &connection, stranger) {
                 tracing::debug!(%error, "a connection ends");
             }
         };
@@ -214,19 +245,32 @@ fn accept<S: Service>(socket: &TcpListener, shared: &Arc<Shared>, fleet: &Arc<Fl
     }
 }
 
+/// Has whoever connects show that it is of the fleet, and answers it until the connection ends.
+fn serve<S: Service>(
+    fleet: &FleetInner<S>,
+    shared: &Arc<Shared>,
+    connection: &Arc<Connection>,
+    stranger: PendingHandshake,
+) -> io::Result<()> {
+    let place = || shared.admit(connection, fleet.options.connections);
+    let (socket, introduction) = (connection.socket.clone(), fleet.connections.introduction());
+    let (stream, guest, place) = Stream::accept(socket, introduction, GREETING, place)?;
+    drop(stranger);
+    answer_all(fleet, &place, guest, stream)
+}
+
 /// Answers a connection until it ends.
-fn serve<S: Service>(fleet: &FleetInner<S>, place: &Place) -> io::Result<()> {
+fn answer_all<S: Service>(
+    fleet: &FleetInner<S>,
+    place: &Place,
+    guest: Guest,
+    stream: Stream,
+) -> io::Result<()> {
     let (connection, most) = (&place.connection, fleet.options.connections);
-    let stream = &connection.stream;
-    stream.set_nodelay(true)?;
-    stream.set_read_timeout(Some(GREETING))?;
-    stream.set_write_timeout(Some(WRITTEN))?;
-    let mut reader = BufReader::new(stream);
-    greet(fleet, &mut reader)?;
-    stream.set_read_timeout(None)?;
+    let mut stream = BufReader::new(stream);
     let (mut room, mut out, mut is_noted) = (Vec::new(), Vec::new(), false);
     loop {
-        frame::receive(&mut reader, &mut room)?;
+        frame::receive(&mut stream, &mut room)?;
         if !connection.begin_answer() {
             return Ok(());
         }
@@ -234,11 +278,14 @@ fn serve<S: Service>(fleet: &FleetInner<S>, place: &Place) -> io::Result<()> {
         let request = Request::read(&room);
         let request = request.map_err(|error| io::Error::new(io::ErrorKind::InvalidData, error))?;
         is_noted = is_noted || place.note_kind(Kind::of(&request), most);
-        match is_noted {
-            true => answer(fleet, stream, &request, &mut out),
-            false => Response::Again("as many clients are served as may be").write(&mut out),
+        if !is_noted {
+            Response::Again("as many clients are served as may be").write(&mut out);
+        } else if guest.may_ask(&request) {
+            answer(fleet, &connection.socket, &request, &mut out);
+        } else {
+            Response::Again(NOT_ITS).write(&mut out);
         }
-        (&*stream).write_all(&out)?;
+        stream.get_mut().write_all(&out)?;
         if !is_noted {
             return Ok(());
         }
@@ -250,7 +297,7 @@ fn serve<S: Service>(fleet: &FleetInner<S>, place: &Place) -> io::Result<()> {
 impl Kind {
     fn of(request: &Request<'_>) -> Kind {
         match request {
-            Request::Call(call) if call.hops == 0 => Kind::Client,
+            Request::Call(call) if call.hops == 0 && call.from == NO_SERVER => Kind::Client,
             Request::Command {
                 is_passed_on: false,
                 ..
@@ -266,27 +313,14 @@ impl Kind {
     }
 }
 
-/// Reads that the client is of this fleet, or doesn't know yet.
-fn greet<S: Service>(fleet: &FleetInner<S>, reader: &mut impl Read) -> io::Result<()> {
-    let (mut magic, mut settings) = ([0; 4], [0; 8]);
-    reader.read_exact(&mut magic)?;
-    reader.read_exact(&mut settings)?;
-    let settings = u64::from_be_bytes(settings);
-    let is_known = settings == 0 || settings == checksum(fleet.settings.as_bytes());
-    match magic == MAGIC && is_known {
-        true => Ok(()),
-        false => Err(io::ErrorKind::InvalidData.into()),
-    }
-}
-
 fn answer<S: Service>(
     fleet: &FleetInner<S>,
-    stream: &TcpStream,
+    client: &TcpStream,
     request: &Request<'_>,
     out: &mut Vec<u8>,
 ) {
     match request {
-        Request::Call(call) => fleet.call(call, stream, out),
+        Request::Call(call) => fleet.call(call, client, out),
         Request::Copy {
             shard,
             generation,
@@ -308,20 +342,18 @@ fn answer<S: Service>(
 mod tests {
     use super::*;
 
-    fn shared() -> Arc<Shared> {
-        Arc::new(Shared {
-            is_over: AtomicBool::new(false),
-            began: Instant::now(),
-            connections: Mutex::default(),
-        })
-    }
-
     #[test]
     fn the_client_that_is_idle_for_longest_makes_room_and_servers_have_places_of_their_own() {
         let socket = TcpListener::bind("127.0.0.1:0").unwrap();
         let at = socket.local_addr().unwrap();
-        let shared = shared();
-        let connect = || shared.admit(TcpStream::connect(at).unwrap(), 2);
+        let shared = Arc::new(Shared::new(2));
+        let connect = || {
+            let connection = Arc::new(Connection {
+                socket: Arc::new(TcpStream::connect(at).unwrap()),
+                idle_since: AtomicU64::new(0),
+            });
+            shared.admit(&connection, 2)
+        };
         let since = |place: &Place, it| place.connection.idle_since.store(it, Ordering::Release);
         let (first, second) = (connect().unwrap(), connect().unwrap());
         assert!(first.note_kind(Kind::Client, 2) && second.note_kind(Kind::Client, 2));

@@ -1,7 +1,9 @@
-use crate::{JoinError, Sharding};
-use clap::Parser;
+use crate::{JoinError, Safety, SafetyOptions, Sharding};
+use clap::{Args, Parser};
+use durkenzo_control::links::Secret;
 use durkenzo_store::{Access, Etcd, Store};
 use std::net::SocketAddr;
+use std::path::PathBuf;
 use std::sync::Arc;
 use std::time::Duration;
 
@@ -17,6 +19,10 @@ pub struct Options {
         default_value = "http://127.0.0.1:2379"
     )]
     pub etcd: Vec<String>,
+
+    /// Who this process is for etcd
+    #[command(flatten)]
+    pub etcd_access: EtcdOptions,
 
     /// The server that this process is, 1 to --servers
     #[arg(
@@ -67,9 +73,13 @@ pub struct Options {
     #[arg(long, env = "DURKENZO_ADVERTISE", value_name = "ADDRESS:PORT")]
     pub advertise: Option<String>,
 
-    /// Lets other machines connect, though frames are neither encrypted nor signed: for a private network
+    /// Lets other machines connect, though they need neither a secret nor TLS: for a private network
     #[arg(long, env = "DURKENZO_OPEN")]
     pub open: bool,
+
+    /// What others have to show
+    #[command(flatten)]
+    pub safety: SafetyOptions,
 
     /// How long after a process was heard of last it has failed
     #[arg(long, env = "DURKENZO_LEASE", value_name = "SECONDS", default_value_t = 3, value_parser = clap::value_parser!(u64).range(2..=600))]
@@ -139,6 +149,66 @@ pub struct Options {
     pub(crate) plant: Option<crate::plant::Plant>,
 }
 
+/// Who a process is for etcd, if etcd asks for that.
+#[derive(Args, Clone, Debug, Default)]
+pub struct EtcdOptions {
+    /// The user's name, if etcd asks for one [default: none]
+    #[arg(
+        long,
+        env = "DURKENZO_ETCD_USER",
+        value_name = "NAME",
+        requires = "etcd_password_file"
+    )]
+    pub etcd_user: Option<String>,
+
+    /// File whose first line is the user's password
+    #[arg(
+        long,
+        env = "DURKENZO_ETCD_PASSWORD_FILE",
+        value_name = "FILE",
+        requires = "etcd_user"
+    )]
+    pub etcd_password_file: Option<PathBuf>,
+
+    /// File in PEM with who vouches for etcd's members [default: the system's]
+    #[arg(long, env = "DURKENZO_ETCD_CA", value_name = "FILE")]
+    pub etcd_ca: Option<PathBuf>,
+
+    /// File in PEM with this process's certificate, if etcd asks for one [default: none]
+    #[arg(
+        long,
+        env = "DURKENZO_ETCD_CERT",
+        value_name = "FILE",
+        requires = "etcd_key"
+    )]
+    pub etcd_cert: Option<PathBuf>,
+
+    /// File in PEM with its key
+    #[arg(
+        long,
+        env = "DURKENZO_ETCD_KEY",
+        value_name = "FILE",
+        requires = "etcd_cert"
+    )]
+    pub etcd_key: Option<PathBuf>,
+}
+
+impl EtcdOptions {
+    /// Returns how these members of etcd are reached.
+    fn access(&self, members: &[String]) -> Result<Access, JoinError> {
+        // No variable of the environment has a password of etcd.
+        let file = self.etcd_password_file.as_deref();
+        let password = file.map(|it| Secret::given(Some(it), "")).transpose()?;
+        let text = |it: Secret| String::from_utf8_lossy(it.reveal()).into_owned();
+        Ok(Access {
+            user: self.etcd_user.clone().zip(password.flatten().map(text)),
+            roots: self.etcd_ca.clone(),
+            identity: self.etcd_cert.clone().zip(self.etcd_key.clone()),
+            ..Access::new(members)
+        })
+    }
+}
+
 impl Options {
     /// Reads the flags of this program, and the environment. Prints the help, or what is wrong, and ends the program if
     /// that is asked for.
@@ -150,9 +220,22 @@ impl Options {
     ///
     /// # Errors
     ///
-    /// An address can't be read, or the system gives no thread.
+    /// An address or a file can't be read, or the system gives no thread.
     pub fn store(&self) -> Result<Arc<dyn Store>, JoinError> {
-        Ok(Arc::new(Etcd::new(Access::new(self.etcd.iter()))?))
+        let access = self.etcd_access.access(&self.etcd)?;
+        Ok(Arc::new(Etcd::new(access)?))
+    }
+
+    /// Returns what others have to show, if this process may listen so.
+    pub(crate) fn guarded(&self) -> Result<Safety, JoinError> {
+        let safety = Safety::of(&self.safety)?;
+        if !self.listen.ip().is_loopback() && !self.open && !safety.is_guarded() {
+            return Err(JoinError::Open(self.listen));
+        }
+        match &safety.tls {
+            Some(tls) if !tls.is_process() => Err(JoinError::NoProcess),
+            _ => Ok(safety),
+        }
     }
 
     /// Returns how keys go to shards, if all options are within their bounds.

@@ -1,8 +1,9 @@
 use crate::connections::{Connections, NotAnswered};
 use crate::frame::{spelled, CallFrame, Request, Response, MOST};
+use crate::introduction::Introduction;
 use crate::retry::end_of;
-use crate::{commands, CallError, JoinError, Retry, Sharding};
-use durkenzo_control::links::checksum;
+use crate::{commands, CallError, JoinError, Retry, Safety, Sharding};
+use durkenzo_control::links::{checksum, UNKNOWN_SETTINGS};
 use durkenzo_driver::{keys, RouteMap};
 use durkenzo_store::Store;
 use std::collections::BTreeMap;
@@ -59,32 +60,50 @@ pub struct Answer {
 }
 
 impl Router {
-    /// Watches the map of the fleet in this store.
+    /// Watches the map of the fleet in this store, whose servers ask for nothing to be shown.
     ///
     /// # Errors
     ///
     /// The store has no fleet, or isn't read.
     pub fn watch(store: &dyn Store) -> Result<Router, JoinError> {
+        Router::watch_with(store, Safety::default())
+    }
+
+    /// Watches the map of the fleet in this store, to whose servers this is shown. Servers are met by the calls.
+    ///
+    /// # Errors
+    ///
+    /// The store has no fleet, or isn't read.
+    pub fn watch_with(store: &dyn Store, safety: Safety) -> Result<Router, JoinError> {
         let found = store.read(&[keys::SETTINGS])?;
         let settings = found.get(keys::SETTINGS).map_or(&[][..], |it| &it.value);
         let settings = String::from_utf8_lossy(settings);
         let map = RouteMap::watch(store)?;
-        Router::new(&settings, Source::Store(map))
+        Router::new(&settings, Source::Store(map), &safety)
     }
 
-    /// Asks any server of the fleet for the map, as `127.0.0.1:7380` or `http://127.0.0.1:7380`.
+    /// Asks any server of the fleet for the map, as `127.0.0.1:7380` or `http://127.0.0.1:7380`, if its servers ask for
+    /// nothing to be shown.
     ///
     /// # Errors
     ///
-    /// The server isn't reached.
+    /// [`JoinError::NotMet`] if the server isn't reached, or refuses.
     pub fn of(url: &str) -> Result<Router, JoinError> {
+        Router::of_with(url, Safety::default())
+    }
+
+    /// Asks any server of the fleet for the map, as [`Router::of`] does, and shows this to its servers.
+    ///
+    /// # Errors
+    ///
+    /// [`JoinError::NotMet`] if the server isn't reached, has another secret, or a certificate isn't taken.
+    pub fn of_with(url: &str, safety: Safety) -> Result<Router, JoinError> {
         let address = url
             .strip_prefix("http://")
             .unwrap_or(url)
             .trim_end_matches('/');
-        let text = map_of(&Connections::new(0), address, MAP);
-        let text =
-            text.map_err(|error| JoinError::Address(address.to_owned(), io::Error::other(error)))?;
+        let introduction = Introduction::of_client(&safety, UNKNOWN_SETTINGS);
+        let text = map_of(&Connections::new(introduction), address, MAP)?;
         let mut told = Told {
             addresses: vec![address.to_owned()],
             routes: BTreeMap::new(),
@@ -95,15 +114,16 @@ impl Router {
             .match_indices('\n')
             .nth(1)
             .map_or(text.len(), |it| it.0);
-        Router::new(&text[..end], Source::Servers(Mutex::new(told)))
+        Router::new(&text[..end], Source::Servers(Mutex::new(told)), &safety)
     }
 
-    fn new(settings: &str, source: Source) -> Result<Router, JoinError> {
+    fn new(settings: &str, source: Source, safety: &Safety) -> Result<Router, JoinError> {
         let sharding = Sharding::written(settings)
             .ok_or_else(|| JoinError::Options("there is no fleet".to_owned()))?;
+        let introduction = Introduction::of_client(safety, checksum(settings.as_bytes()));
         Ok(Router {
             sharding: sharding?,
-            connections: Connections::new(checksum(settings.as_bytes())),
+            connections: Connections::new(introduction),
             source,
         })
     }
@@ -271,13 +291,19 @@ fn answer_of(bytes: &[u8]) -> Result<Answer, CallError> {
 }
 
 /// The map that the server there tells, within this time.
-fn map_of(connections: &Connections, address: &str, within: Duration) -> Result<String, String> {
-    let bytes = connections
-        .ask(address, &Request::Routes, within)
-        .map_err(|it| it.to_string())?;
+fn map_of(connections: &Connections, address: &str, within: Duration) -> Result<String, JoinError> {
+    let not_told = |error| JoinError::Address(address.to_owned(), error);
+    let bytes = connections.ask(address, &Request::Routes, within);
+    let bytes = bytes.map_err(|error| match error {
+        NotAnswered::Unreached(address, why) => JoinError::NotMet(address, why),
+        NotAnswered::Lost(_, error) => not_told(error),
+    })?;
     match Response::read(&bytes) {
         Ok(Response::Text(text)) => Ok(String::from_utf8_lossy(text).into_owned()),
-        _ => Err("the server answers something else".to_owned()),
+        Ok(Response::Again(why)) => Err(not_told(io::Error::other(why.to_owned()))),
+        _ => Err(not_told(io::Error::other(
+            "the server answers something else",
+        ))),
     }
 }
 

@@ -2,12 +2,13 @@
 //! count that is lost or made twice is found, and so is each wrong rule that is planted.
 use crate::connections::Connections;
 use crate::frame::{CallFrame, HandFrame, Request, Response};
+use crate::introduction::Introduction;
 use crate::plant::Plant;
 use crate::{
     Call, CallError, Came, Changes, Enter, Fault, Fleet, Mode, Options, Refused, Retry, Router,
-    Service, Shard,
+    Safety, Service, Shard,
 };
-use durkenzo_control::links::checksum;
+use durkenzo_control::links::{checksum, NO_SERVER};
 use durkenzo_store::{
     CompactError, Done, Embedded, LeaseError, LeaseId, ReadError, Reading, Seen, Store,
     Transaction, Watch, Watcher, WriteError,
@@ -575,11 +576,18 @@ fn a_process_says_where_calls_go_and_gives_permits_of_its_own_shards() {
     trial.end();
 }
 
+/// Connections of the process of this server, or of a client, to the fleet.
+fn connections(fleet: &Fleet<Counter>, server: u16) -> Connections {
+    let settings = checksum(fleet.inner.settings.as_bytes());
+    let introduction = Introduction::of_process(&Safety::default(), settings, (server, 1));
+    Connections::new(introduction)
+}
+
 #[test]
 fn what_another_process_hands_over_is_refused() {
     let trial = Trial::new(30, false, None);
     let fleet = &trial.fleets[0];
-    let connections = Connections::new(checksum(fleet.inner.settings.as_bytes()));
+    let connections = connections(fleet, 3);
     let hand = HandOver {
         joined: 1,
         generation: 1,
@@ -598,7 +606,7 @@ fn what_another_process_hands_over_is_refused() {
     let response = response.unwrap();
     assert!(matches!(Response::read(&response), Ok(Response::Again(_))));
     // A client of another fleet isn't answered.
-    let other = Connections::new(7);
+    let other = Connections::new(Introduction::of_client(&Safety::default(), 7));
     let refused = other.ask(&fleet.address().to_string(), &Request::Routes, SOON);
     assert!(refused.is_err());
     trial.end();
@@ -710,8 +718,7 @@ fn calls_by_records_that_are_never_read_stop_nobody() {
     let key = key_of(&router, 0);
     count(&router, &key);
     let owner = &trial.fleets[usize::from(trial.owner(0).unwrap()) - 1];
-    let (at, settings) = (owner.address().to_string(), &owner.inner.settings);
-    let connections = Connections::new(checksum(settings.as_bytes()));
+    let (at, connections) = (owner.address().to_string(), connections(owner, NO_SERVER));
     let call = CallFrame {
         shard: 0,
         from: 0,

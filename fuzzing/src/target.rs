@@ -28,7 +28,7 @@ pub trait Target {
 type Make = fn(&Path) -> Box<dyn Target>;
 
 /// Each target, by its name.
-pub const TARGETS: [(&str, Make); 11] = [
+pub const TARGETS: [(&str, Make); 12] = [
     ("resp", |_| Box::<targets::Resp>::default()),
     ("pattern", |_| Box::new(targets::ScanPatterns)),
     ("dump", |room| Box::new(targets::DumpBytes::new(room))),
@@ -37,6 +37,7 @@ pub const TARGETS: [(&str, Make); 11] = [
     ("records", |_| Box::new(targets::StoreValues)),
     ("log", |_| Box::new(targets::Log)),
     ("etcd", |_| Box::new(targets::EtcdAnswers)),
+    ("fleet", |_| Box::new(targets::FleetFrames)),
     ("frames", |_| Box::new(targets::Frames::new())),
     ("greetings", |_| Box::new(targets::Greetings)),
     ("sqlite", |room| Box::new(targets::SqliteFile::new(room))),

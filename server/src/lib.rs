@@ -36,7 +36,6 @@ pub mod presence;
 pub mod resp;
 pub mod run;
 pub mod safety;
-pub mod secret;
 pub mod settings;
 pub mod snapshot;
 pub mod stats;

@@ -1,8 +1,7 @@
 //! Who may reach the server, and what they may do.
 use crate::run::BoxError;
-use crate::secret;
 use clap::Args;
-use durkenzo_control::links::{Secret, MAX_SECRET};
+use durkenzo_control::links::Secret;
 use durkenzo_control::tls::{ClientsTls, PeersTls};
 use std::net::SocketAddr;
 use std::path::PathBuf;
@@ -87,7 +86,8 @@ impl Safety {
     ///
     /// Where a file can't be read or hasn't what it should have, each by its name.
     pub fn of(options: &SafetyOptions) -> Result<Safety, BoxError> {
-        let secret = |file: &Option<PathBuf>, variable| secret::given(file.as_deref(), variable);
+        let secret = |file: &Option<PathBuf>, variable| Secret::given(file.as_deref(), variable);
+        let peer_file = options.peer_secret_file.as_deref();
         let tls = match (&options.tls_cert, &options.tls_key) {
             (Some(chain), Some(key)) => {
                 Some(ClientsTls::new(chain, key, options.tls_ca.as_deref())?)
@@ -106,7 +106,7 @@ impl Safety {
             login_time: Duration::from_millis(options.login_time),
             tls,
             peer_tls,
-            peer_secret: peer_secret(options)?,
+            peer_secret: Secret::given_for_greetings(peer_file, "DURKENZO_PEER_SECRET")?,
         })
     }
 
@@ -159,22 +159,6 @@ impl Safety {
     pub fn is_guarded(&self) -> bool {
         self.password.is_some() || self.tls.is_some()
     }
-}
-
-/// The secret of processes, which a greeting has room for.
-fn peer_secret(options: &SafetyOptions) -> Result<Option<Secret>, BoxError> {
-    let (file, variable) = (options.peer_secret_file.as_deref(), "DURKENZO_PEER_SECRET");
-    let secret = secret::given(file, variable)?;
-    if secret
-        .as_ref()
-        .is_some_and(|it| it.reveal().len() > MAX_SECRET)
-    {
-        let source = file.map_or(variable.into(), |it| it.display().to_string());
-        return Err(
-            format!("{source}: a secret of processes has at most {MAX_SECRET} bytes").into(),
-        );
-    }
-    Ok(secret)
 }
 
 impl Default for Safety {

@@ -35,6 +35,15 @@ impl<'a> Fields<'a> {
         self.array().map(u8::from_be_bytes)
     }
 
+    /// The next byte, which says yes or no by 1 or 0. Another one is [`WireFault::Flag`].
+    pub fn flag(&mut self) -> Result<bool, WireFault> {
+        match self.byte()? {
+            0 => Ok(false),
+            1 => Ok(true),
+            other => Err(WireFault::Flag(other)),
+        }
+    }
+
     /// The next number of two bytes.
     pub fn short(&mut self) -> Result<u16, WireFault> {
         self.array().map(u16::from_be_bytes)

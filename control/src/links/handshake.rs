@@ -1,6 +1,6 @@
 //! How two processes make themselves known to each other, as bytes that come and go.
 use super::greeting::VERSION;
-use super::{Greeting, Identity, Secret, Terms, WireFault};
+use super::{Admission, Greeting, Identity, Secret, Terms, WireFault, OTHER_SECRET};
 use std::io;
 
 /// No greeting is longer.
@@ -12,6 +12,7 @@ pub(super) struct Greeter {
     own: Identity,
     /// The server that the other process is to run.
     server: u16,
+    admits: Admission,
     version: u8,
     input: GreetingInput,
 }
@@ -25,6 +26,7 @@ impl Greeter {
         let greeter = Greeter {
             own: terms.identity,
             server,
+            admits: terms.admits,
             version,
             input: GreetingInput::default(),
         };
@@ -49,7 +51,9 @@ impl Greeter {
             Greeting::Refusal(why) => return Err(io::Error::other(why)),
             Greeting::Hello(..) => return Err(io::Error::other("it doesn't answer a greeting")),
         };
-        match told_apart(self.own, identity).or_else(|| not_wanted(identity, self.server)) {
+        let admits = self.admits;
+        let apart = admits.told_apart(self.own, identity);
+        match apart.or_else(|| admits.not_wanted(identity, self.server)) {
             None => Ok(Some(identity)),
             Some(why) => Err(io::Error::other(why)),
         }
@@ -124,10 +128,11 @@ impl Welcomer {
         };
         let known = terms.secret.as_ref();
         if !known.map_or(secret.is_empty(), |it| it.is(&secret)) {
-            return Err(RejectedPeer::why("its secret is another one"));
+            return Err(RejectedPeer::why(OTHER_SECRET));
         }
-        let own = terms.identity;
-        match told_apart(own, identity).or_else(|| not_wanted(own, wanted)) {
+        let (own, admits) = (terms.identity, terms.admits);
+        let apart = admits.told_apart(own, identity);
+        match apart.or_else(|| admits.not_wanted(own, wanted)) {
             None => Ok(Some(identity)),
             Some(why) => Err(RejectedPeer::why(why)),
         }
@@ -159,15 +164,6 @@ impl From<io::Error> for RejectedPeer {
         let why = is_version.then(|| error.to_string());
         RejectedPeer { why, error }
     }
-}
-
-fn told_apart(own: Identity, other: Identity) -> Option<String> {
-    (own.settings != other.settings).then(|| "its settings are other ones".to_owned())
-}
-
-fn not_wanted(found: Identity, wanted: u16) -> Option<String> {
-    let server = found.server;
-    (server != wanted).then(|| format!("it is server {server}, not {wanted}"))
 }
 
 fn written(greeting: &Greeting, version: u8) -> Vec<u8> {

@@ -3,7 +3,7 @@ use super::forwarded_batch::ForwardedBatch;
 use super::link::{Link, NotSent};
 use super::link_counts::LinkCounts;
 use super::outbound_message::OutboundMessage;
-use super::pending_handshakes::PendingHandshakes;
+use super::pending_handshakes::{PendingHandshakes, MOST as MOST_PENDING};
 use super::{Destination, Host, ReturnedRequests, Terms};
 use durkenzo_driver::{Clock, Member};
 use std::collections::BTreeMap;
@@ -58,7 +58,7 @@ impl<H: Host> LinksInner<H> {
             returned: Mutex::default(),
             serving: AtomicUsize::new(0),
             peers: ConnectedPeers::default(),
-            handshakes: Arc::default(),
+            handshakes: Arc::new(PendingHandshakes::new(MOST_PENDING)),
             stops: AtomicBool::new(false),
         }
     }

@@ -19,6 +19,7 @@
 //! hello.write(2, &mut bytes);
 //! assert_eq!(Greeting::read(&bytes), Ok(Some((hello, 2, bytes.len()))));
 //! ```
+mod admission;
 #[cfg(test)]
 mod chance;
 mod closer;
@@ -53,6 +54,7 @@ mod request_batch;
 mod request_outcome;
 mod returned_requests;
 mod secret;
+mod secret_fault;
 mod sent_frames;
 #[allow(clippy::disallowed_methods)]
 mod sockets;
@@ -62,6 +64,7 @@ mod trial;
 mod wire_fault;
 mod write_buffer;
 
+pub use admission::{Admission, NO_SERVER, OTHER_SECRET, OTHER_SETTINGS, UNKNOWN_SETTINGS};
 pub use closer::Closer;
 pub use connection::{Connection, Dial};
 pub use destination::Destination;
@@ -69,12 +72,13 @@ pub use fields::{put_text, Fields};
 pub use forwarded_command::ForwardedCommand;
 pub use forwarded_request::{ForwardedMessage, ForwardedRequest};
 pub use frame::{Frame, MAX_FRAME, MAX_REQUEST, MAX_REQUESTS};
-pub use greeting::{Greeting, MAX_SECRET};
+pub use greeting::{Greeting, MAX_SECRET, VERSION};
 pub use host::Host;
 pub use identity::{checksum, Identity, FIRST_TABLE};
 pub use keep_alive::{KeepAlive, KEEP_ALIVE};
 pub use link_counts::LinkCounts;
 pub use peer_session::PeerSession;
+pub use pending_handshakes::{PendingHandshake, PendingHandshakes};
 pub use reason::{Reason, MAX_REASON};
 pub use received_requests::ReceivedRequests;
 pub use reply_sender::ReplySender;
@@ -82,7 +86,9 @@ pub use request_batch::RequestBatch;
 pub use request_outcome::RequestOutcome;
 pub use returned_requests::ReturnedRequests;
 pub use secret::Secret;
+pub use secret_fault::SecretFault;
 pub use sent_frames::SentFrames;
+pub use sockets::Meeting;
 pub use terms::Terms;
 pub use wire_fault::WireFault;
 

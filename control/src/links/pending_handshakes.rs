@@ -1,15 +1,18 @@
 use super::links_inner::locked;
 use super::Closer;
 use std::collections::VecDeque;
+use std::fmt;
 use std::sync::{Arc, Mutex};
 
-/// How many of them are waited for.
-const MOST: usize = 64;
+/// How many processes are waited for.
+pub(super) const MOST: usize = 64;
 
-/// Whoever connected, and hasn't shown yet that it is a process of the cluster. They have places of their own, and each
-/// that comes too many ends the one that has taken longest: so nobody keeps processes apart by saying nothing.
-#[derive(Default)]
-pub(super) struct PendingHandshakes(Mutex<HandshakesState>);
+/// Whoever connected, and hasn't shown yet that it is of the cluster. They have places of their own, and each that comes
+/// too many ends the one that has taken longest: so nobody keeps processes apart by saying nothing.
+pub struct PendingHandshakes {
+    most: usize,
+    state: Mutex<HandshakesState>,
+}
 
 #[derive(Default)]
 struct HandshakesState {
@@ -20,22 +23,25 @@ struct HandshakesState {
 }
 
 /// One of them, until it is dropped.
-pub(super) struct PendingHandshake {
+pub struct PendingHandshake {
     handshakes: Arc<PendingHandshakes>,
     number: u64,
 }
 
 impl PendingHandshakes {
-    /// Takes one more, whose connection this ends; none where those that were ended don't go.
-    pub(super) fn take(
-        self: &Arc<PendingHandshakes>,
-        end: Arc<dyn Closer>,
-    ) -> Option<PendingHandshake> {
-        let mut state = locked(&self.0);
-        if state.count >= 2 * MOST {
+    /// Waits for so many at once.
+    pub fn new(most: usize) -> PendingHandshakes {
+        let state = Mutex::default();
+        PendingHandshakes { most, state }
+    }
+
+    /// Takes one more, whose connection this ends; none if as many that were ended haven't gone yet.
+    pub fn take(self: &Arc<PendingHandshakes>, end: Arc<dyn Closer>) -> Option<PendingHandshake> {
+        let mut state = locked(&self.state);
+        if state.count >= 2 * self.most {
             return None;
         }
-        if state.waiting.len() >= MOST {
+        if state.waiting.len() >= self.most {
             let first = state.waiting.pop_front();
             first.iter().for_each(|it| it.1.end());
         }
@@ -52,9 +58,25 @@ impl PendingHandshakes {
 
 impl Drop for PendingHandshake {
     fn drop(&mut self) {
-        let mut state = locked(&self.handshakes.0);
+        let mut state = locked(&self.handshakes.state);
         state.count -= 1;
         state.waiting.retain(|it| it.0 != self.number);
+    }
+}
+
+impl fmt::Debug for PendingHandshakes {
+    fn fmt(&self, f: &mut fmt::Formatter<'_>) -> fmt::Result {
+        f.debug_struct("PendingHandshakes")
+            .field("most", &self.most)
+            .finish_non_exhaustive()
+    }
+}
+
+impl fmt::Debug for PendingHandshake {
+    fn fmt(&self, f: &mut fmt::Formatter<'_>) -> fmt::Result {
+        f.debug_struct("PendingHandshake")
+            .field("number", &self.number)
+            .finish_non_exhaustive()
     }
 }
 
@@ -65,7 +87,7 @@ mod tests {
 
     #[test]
     fn who_comes_takes_the_place_of_who_has_taken_longest() {
-        let handshakes = Arc::new(PendingHandshakes::default());
+        let handshakes = Arc::new(PendingHandshakes::new(MOST));
         let come = || {
             let closer = Arc::new(TestCloser::default());
             (handshakes.take(closer.clone()), closer)

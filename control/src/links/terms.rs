@@ -1,4 +1,4 @@
-use super::{Identity, Secret};
+use super::{Admission, Identity, Secret};
 use crate::tls::PeersTls;
 use std::fmt;
 
@@ -11,6 +11,8 @@ pub struct Terms {
     pub secret: Option<Secret>,
     /// How they speak TLS, if they do.
     pub tls: Option<PeersTls>,
+    /// Who else may connect.
+    pub admits: Admission,
 }
 
 impl fmt::Debug for Terms {

@@ -42,6 +42,7 @@ pub(super) fn terms(secret: &str) -> Terms {
         },
         secret: Secret::of(secret.as_bytes()),
         tls: None,
+        admits: Admission::Processes,
     }
 }
 

@@ -21,6 +21,8 @@ pub enum WireFault {
     Kind(u8),
     /// There is no such kind of answer.
     Answer(u8),
+    /// A byte says neither yes nor no.
+    Flag(u8),
     /// A text isn't UTF-8.
     Text,
     /// The words of a command can't be read.
@@ -38,6 +40,7 @@ impl fmt::Display for WireFault {
             WireFault::TooMuch => f.write_str("a frame is longer than what it holds"),
             WireFault::Kind(kind) => write!(f, "there is no frame of kind {kind}"),
             WireFault::Answer(kind) => write!(f, "there is no answer of kind {kind}"),
+            WireFault::Flag(byte) => write!(f, "{byte} is neither 0 nor 1"),
             WireFault::Text => f.write_str("a text isn't UTF-8"),
             WireFault::Words => f.write_str("the words of a command can't be read"),
         }

@@ -1,9 +1,9 @@
 use super::handshake::shake;
 use super::pem::{certificates, not_taken, TlsIdentity};
 use super::shared_connection::SharedConnection;
-use super::{context, ReadHalf, TlsConnection, TlsFault, WriteHalf};
+use super::{context, Caller, ReadHalf, TlsConnection, TlsFault, WriteHalf};
 use openssl::error::ErrorStack;
-use openssl::ssl::{SslContext, SslMethod};
+use openssl::ssl::{SslContext, SslContextBuilder, SslMethod};
 use openssl::x509::verify::X509CheckFlags;
 use openssl::x509::{X509Ref, X509};
 use std::fmt;
@@ -39,7 +39,10 @@ impl PeersTls {
             return Err(TlsFault::NotTaken(chain.to_owned(), why));
         }
         let trusted = certificates(authority)?;
-        let side = |method| side(method, &identity, &trusted).map_err(not_taken(key));
+        let side = |method| {
+            let side = side(method, &identity, &trusted).and_then(named);
+            side.map(SslContextBuilder::build).map_err(not_taken(key))
+        };
         Ok(PeersTls {
             as_client: side(SslMethod::tls_client())?,
             as_server: side(SslMethod::tls_server())?,
@@ -58,7 +61,7 @@ impl PeersTls {
         within: Duration,
     ) -> io::Result<(ReadHalf, WriteHalf)> {
         let connection = TlsConnection::connecting(&self.as_client, PEER_NAME);
-        met(connection.map_err(io::Error::other)?, socket, within)
+        peer(connection.map_err(io::Error::other)?, socket, within)
     }
 
     /// Meets a peer that was accepted; else as [`connect`](PeersTls::connect).
@@ -68,51 +71,76 @@ impl PeersTls {
     /// The same.
     pub fn accept(&self, socket: TcpStream, within: Duration) -> io::Result<(ReadHalf, WriteHalf)> {
         let connection = TlsConnection::accepting(&self.as_server);
-        met(connection.map_err(io::Error::other)?, socket, within)
+        peer(connection.map_err(io::Error::other)?, socket, within)
     }
 }
 
-/// The settings of one side. The other side must have the name of peers.
-fn side(
+/// The settings of one side. The other side must show a certificate of who is trusted.
+pub(super) fn side(
     method: SslMethod,
     identity: &TlsIdentity,
     trusted: &[X509],
-) -> Result<SslContext, ErrorStack> {
+) -> Result<SslContextBuilder, ErrorStack> {
     let mut builder = context::builder(method, identity)?;
     context::ask(&mut builder, trusted)?;
+    Ok(builder)
+}
+
+/// Has the other side's certificate have the name of peers.
+pub(super) fn named(mut builder: SslContextBuilder) -> Result<SslContextBuilder, ErrorStack> {
     let asked = builder.verify_param_mut();
     asked.set_hostflags(X509CheckFlags::NO_WILDCARDS | X509CheckFlags::NEVER_CHECK_SUBJECT);
     asked.set_host(PEER_NAME)?;
-    Ok(builder.build())
+    Ok(builder)
 }
 
 /// Whether the certificate has the name of peers.
-fn is_peer(certificate: &X509Ref) -> bool {
+pub(super) fn is_peer(certificate: &X509Ref) -> bool {
     let names = certificate.subject_alt_names();
     let mut names = names.iter().flatten().filter_map(|it| it.dnsname());
     names.any(|it| it.eq_ignore_ascii_case(PEER_NAME))
 }
 
-fn met(
+type Halves = (ReadHalf, WriteHalf);
+
+/// Meets a peer.
+fn peer(connection: TlsConnection, socket: TcpStream, within: Duration) -> io::Result<Halves> {
+    let (caller, halves) = met(connection, socket, within)?;
+    // OpenSSL has checked the name already. We check it again because only the name tells a peer from a client.
+    caller.as_process().map(|()| halves)
+}
+
+/// Meets the other side, which shows a certificate. Returns who it is by that.
+pub(super) fn met(
     mut connection: TlsConnection,
     socket: TcpStream,
     within: Duration,
-) -> io::Result<(ReadHalf, WriteHalf)> {
+) -> io::Result<(Caller, Halves)> {
     socket.set_nodelay(true)?;
     shake(&mut connection, &socket, within)?;
-    // OpenSSL has checked the name already. We check it again because only the name tells a peer from a client.
-    if !connection.shown().is_some_and(|it| is_peer(&it)) {
-        let why = format!("the other side's certificate hasn't the name {PEER_NAME}");
-        return Err(io::Error::new(ErrorKind::InvalidData, why));
-    }
+    let caller = match connection.shown().is_some_and(|it| is_peer(&it)) {
+        true => Caller::Process,
+        false => Caller::Client,
+    };
     let (other, shared) = (
         socket.try_clone()?,
         Arc::new(SharedConnection::new(connection)),
     );
-    Ok((
-        ReadHalf::new(other, shared.clone()),
-        WriteHalf::new(socket, shared),
-    ))
+    let reader = ReadHalf::new(other, shared.clone());
+    Ok((caller, (reader, WriteHalf::new(socket, shared))))
+}
+
+impl Caller {
+    /// Says that it isn't a process, if it isn't.
+    pub(super) fn as_process(self) -> io::Result<()> {
+        match self {
+            Caller::Process => Ok(()),
+            Caller::Client => {
+                let why = format!("the other side's certificate hasn't the name {PEER_NAME}");
+                Err(io::Error::new(ErrorKind::InvalidData, why))
+            }
+        }
+    }
 }
 
 impl fmt::Debug for PeersTls {

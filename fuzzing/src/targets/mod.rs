@@ -1,6 +1,7 @@
 //! The parsers.
 mod dump;
 mod etcd;
+mod fleet;
 mod frames;
 mod greetings;
 mod log;
@@ -14,6 +15,7 @@ mod sqlite;
 
 pub use dump::DumpBytes;
 pub use etcd::EtcdAnswers;
+pub use fleet::FleetFrames;
 pub use frames::Frames;
 pub use greetings::Greetings;
 pub use log::Log;

@@ -10,7 +10,7 @@ use crate::storage::{InFolder, OnEtcd, Storage};
 use crate::works::Peers;
 use durkenzo::Stand;
 use durkenzo_control::control::{FIRST_WAIT, TURN};
-use durkenzo_control::links::{Identity, Terms};
+use durkenzo_control::links::{Admission, Identity, Terms};
 use durkenzo_driver::{keys, Acks, Addresses, Durable, DurableControl, Member, Own};
 use durkenzo_store::{
     CompactError, Done, Embedded, LeaseError, LeaseId, ReadError, Reading, Store, Sync as SyncTime,
@@ -224,6 +224,7 @@ impl Process {
             },
             secret: None,
             tls: None,
+            admits: Admission::Processes,
         };
         let peers = Arc::new(Peers::new(terms, member.clone(), configuration.wait));
         let elsewhere = peers.hand_over();

@@ -8,7 +8,7 @@ use crate::safety::Safety;
 use crate::settings;
 use crate::storage::OnEtcd;
 use crate::works::Peers;
-use durkenzo_control::links::{checksum, Identity, Terms};
+use durkenzo_control::links::{checksum, Admission, Identity, Terms};
 use durkenzo_driver::{Acks, Durable, Member, Own};
 use durkenzo_store::{Etcd, Store, WriteError};
 use std::net::{SocketAddr, TcpListener};
@@ -130,5 +130,6 @@ fn terms(member: &Member, settings: u64, safety: &Safety) -> Terms {
         },
         secret: safety.peer_secret.clone(),
         tls: safety.peer_tls.clone(),
+        admits: Admission::Processes,
     }
 }

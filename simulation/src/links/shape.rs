@@ -4,7 +4,7 @@ use crate::bug::Bug;
 use crate::ledger::SharedLedger;
 use crate::mail::Sender;
 use crate::time::Time;
-use durkenzo_control::links::{Identity, Links, Secret, Terms, FIRST_TABLE};
+use durkenzo_control::links::{Admission, Identity, Links, Secret, Terms, FIRST_TABLE};
 use durkenzo_driver::{Clock, Durable, HandOver, Member};
 use std::sync::Arc;
 use std::time::Duration;
@@ -37,6 +37,7 @@ impl LinkShape {
             identity,
             secret: Secret::of(SECRET),
             tls: None,
+            admits: Admission::Processes,
         };
         let time = time.clone();
         let clock = Clock::new(move || time.now());

@@ -1,16 +1,13 @@
 //! How a process reaches another one, and is reached: the only two places that make connections between them.
-use super::super::handshake::{Greeter, Heard, Welcomer};
 use super::super::{Closer, Identity, Terms, PATIENCE};
 use super::keep_alive::keep_alive;
+use super::meeting::Meeting;
 use super::socket_closer::SocketCloser;
 use crate::tls::{PeersTls, ReadHalf, WriteHalf};
-use std::io::{self, ErrorKind, Read, Write};
+use std::io::{self, Read, Write};
 use std::net::{TcpStream, ToSocketAddrs};
 use std::sync::Arc;
 use std::time::{Duration, Instant};
-
-/// How much of a greeting is read at once.
-const ROOM: usize = 512;
 
 /// A connection to another process, in its two directions, of which each has a thread.
 pub(super) struct Channel {
@@ -76,16 +73,7 @@ impl Channel {
         server: u16,
         version: u8,
     ) -> io::Result<Identity> {
-        let (mut greeter, hello) = Greeter::new(terms, server, version);
-        self.say(&hello)?;
-        let mut room = [0; ROOM];
-        loop {
-            let count = self.hear(&mut room)?;
-            if let Some(identity) = greeter.receive(&room[..count])? {
-                self.closer.set_patience(None)?;
-                return Ok(identity);
-            }
-        }
+        self.meeting().greet(terms, server, version)
     }
 
     /// Welcomes the process that connected, if there is a place for it, or says why not. Returns who it is, and that.
@@ -94,49 +82,12 @@ impl Channel {
         terms: &Terms,
         place: impl Fn() -> Option<T>,
     ) -> io::Result<(Identity, T)> {
-        let (mut welcomer, mut room) = (Welcomer::default(), [0; ROOM]);
-        loop {
-            let count = self.hear(&mut room)?;
-            match welcomer.receive(&room[..count], terms, &place) {
-                Heard::Nobody => {}
-                Heard::Welcome(identity, place, welcome) => {
-                    self.say(&welcome)?;
-                    self.closer.set_patience(None)?;
-                    return Ok((identity, place));
-                }
-                Heard::Rejected(told, error) => {
-                    told.map_or(Ok(()), |it| self.say(&it))?;
-                    return Err(error);
-                }
-            }
-        }
+        self.meeting().welcome(terms, place)
     }
 
-    fn say(&mut self, greeting: &[u8]) -> io::Result<()> {
-        self.writer.write_all(greeting)?;
-        self.writer.flush()
-    }
-
-    /// Waits for bytes of a greeting, which is there in time. Returns how many came.
-    fn hear(&mut self, room: &mut [u8]) -> io::Result<usize> {
-        loop {
-            self.hurry()?;
-            match self.reader.read(room) {
-                // The process was stopped, and goes on.
-                Err(error) if error.kind() == ErrorKind::Interrupted => {}
-                Ok(0) => return Err(ErrorKind::UnexpectedEof.into()),
-                found => return found,
-            }
-        }
-    }
-
-    /// Has the next read end by the deadline.
-    fn hurry(&self) -> io::Result<()> {
-        let left = self.deadline.saturating_duration_since(Instant::now());
-        match left.is_zero() {
-            true => Err(ErrorKind::TimedOut.into()),
-            false => self.closer.set_patience(Some(left)),
-        }
+    fn meeting(&mut self) -> Meeting<'_> {
+        let halves: (&mut dyn Read, &mut dyn Write) = (&mut self.reader, &mut self.writer);
+        Meeting::new(halves, self.closer.socket(), self.deadline)
     }
 }
 

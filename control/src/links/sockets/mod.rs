@@ -4,9 +4,11 @@ mod channel;
 mod inbound_thread;
 mod keep_alive;
 mod link_thread;
+mod meeting;
 mod socket_closer;
 
 pub(super) use link_thread::begin_link;
+pub use meeting::Meeting;
 
 use super::links_inner::{locked, LinksInner};
 use super::outbox::Outbox;

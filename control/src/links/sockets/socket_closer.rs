@@ -1,7 +1,6 @@
 use super::super::Closer;
 use std::io;
 use std::net::{Shutdown, TcpStream};
-use std::time::Duration;
 
 /// Ends the connection of a socket.
 pub(super) struct SocketCloser(TcpStream);
@@ -12,9 +11,9 @@ impl SocketCloser {
         stream.try_clone().map(SocketCloser)
     }
 
-    /// Has a read end after this time, or never.
-    pub(super) fn set_patience(&self, patience: Option<Duration>) -> io::Result<()> {
-        self.0.set_read_timeout(patience)
+    /// Its socket.
+    pub(super) fn socket(&self) -> &TcpStream {
+        &self.0
     }
 }
 

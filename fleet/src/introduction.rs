@@ -1,0 +1,129 @@
+use crate::frame::Request;
+use crate::Safety;
+use durkenzo_control::links::{Admission, Identity, Terms, FIRST_TABLE, NO_SERVER};
+use durkenzo_control::tls::{Caller, FleetTls};
+
+/// How a process of a fleet, or a client, makes itself known to others.
+#[derive(Clone, Debug)]
+pub(crate) struct Introduction {
+    pub(crate) terms: Terms,
+    pub(crate) tls: Option<FleetTls>,
+}
+
+/// Whoever has made itself known.
+#[derive(Clone, Copy, Debug, PartialEq, Eq)]
+pub(crate) enum Guest {
+    /// The process of this server.
+    Server(u16),
+    Client,
+}
+
+impl Introduction {
+    /// Returns that of a client, to a fleet of settings with this checksum.
+    pub(crate) fn of_client(safety: &Safety, settings: u64) -> Introduction {
+        Introduction::of_process(safety, settings, (NO_SERVER, 0))
+    }
+
+    /// Returns that of the process of this number which runs this server.
+    pub(crate) fn of_process(
+        safety: &Safety,
+        settings: u64,
+        (server, process): (u16, u64),
+    ) -> Introduction {
+        let identity = Identity {
+            server,
+            settings,
+            process,
+            table: FIRST_TABLE,
+        };
+        let terms = Terms {
+            identity,
+            secret: safety.secret.clone(),
+            // Clients come to the same port, by certificates of their own.
+            tls: None,
+            admits: Admission::Clients,
+        };
+        let tls = safety.tls.clone();
+        Introduction { terms, tls }
+    }
+}
+
+impl Guest {
+    /// Returns who greets so, and has shown this certificate, if there is TLS. A client's shows no server.
+    pub(crate) fn of(identity: Identity, caller: Option<Caller>) -> Guest {
+        match (identity.server, caller) {
+            (NO_SERVER, _) | (_, Some(Caller::Client)) => Guest::Client,
+            (server, Some(Caller::Process) | None) => Guest::Server(server),
+        }
+    }
+
+    /// Whether it may ask so: nobody speaks for another server, and a client for none.
+    pub(crate) fn may_ask(self, request: &Request<'_>) -> bool {
+        let is_server = self != Guest::Client;
+        match request {
+            Request::Call(call) if call.from != NO_SERVER => self == Guest::Server(call.from),
+            Request::Call(call) => is_server || call.hops == 0,
+            Request::Hand(frame) => self == Guest::Server(frame.hand.server),
+            Request::Copy { .. } => is_server,
+            Request::Command { is_passed_on, .. } => is_server || !is_passed_on,
+            Request::Routes => true,
+        }
+    }
+}
+
+#[cfg(test)]
+mod tests {
+    use super::*;
+    use crate::frame::{CallFrame, HandFrame};
+    use durkenzo_store_sys::HandOver;
+
+    #[test]
+    fn nobody_speaks_for_another_server() {
+        let call = |from, hops| {
+            Request::Call(CallFrame {
+                shard: 0,
+                from,
+                hops,
+                revision: 1,
+                budget: 1,
+                request: b"",
+            })
+        };
+        let command = |is_passed_on| Request::Command {
+            is_passed_on,
+            words: b"",
+        };
+        let copy = Request::Copy {
+            shard: 0,
+            generation: 1,
+            at: 0,
+        };
+        let hand = Request::Hand(HandFrame {
+            shard: 0,
+            hand: HandOver {
+                joined: 1,
+                generation: 1,
+                server: 2,
+            },
+            is_changes: false,
+            at: 0,
+            total: 0,
+            bytes: b"",
+        });
+        for (request, client, second, third) in [
+            (call(0, 0), true, true, true),
+            (call(0, 1), false, true, true),
+            (call(2, 0), false, true, false),
+            (call(2, 1), false, true, false),
+            (hand, false, true, false),
+            (copy, false, true, true),
+            (command(false), true, true, true),
+            (command(true), false, true, true),
+            (Request::Routes, true, true, true),
+        ] {
+            let may =
+                [Guest::Client, Guest::Server(2), Guest::Server(3)].map(|it| it.may_ask(&request));
+            assert_eq!(may, [client, second, third], "{request:?}");
+        }
+    }
+}

@@ -1,0 +1,177 @@
+//! Connections between servers and clients of a fleet: the only place that makes them, and takes them.
+use crate::frame::WRITTEN;
+use crate::introduction::{Guest, Introduction};
+use crate::meet_error::{MeetError, SPEAKS_TLS};
+use durkenzo_control::links::{Greeting, Meeting, NO_SERVER, VERSION};
+use durkenzo_control::tls::{Caller, ReadHalf, WriteHalf};
+use rustix::io::{poll, PollFd, PollFlags};
+use std::io::{self, ErrorKind, Read, Write};
+use std::net::{TcpStream, ToSocketAddrs};
+use std::sync::Arc;
+use std::time::{Duration, Instant};
+
+/// How long it takes at most until a server is reached.
+const REACH: Duration = Duration::from_millis(500);
+/// What begins each connection by TLS: the type of a record with a handshake.
+const HANDSHAKE: u8 = 0x16;
+
+/// A connection whose sides know each other.
+pub(crate) struct Stream {
+    socket: Arc<TcpStream>,
+    tls: Option<(ReadHalf, WriteHalf)>,
+}
+
+impl Stream {
+    /// Reaches the server at this address, in this time in all.
+    pub(crate) fn connect(
+        address: &str,
+        introduction: &Introduction,
+        within: Duration,
+    ) -> Result<Stream, MeetError> {
+        let end = Instant::now() + within;
+        let socket = reach(address, end)?;
+        socket.set_nodelay(true)?;
+        let tls = match &introduction.tls {
+            Some(tls) => Some(
+                tls.connect(socket.try_clone()?, left(end))
+                    .map_err(MeetError::of_tls)?,
+            ),
+            None => None,
+        };
+        let (is_by_tls, socket) = (tls.is_some(), Arc::new(socket));
+        let mut stream = Stream { socket, tls };
+        stream.set_write_timeout(left(end).min(WRITTEN))?;
+        let greeted = stream.meet(end, |it| it.greet(&introduction.terms, NO_SERVER, VERSION));
+        greeted.map_err(|error| MeetError::of_greeting(error, is_by_tls))?;
+        Ok(stream)
+    }
+
+    /// Takes whoever connected, if it makes itself known in this time, and there is a place for it. Returns who it is,
+    /// too.
+    pub(crate) fn accept<T>(
+        socket: Arc<TcpStream>,
+        introduction: &Introduction,
+        within: Duration,
+        place: impl Fn() -> Option<T>,
+    ) -> io::Result<(Stream, Guest, T)> {
+        let end = Instant::now() + within;
+        socket.set_nodelay(true)?;
+        let (caller, tls) = match &introduction.tls {
+            Some(tls) => {
+                refuse_plain(&socket, within)?;
+                let (caller, halves) = tls.accept(socket.try_clone()?, left(end))?;
+                (Some(caller), Some(halves))
+            }
+            None => (None::<Caller>, None),
+        };
+        let mut stream = Stream { socket, tls };
+        stream.set_write_timeout(WRITTEN)?;
+        let (identity, place) = stream.meet(end, |it| it.welcome(&introduction.terms, place))?;
+        Ok((stream, Guest::of(identity, caller), place))
+    }
+
+    fn meet<T>(
+        &mut self,
+        end: Instant,
+        meet: impl FnOnce(&mut Meeting<'_>) -> io::Result<T>,
+    ) -> io::Result<T> {
+        let socket = &*self.socket;
+        match &mut self.tls {
+            Some((reader, writer)) => meet(&mut Meeting::new((reader, writer), socket, end)),
+            None => meet(&mut Meeting::new(
+                (&mut &*socket, &mut &*socket),
+                socket,
+                end,
+            )),
+        }
+    }
+
+    /// Has each read end after this time.
+    pub(crate) fn set_read_timeout(&self, within: Duration) -> io::Result<()> {
+        self.socket.set_read_timeout(Some(within))
+    }
+
+    /// Has each write end after this time.
+    pub(crate) fn set_write_timeout(&self, within: Duration) -> io::Result<()> {
+        self.socket.set_write_timeout(Some(within))
+    }
+
+    /// Whether nothing has come that wasn't read, nor the end.
+    pub(crate) fn is_quiet(&self) -> bool {
+        polled(&self.socket, PollFlags::IN | PollFlags::RDHUP).is_empty()
+    }
+}
+
+impl Read for Stream {
+    fn read(&mut self, room: &mut [u8]) -> io::Result<usize> {
+        match &mut self.tls {
+            Some((reader, _)) => reader.read(room),
+            None => (&*self.socket).read(room),
+        }
+    }
+}
+
+impl Write for Stream {
+    fn write(&mut self, bytes: &[u8]) -> io::Result<usize> {
+        match &mut self.tls {
+            Some((_, writer)) => writer.write(bytes),
+            None => (&*self.socket).write(bytes),
+        }
+    }
+
+    fn flush(&mut self) -> io::Result<()> {
+        Ok(())
+    }
+}
+
+/// Returns how much time is left, which is never none, as sockets take none for all.
+pub(crate) fn left(end: Instant) -> Duration {
+    let left = end.saturating_duration_since(Instant::now());
+    left.max(Duration::from_millis(1))
+}
+
+/// Returns whether the other side hasn't closed the connection. By TLS it says so before that, in bytes that nobody has
+/// read yet: so it isn't looked for these.
+pub(crate) fn is_open(socket: &TcpStream) -> bool {
+    polled(socket, PollFlags::RDHUP).is_empty()
+}
+
+fn polled(socket: &TcpStream, asked: PollFlags) -> PollFlags {
+    let mut sockets = [PollFd::new(socket, asked)];
+    match poll(&mut sockets, 0) {
+        Ok(_) => sockets[0].revents(),
+        Err(_) => PollFlags::ERR,
+    }
+}
+
+fn reach(address: &str, end: Instant) -> io::Result<TcpStream> {
+    let mut last = io::Error::from(ErrorKind::AddrNotAvailable);
+    for place in address.to_socket_addrs()? {
+        match TcpStream::connect_timeout(&place, left(end).min(REACH)) {
+            Ok(socket) => return Ok(socket),
+            Err(error) => last = error,
+        }
+    }
+    Err(last)
+}
+
+/// Tells whoever speaks no TLS that it has to.
+fn refuse_plain(socket: &TcpStream, within: Duration) -> io::Result<()> {
+    socket.set_read_timeout(Some(within))?;
+    let mut first = [HANDSHAKE];
+    socket.peek(&mut first)?;
+    if first == [HANDSHAKE] {
+        return Ok(());
+    }
+    let mut told = Vec::new();
+    Greeting::Refusal(SPEAKS_TLS.to_owned()).write(VERSION, &mut told);
+    socket.set_write_timeout(Some(within))?;
+    let mut socket = socket;
+    socket.write_all(&told)?;
+    // What it has sent is read, so that its end doesn't come before what it is told.
+    let _ = socket.read(&mut [0; 1 << 10]);
+    Err(io::Error::new(
+        ErrorKind::InvalidData,
+        "it doesn't speak TLS",
+    ))
+}
