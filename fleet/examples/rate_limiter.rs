@@ -39,7 +39,6 @@ impl Service for Limiter {
             // A bucket that is lost begins full.
             Came::New | Came::Lost => Ok(Buckets::new()),
             Came::Handed(bytes) => read(bytes),
-            Came::Changed { .. } => Err("it keeps no changes".into()),
         }
     }
 

@@ -1,7 +1,7 @@
 use crate::connections::Connections;
 use crate::follower::{self, Notices};
 use crate::introduction::Introduction;
-use crate::leading;
+use crate::host;
 use crate::listener::Listener;
 use crate::permit::BodyGuard;
 use crate::place::{Known, Place};
@@ -28,7 +28,7 @@ use std::thread;
 use std::time::{Duration, Instant};
 use tokio::runtime;
 use tokio::signal::unix::{signal, SignalKind};
-use tokio::sync::Notify;
+use tokio::sync::{Notify, Semaphore};
 
 /// How often it is looked whether the control has stopped this server.
 const LOOK: Duration = Duration::from_millis(20);
@@ -55,6 +55,8 @@ pub(crate) struct FleetInner<S: Service> {
     pub(crate) durable: Arc<Durable>,
     pub(crate) places: Box<[Place<S::Body>]>,
     pub(crate) connections: Arc<Connections>,
+    /// Room for bodies that come to this process.
+    pub(crate) moves: Arc<Semaphore>,
     /// The control of this process; none once it has left.
     pub(crate) control: Mutex<Option<Sender<Asked>>>,
     pub(crate) stopping: Arc<AtomicBool>,
@@ -98,7 +100,7 @@ impl<S: Service> Fleet<S> {
             FleetInner::joined((service, options, sharding), (at, &safety), store, &notices)?;
         let inner = Arc::new(inner);
         follower::begin(&inner, noticed)?;
-        leading::begin(&inner)?;
+        host::begin(&inner)?;
         listener.begin(&inner)?;
         Ok(Fleet {
             inner,
@@ -272,6 +274,7 @@ impl<S: Service> FleetInner<S> {
             connections: Arc::new(connections),
             member,
             durable: Arc::new(durable),
+            moves: Arc::new(Semaphore::new(usize::from(options.moves))),
             options,
             sharding,
             settings,

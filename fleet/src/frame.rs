@@ -4,7 +4,7 @@ use durkenzo_store_sys::HandOver;
 use std::io::{self, Read};
 use std::time::Duration;
 
-/// How many bytes of a body one frame carries at most. One frame of a body is under way at a time.
+/// How many bytes of a whole body one frame carries at most. One frame of a body is under way at a time.
 pub(crate) const CHUNK: usize = 256 << 10;
 /// How many bytes a request and an answer have at most.
 pub(crate) const MOST: usize = 1 << 20;
@@ -20,7 +20,7 @@ const WORDS: u32 = 64;
 pub(crate) enum Request<'a> {
     /// A client's call, or one that another server sends on.
     Call(CallFrame<'a>),
-    /// The next owner asks for a piece of a first copy, by the record of this generation.
+    /// The next owner asks for the piece of a copy behind `at` bytes, by the record of this generation.
     Copy {
         shard: u16,
         generation: u64,
@@ -53,10 +53,11 @@ pub(crate) struct CallFrame<'a> {
 pub(crate) struct HandFrame<'a> {
     pub(crate) shard: u16,
     pub(crate) hand: HandOver,
-    /// Whether it is what has changed since the first copy.
-    pub(crate) is_changes: bool,
+    /// Whether it is a piece of a copy, and not of the bytes of a whole body.
+    pub(crate) is_copy: bool,
+    /// How many bytes came before it.
     pub(crate) at: u64,
-    pub(crate) total: u64,
+    pub(crate) is_last: bool,
     pub(crate) bytes: &'a [u8],
 }
 
@@ -74,12 +75,14 @@ pub(crate) enum Response<'a> {
     Again(&'a str),
     /// It may have been done.
     Unsure(&'a str),
-    /// A piece of so many bytes.
-    Piece { total: u64, bytes: &'a [u8] },
+    /// A piece of a copy, and about how many bytes are left.
+    Piece { left: u64, bytes: &'a [u8] },
     /// It was taken.
     Taken,
     /// What the control answers, or a map of routes.
     Text(&'a [u8]),
+    /// It isn't taken, because it continues no copy that is here.
+    NoCopy(&'a str),
 }
 
 impl CallFrame<'_> {
@@ -101,9 +104,9 @@ impl HandFrame<'_> {
         out.extend(self.hand.server.to_be_bytes());
         out.extend(self.hand.joined.to_be_bytes());
         out.extend(self.hand.generation.to_be_bytes());
-        out.push(u8::from(self.is_changes));
+        out.push(u8::from(self.is_copy));
         out.extend(self.at.to_be_bytes());
-        out.extend(self.total.to_be_bytes());
+        out.push(u8::from(self.is_last));
         out.extend(self.bytes);
     }
 }
@@ -158,9 +161,9 @@ impl<'a> Request<'a> {
                     joined: fields.long()?,
                     generation: fields.long()?,
                 },
-                is_changes: fields.flag()?,
+                is_copy: fields.flag()?,
                 at: fields.long()?,
-                total: fields.long()?,
+                is_last: fields.flag()?,
                 bytes: fields.rest(),
             }),
             4 => Request::Command {
@@ -197,15 +200,19 @@ impl<'a> Response<'a> {
                 out.push(3);
                 out.extend(why.as_bytes());
             }
-            Response::Piece { total, bytes } => {
+            Response::Piece { left, bytes } => {
                 out.push(4);
-                out.extend(total.to_be_bytes());
+                out.extend(left.to_be_bytes());
                 out.extend(*bytes);
             }
             Response::Taken => out.push(5),
             Response::Text(bytes) => {
                 out.push(6);
                 out.extend(*bytes);
+            }
+            Response::NoCopy(why) => {
+                out.push(7);
+                out.extend(why.as_bytes());
             }
         });
     }
@@ -222,11 +229,12 @@ impl<'a> Response<'a> {
             2 => Response::Again(text(fields.rest())?),
             3 => Response::Unsure(text(fields.rest())?),
             4 => Response::Piece {
-                total: fields.long()?,
+                left: fields.long()?,
                 bytes: fields.rest(),
             },
             5 => Response::Taken,
             6 => Response::Text(fields.rest()),
+            7 => Response::NoCopy(text(fields.rest())?),
             kind => return Err(WireFault::Answer(kind)),
         };
         fields.end().map(|()| response)
@@ -353,9 +361,9 @@ mod tests {
             Request::Hand(HandFrame {
                 shard: 3,
                 hand,
-                is_changes: true,
+                is_copy: true,
                 at: 4,
-                total: 7,
+                is_last: true,
                 bytes: b"abc",
             }),
             Request::Command {
@@ -384,11 +392,12 @@ mod tests {
             Response::Again("paused"),
             Response::Unsure("late"),
             Response::Piece {
-                total: 9,
+                left: 9,
                 bytes: b"piece",
             },
             Response::Taken,
             Response::Text(b"lines"),
+            Response::NoCopy("begin"),
         ] {
             let mut out = Vec::new();
             response.write(&mut out);

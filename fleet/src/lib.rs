@@ -17,7 +17,6 @@
 //!         match came {
 //!             Came::New | Came::Lost => Ok(0),
 //!             Came::Handed(bytes) => Ok(u64::from_be_bytes(bytes.try_into()?)),
-//!             Came::Changed { .. } => Err("it keeps no changes".into()),
 //!         }
 //!     }
 //!
@@ -41,22 +40,26 @@
 #![forbid(unsafe_code)]
 #![deny(missing_docs)]
 
-mod arriving;
+mod adoption;
 mod call_error;
 mod calls;
+mod changes;
 mod commands;
 mod connections;
+mod copy_progress;
 mod enter;
 mod fleet;
 mod follower;
 mod frame;
+mod hand_over;
+mod host;
+mod incoming_body;
 mod introduction;
 mod join_error;
-mod leading;
 mod listener;
 mod meet_error;
-mod migration;
 mod options;
+mod outgoing_copy;
 mod permit;
 mod place;
 #[cfg(test)]
@@ -69,12 +72,14 @@ mod safety;
 mod safety_trial;
 mod service;
 mod settings;
+mod settler;
 mod shard;
 mod stream;
 #[cfg(test)]
 mod trial;
 
 pub use call_error::CallError;
+pub use changes::{Changes, Piece};
 pub use durkenzo::Mode;
 pub use enter::{Destination, Enter, Refused};
 pub use fleet::Fleet;
@@ -87,6 +92,6 @@ pub use permit::Permit;
 pub use retry::Retry;
 pub use router::{Answer, Router};
 pub use safety::{Safety, SafetyOptions};
-pub use service::{Call, Came, Changes, Fault, Service};
+pub use service::{Call, Came, Fault, Service};
 pub use settings::Sharding;
 pub use shard::Shard;

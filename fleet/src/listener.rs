@@ -1,3 +1,4 @@
+use crate::adoption::NotTaken;
 use crate::fleet::FleetInner;
 use crate::follower::spawn;
 use crate::frame::{self, Request, Response};
@@ -328,7 +329,8 @@ fn answer<S: Service>(
         } => fleet.copy(*shard, *generation, *at, out),
         Request::Hand(frame) => match fleet.take_hand_over(frame) {
             Ok(()) => Response::Taken.write(out),
-            Err(why) => Response::Again(why).write(out),
+            Err(NotTaken::Again(why)) => Response::Again(why).write(out),
+            Err(NotTaken::NoCopy(why)) => Response::NoCopy(why).write(out),
         },
         Request::Command {
             is_passed_on,

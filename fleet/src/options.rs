@@ -1,3 +1,4 @@
+use crate::frame::MOST;
 use crate::{JoinError, Safety, SafetyOptions, Sharding};
 use clap::{Args, Parser};
 use durkenzo_control::links::Secret;
@@ -125,14 +126,22 @@ pub struct Options {
     )]
     pub waiting: usize,
 
-    /// How many bytes the next owner of a shard takes of its body at most
+    /// How many bytes the next owner of a shard takes of its body at most, and of what changes meanwhile
     #[arg(
         long,
         env = "DURKENZO_BODY",
         value_name = "BYTES",
-        default_value_t = 1 << 30
+        default_value_t = 2 << 30
     )]
     pub body: u64,
+
+    /// How many bytes of a body are under way at once, if the service moves bodies in pieces
+    #[arg(long, env = "DURKENZO_PIECE", value_name = "BYTES", default_value_t = 256 << 10, value_parser = piece)]
+    pub piece: usize,
+
+    /// How many bodies come to this process at once; others wait with their owners
+    #[arg(long, env = "DURKENZO_MOVES", value_name = "COUNT", default_value_t = 4, value_parser = clap::value_parser!(u16).range(1..=1_024))]
+    pub moves: u16,
 
     /// How many connections of clients are served at once, and how many of others
     #[arg(
@@ -272,4 +281,11 @@ impl Options {
     pub(crate) fn patience(&self) -> Duration {
         Duration::from_millis(self.wait)
     }
+}
+
+/// Reads how long a piece is: a frame carries it.
+fn piece(text: &str) -> Result<usize, String> {
+    let is_meant = |it: &usize| (1..=MOST).contains(it);
+    let read = text.parse().ok().filter(is_meant);
+    read.ok_or_else(|| format!("a piece has 1 to {MOST} bytes"))
 }

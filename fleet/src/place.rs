@@ -1,18 +1,20 @@
-use crate::arriving::Arriving;
+use crate::incoming_body::IncomingBody;
+use crate::outgoing_copy::OutgoingCopy;
 use crate::queue::Queue;
 use durkenzo::{word, Record};
 use durkenzo_driver::ShardReading;
 use durkenzo_store::Revision;
 use durkenzo_store_sys::{Code, HandOver, ShardView};
-use std::sync::{Arc, Mutex, MutexGuard, PoisonError};
+use std::sync::{Mutex, MutexGuard, PoisonError};
 
 /// A shard in this process: what is known of it, its body, and who waits for it.
 ///
-/// Whoever locks both locks the body first. A call holds the body while it is executed, and what is known only for a
-/// look. So what was read is taken at once, and to let go waits for the call that is under way.
+/// Whoever locks several locks the body first, then what comes, then what is known. A call holds the body while it is
+/// executed, and what is known only for a look. So what was read is taken at once, and to let go waits for the call that is under way.
 pub(crate) struct Place<B> {
     known: Mutex<Known>,
     body: Mutex<Option<B>>,
+    incoming: Mutex<Option<IncomingBody<B>>>,
     pub(crate) queue: Queue,
 }
 
@@ -32,9 +34,9 @@ pub(crate) struct Known {
     /// The greatest generation up to which this process has let go, under whatever lease.
     pub(crate) let_go: u64,
     /// What is copied to the next owner.
-    pub(crate) copy: Option<FirstCopy>,
-    /// What comes from the owner.
-    pub(crate) arriving: Arriving,
+    pub(crate) copy: Option<OutgoingCopy>,
+    /// The generation of the record by which this process prepares, and how often it got no copy since.
+    pub(crate) prepared: (u64, u32),
     /// By what the body is of this moment, if it is. No call uses another body, and the settler drops it.
     pub(crate) body_is_of: Option<Holding>,
     /// Whether this process has ever had a body of the shard.
@@ -62,15 +64,6 @@ pub(crate) struct Holding {
     pub(crate) generation: u64,
 }
 
-/// A first copy of a body.
-pub(crate) struct FirstCopy {
-    /// The generation of the record by which it is made.
-    pub(crate) generation: u64,
-    pub(crate) bytes: Arc<Vec<u8>>,
-    /// Whether the next owner has all of it.
-    pub(crate) is_whole: bool,
-}
-
 impl<B> Place<B> {
     pub(crate) fn new(view: ShardView) -> Place<B> {
         let known = Known {
@@ -82,7 +75,7 @@ impl<B> Place<B> {
             handed: 0,
             let_go: 0,
             copy: None,
-            arriving: Arriving::default(),
+            prepared: (0, 0),
             body_is_of: None,
             had_body: false,
             settles: false,
@@ -91,6 +84,7 @@ impl<B> Place<B> {
         Place {
             known: Mutex::new(known),
             body: Mutex::new(None),
+            incoming: Mutex::new(None),
             queue: Queue::default(),
         }
     }
@@ -107,9 +101,19 @@ impl<B> Place<B> {
             let mut body = poisoned.into_inner();
             *body = None;
             let mut known = self.known();
-            (known.body_is_of, known.settled) = (None, None);
+            (known.body_is_of, known.settled, known.copy) = (None, None, None);
             drop(known);
             body
+        })
+    }
+
+    /// Locks what comes of the body. If a callback has panicked as it added a piece, all of it is dropped.
+    pub(crate) fn incoming(&self) -> MutexGuard<'_, Option<IncomingBody<B>>> {
+        self.incoming.lock().unwrap_or_else(|poisoned| {
+            self.incoming.clear_poison();
+            let mut incoming = poisoned.into_inner();
+            *incoming = None;
+            incoming
         })
     }
 }

@@ -282,7 +282,7 @@ fn answer_of(bytes: &[u8]) -> Result<Answer, CallError> {
         }),
         Ok(Response::Again(why)) => Err(CallError::NotMade(why.to_owned())),
         Ok(Response::Unsure(why)) => Err(CallError::Unsure(why.to_owned())),
-        Ok(Response::Piece { .. } | Response::Taken | Response::Text(_)) => {
+        Ok(Response::Piece { .. } | Response::Taken | Response::Text(_) | Response::NoCopy(_)) => {
             let why = "the server answers something else";
             Err(CallError::Unsure(why.to_owned()))
         }

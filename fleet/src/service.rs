@@ -1,4 +1,4 @@
-use crate::Shard;
+use crate::{Changes, Shard};
 use std::error::Error;
 
 /// Why a shard isn't added: it is tried again.
@@ -31,20 +31,11 @@ pub trait Service: Send + Sync + 'static {
         drop(body);
     }
 
-    /// Returns how the service copies a body while it changes, if it can. A body that is large then moves without a
-    /// stop.
+    /// Returns how the service moves a body in pieces while it answers calls, if it can. A large body then moves without
+    /// a stop: `add` and `hand_over` are called only if the other process can't.
     fn changes(&self) -> Option<&dyn Changes<Self::Body>> {
         None
     }
-}
-
-/// A service that can tell what has changed of a body since a first copy of it.
-pub trait Changes<B> {
-    /// Returns a first copy of the body, and begins to note what changes from here on. An earlier copy is forgotten.
-    fn first_copy(&self, body: &mut B) -> Vec<u8>;
-
-    /// Returns what has changed since the first copy. The rule of [`Service::hand_over`] holds from here on.
-    fn changed(&self, body: &mut B) -> Vec<u8>;
 }
 
 /// How a shard comes to a process.
@@ -55,13 +46,6 @@ pub enum Came<'a> {
     New,
     /// The previous owner handed this over by [`Service::hand_over`].
     Handed(&'a [u8]),
-    /// The previous owner made a first copy, and then told what had changed since, as [`Changes`] says.
-    Changed {
-        /// The first copy.
-        first: &'a [u8],
-        /// What has changed since.
-        since: &'a [u8],
-    },
     /// The previous owner has failed, or this process can't know that there was none: what was kept in memory is lost.
     /// A service with a database reads it there.
     Lost,

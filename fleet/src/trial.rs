@@ -5,8 +5,8 @@ use crate::frame::{CallFrame, HandFrame, Request, Response};
 use crate::introduction::Introduction;
 use crate::plant::Plant;
 use crate::{
-    Call, CallError, Came, Changes, Enter, Fault, Fleet, Mode, Options, Refused, Retry, Router,
-    Safety, Service, Shard,
+    Call, CallError, Came, Changes, Enter, Fault, Fleet, Mode, Options, Piece, Refused, Retry,
+    Router, Safety, Service, Shard,
 };
 use durkenzo_control::links::{checksum, NO_SERVER};
 use durkenzo_store::{
@@ -23,6 +23,8 @@ use std::time::{Duration, Instant};
 const SERVERS: u16 = 3;
 const SHARDS: u16 = 6;
 const CLIENTS: usize = 6;
+/// How many keys a piece has.
+const KEYS: usize = 3;
 /// A request by which the service panics.
 const PANICS: &[u8] = b"panic";
 /// How long a client waits for an answer.
@@ -34,8 +36,8 @@ const SOON: Duration = Duration::from_secs(30);
 #[derive(Default)]
 struct Counts {
     counts: HashMap<Vec<u8>, u64>,
-    /// The keys that were counted since the first copy.
-    changed: Option<HashSet<Vec<u8>>>,
+    /// The keys that aren't copied, or were counted since.
+    uncopied: Option<HashSet<Vec<u8>>>,
 }
 
 struct Counter {
@@ -71,24 +73,21 @@ impl Service for Counter {
 
     fn add(&self, _: Shard, came: Came<'_>) -> Result<Counts, Fault> {
         let mut counts = Counts::default();
-        let (name, parts) = match came {
-            Came::New => ("new", vec![]),
-            Came::Lost => ("lost", vec![]),
-            Came::Handed(bytes) => ("handed", vec![bytes]),
-            Came::Changed { first, since } => ("changed", vec![first, since]),
+        let (name, bytes) = match came {
+            Came::New => ("new", &[][..]),
+            Came::Lost => ("lost", &[][..]),
+            Came::Handed(bytes) => ("handed", bytes),
         };
         self.came.lock().unwrap().push(name);
-        for part in parts {
-            counts.read(part).ok_or("it ends too early")?;
-        }
+        counts.read(bytes).ok_or("it ends too early")?;
         Ok(counts)
     }
 
     fn answer(&self, body: &mut Counts, call: Call<'_>) -> Vec<u8> {
         assert_ne!(call.request(), PANICS);
         let key = call.request().to_vec();
-        if let Some(changed) = &mut body.changed {
-            changed.insert(key.clone());
+        if let Some(uncopied) = &mut body.uncopied {
+            uncopied.insert(key.clone());
         }
         let count = body.counts.entry(key).or_default();
         *count += 1;
@@ -105,14 +104,36 @@ impl Service for Counter {
 }
 
 impl Changes<Counts> for Counter {
-    fn first_copy(&self, body: &mut Counts) -> Vec<u8> {
-        body.changed = Some(HashSet::new());
-        body.write(body.counts.keys())
+    fn begin_copy(&self, body: &mut Counts) {
+        body.uncopied = Some(body.counts.keys().cloned().collect());
     }
 
-    fn changed(&self, body: &mut Counts) -> Vec<u8> {
-        let changed = body.changed.take().unwrap_or_default();
-        body.write(changed.iter())
+    fn next_piece(&self, body: &mut Counts, _most: usize) -> Piece {
+        let mut uncopied = body.uncopied.take().unwrap_or_default();
+        let keys: Vec<_> = uncopied.iter().take(KEYS).cloned().collect();
+        uncopied.retain(|it| !keys.contains(it));
+        let left = uncopied.len() as u64;
+        body.uncopied = Some(uncopied);
+        let bytes = body.write(keys.iter());
+        Piece { bytes, left }
+    }
+
+    fn end_copy(&self, body: &mut Counts) {
+        body.uncopied = None;
+        self.came.lock().unwrap().push("stayed");
+    }
+
+    fn begin_body(&self, _: Shard) -> Result<Counts, Fault> {
+        Ok(Counts::default())
+    }
+
+    fn add_piece(&self, body: &mut Counts, piece: &[u8]) -> Result<(), Fault> {
+        Ok(body.read(piece).ok_or("it ends too early")?)
+    }
+
+    fn end_body(&self, _: Shard, _: &mut Counts) -> Result<(), Fault> {
+        self.came.lock().unwrap().push("copied");
+        Ok(())
     }
 }
 
@@ -254,6 +275,8 @@ fn options(server: u16, lease: u64, plant: Option<Plant>) -> Options {
     let mut options = <Options as clap::Parser>::parse_from(words);
     (options.name, options.servers, options.shards) = (server, SERVERS, SHARDS);
     (options.lease, options.plant) = (lease, plant);
+    // What is left of a body comes in several pieces, before it stops and after.
+    options.piece = 1;
     options
 }
 
@@ -443,20 +466,16 @@ fn migrations_under_load_refuse_no_call_and_lose_nothing() {
 }
 
 #[test]
-fn bodies_move_by_what_has_changed_since_a_first_copy() {
+fn bodies_move_in_pieces_and_by_what_has_changed_since() {
     let mut trial = Trial::new(30, true, None);
     trial.begin();
     let migrations = trial.migrate_for(Duration::from_secs(2));
     let came = trial.came.clone();
     let tally = trial.end();
     assert!(tally.is_clean(), "{tally:?}");
-    let changed = came
-        .lock()
-        .unwrap()
-        .iter()
-        .filter(|it| **it == "changed")
-        .count();
-    assert!(changed * 2 > migrations, "{changed} of {migrations}");
+    let came = came.lock().unwrap();
+    let count = |name: &str| came.iter().filter(|it| **it == name).count();
+    assert!(count("copied") == migrations, "{came:?} {migrations}");
 }
 
 /// What clients see of migrations while this wrong rule is planted.
@@ -593,13 +612,13 @@ fn what_another_process_hands_over_is_refused() {
         generation: 1,
         server: 3,
     };
-    let (is_changes, at, total, bytes) = (false, 0, 1, &b"x"[..]);
+    let (is_copy, at, is_last, bytes) = (false, 0, true, &b"x"[..]);
     let frame = HandFrame {
         shard: 0,
         hand,
-        is_changes,
+        is_copy,
         at,
-        total,
+        is_last,
         bytes,
     };
     let response = connections.ask(&fleet.address().to_string(), &Request::Hand(frame), SOON);
@@ -668,9 +687,9 @@ fn an_owner_that_gets_a_shard_back_after_it_handed_over_begins_without_its_body(
             generation: trial.generation(shard) - 1,
             server: 1,
         },
-        is_changes: false,
+        is_copy: false,
         at: 0,
-        total: 0,
+        is_last: true,
         bytes: b"",
     };
     assert!(next.take_hand_over(&late).is_err());

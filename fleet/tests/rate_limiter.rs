@@ -1,12 +1,11 @@
 //! The example of a rate limiter as three processes over etcd: shards move under load, and a process is killed.
+mod processes;
+
 use durkenzo_fleet::{CallError, Retry, Router};
-use durkenzo_store::{Access, Etcd, Store};
+use processes::{example, until, OwnEtcd, Process, PATIENCE};
 use std::collections::BTreeSet;
-use std::fs;
-use std::io::{BufRead, BufReader};
-use std::net::TcpListener;
-use std::path::{Path, PathBuf};
-use std::process::{Child, Command, Stdio};
+use std::path::Path;
+use std::process::Command;
 use std::sync::atomic::{AtomicBool, Ordering};
 use std::sync::Arc;
 use std::thread;
@@ -14,109 +13,14 @@ use std::time::{Duration, Instant};
 
 const SERVERS: u16 = 3;
 const CLIENTS: usize = 4;
-/// How long a client tries a call, and the test waits for what comes.
-const PATIENCE: Duration = Duration::from_secs(20);
-
-/// A process that is killed at the end.
-struct Process(Child);
-
-impl Drop for Process {
-    fn drop(&mut self) {
-        // It may have ended.
-        let _ = self.0.kill();
-        let _ = self.0.wait();
-    }
-}
-
-/// An etcd with a folder of its own.
-struct OwnEtcd {
-    url: String,
-    folder: PathBuf,
-    _process: Process,
-}
-
-impl OwnEtcd {
-    /// Begins one; none where etcd isn't installed.
-    fn begin() -> Option<OwnEtcd> {
-        let folder = std::env::temp_dir().join(format!("durkenzo-fleet-{}", std::process::id()));
-        let [url, peer] = [free_port(), free_port()].map(|it| format!("http://127.0.0.1:{it}"));
-        let process = Command::new("etcd")
-            .args(["--data-dir".as_ref(), folder.as_os_str()])
-            .args([
-                "--listen-client-urls",
-                &url,
-                "--advertise-client-urls",
-                &url,
-            ])
-            .args([
-                "--listen-peer-urls",
-                &peer,
-                "--initial-advertise-peer-urls",
-                &peer,
-            ])
-            .args([
-                "--initial-cluster",
-                &format!("default={peer}"),
-                "--unsafe-no-fsync",
-            ])
-            .stdout(Stdio::null())
-            .stderr(Stdio::null())
-            .spawn();
-        let _process = Process(process.ok()?);
-        Some(OwnEtcd {
-            url,
-            folder,
-            _process,
-        })
-    }
-
-    fn store(&self) -> Arc<dyn Store> {
-        let store = Etcd::new(Access::new([&self.url])).unwrap();
-        until("etcd answers", || store.read(&[b"settings"]).is_ok());
-        Arc::new(store)
-    }
-}
-
-impl Drop for OwnEtcd {
-    fn drop(&mut self) {
-        // The process has a moment more; what it leaves lies in a temporary folder.
-        let _ = fs::remove_dir_all(&self.folder);
-    }
-}
-
-fn free_port() -> u16 {
-    let listener = TcpListener::bind("127.0.0.1:0").unwrap();
-    listener.local_addr().unwrap().port()
-}
 
 /// Begins a server of the example. Returns it with where it listens.
 fn server(program: &Path, etcd: &str, name: u16) -> (Process, String) {
-    let mut child = Command::new(program)
-        .args([
-            "--etcd",
-            etcd,
-            "--name",
-            &name.to_string(),
-            "--shards",
-            "12",
-        ])
-        .stdout(Stdio::piped())
-        .spawn()
-        .unwrap();
-    let mut told = String::new();
-    BufReader::new(child.stdout.take().unwrap())
-        .read_line(&mut told)
-        .unwrap();
-    let address = told.trim_end().rsplit(' ').next().unwrap();
-    (Process(child), address.to_owned())
-}
-
-fn until(what: &str, holds: impl Fn() -> bool) {
-    let end = Instant::now() + PATIENCE;
-    while !holds() {
-        assert!(Instant::now() < end, "it never was that {what}");
-        thread::sleep(Duration::from_millis(20));
-    }
+    let name = name.to_string();
+    processes::server(
+        program,
+        &["--etcd", etcd, "--name", &name, "--shards", "12"],
+    )
 }
 
 /// How many calls were answered, and may have been made; and why others weren't.
@@ -165,13 +69,6 @@ fn under_load(routers: &[Arc<Router>], work: impl FnOnce()) -> Tally {
     })
 }
 
-/// The program of the example, which cargo builds before tests are run.
-fn example() -> PathBuf {
-    let test = std::env::current_exe().unwrap();
-    let folder = test.parent().and_then(Path::parent).unwrap();
-    folder.join("examples/rate_limiter")
-}
-
 /// Has shards go from server to server for a while.
 fn migrate(router: &Router) {
     let end = Instant::now() + Duration::from_secs(2);
@@ -205,7 +102,7 @@ fn shards_move_under_load_and_a_killed_process_leaves_only_unsure_calls() {
         return println!("etcd isn't installed, so nothing was tried");
     };
     let store = etcd.store();
-    let program = example();
+    let program = example("rate_limiter");
     let mut servers: Vec<_> = (1..=SERVERS)
         .map(|it| server(&program, &etcd.url, it))
         .collect();

@@ -1,0 +1,240 @@
+//! What a shard's owner gives the next owner: a copy while it answers calls, and the rest once it has let go.
+use crate::fleet::FleetInner;
+use crate::frame::{HandFrame, Request, Response, CHUNK};
+use crate::outgoing_copy::OutgoingCopy;
+use crate::place::Place;
+use crate::{Changes, Service};
+use durkenzo::Stand;
+use durkenzo_store_sys::HandOver;
+use std::time::Duration;
+
+/// How long another server may take for a piece.
+pub(crate) const PIECE: Duration = Duration::from_secs(5);
+
+/// What is handed over, and to whom.
+#[derive(Clone, Copy)]
+struct Recipient {
+    shard: u16,
+    next: u16,
+    hand: HandOver,
+}
+
+/// What became of what was sent.
+#[derive(Clone, Copy, Debug, PartialEq, Eq)]
+enum Sent {
+    /// The next owner has all of it.
+    All,
+    /// The next owner doesn't take it for now, or isn't reached: it is sent again.
+    NotYet,
+    /// The next owner has no copy that this continues, or the service makes no piece that can be sent.
+    NoCopy,
+}
+
+impl<S: Service> FleetInner<S> {
+    /// Answers the piece of a copy behind `at` bytes. The first piece begins the copy.
+    pub(crate) fn copy(&self, shard: u16, generation: u64, at: u64, out: &mut Vec<u8>) {
+        if let Err(why) = self.copied(shard, generation, at, out) {
+            Response::Again(why).write(out);
+        }
+    }
+
+    /// Writes such a piece, if this process is the owner by the record of this generation.
+    fn copied(
+        &self,
+        shard: u16,
+        generation: u64,
+        at: u64,
+        out: &mut Vec<u8>,
+    ) -> Result<(), &'static str> {
+        let place = self.places.get(usize::from(shard));
+        let place = place.ok_or("there is no such shard")?;
+        let changes = self.service.changes();
+        let changes = changes.ok_or("the owner's service notes no changes")?;
+        self.await_record(place, generation);
+        let mut body = place.body();
+        let record = place.known().record();
+        let is_owner =
+            matches!(record.stand, Stand::Prepared { owner, .. } if owner == self.server());
+        if !is_owner || record.generation != generation {
+            return Err("this process isn't the owner by that record");
+        }
+        self.drop_stale(shard, place, &mut body);
+        let body = body.as_mut().ok_or("the owner has no body yet")?;
+        if at == 0 {
+            changes.begin_copy(body);
+            place.known().copy = Some(OutgoingCopy::new(generation));
+        }
+        let copy = place
+            .known()
+            .copy
+            .take_if(|it| it.generation() == generation);
+        let mut copy = copy.ok_or("there is no copy that this continues")?;
+        let piece = copy.piece_at(at, || changes.next_piece(body, self.options.piece));
+        let written = piece.map(|it| {
+            let (left, bytes) = (it.left, &it.bytes[..]);
+            Response::Piece { left, bytes }.write(out);
+        });
+        place.known().copy = Some(copy);
+        written.ok_or("there is no such piece, or it can't be sent")
+    }
+
+    /// Stops executing, gives the next owner what it needs, and forwards from then on. Returns whether that was done.
+    pub(crate) fn hand_over(
+        &self,
+        shard: u16,
+        place: &Place<S::Body>,
+        next: u16,
+        generation: u64,
+    ) -> bool {
+        let mut body = place.body();
+        if place.known().record().generation != generation {
+            return true;
+        }
+        let Some(hand) = self.let_go(place, generation) else {
+            return false;
+        };
+        self.drop_stale(shard, place, &mut body);
+        #[cfg(test)]
+        if self.options.plant == Some(crate::plant::Plant::EarlyAck) {
+            self.member.ack(shard, generation);
+            std::thread::sleep(Duration::from_millis(300));
+        }
+        let to = Recipient { shard, next, hand };
+        let sent = match body.as_mut() {
+            Some(body) => self.send(place, body, to),
+            None => Sent::All,
+        };
+        drop(body);
+        if sent == Sent::All {
+            place.known().handed = generation;
+            place.queue.wake();
+            self.member.ack(shard, generation);
+        }
+        sent == Sent::All
+    }
+
+    /// Lets go of the record, which nothing is executed by any more. Returns what is named by what is handed over.
+    fn let_go(&self, place: &Place<S::Body>, generation: u64) -> Option<HandOver> {
+        let mut known = place.known();
+        // The control may have taken the record back meanwhile.
+        if known.record().generation != generation {
+            return None;
+        }
+        known.let_go().ok()?;
+        known.copy.take_if(|it| it.generation() + 1 != generation);
+        Some(HandOver {
+            joined: known.view.joined(),
+            generation,
+            server: self.server(),
+        })
+    }
+
+    /// Sends the next owner the rest of the copy, or a copy from its beginning. If the next owner takes no copies, this
+    /// sends the whole body.
+    fn send(&self, place: &Place<S::Body>, body: &mut S::Body, to: Recipient) -> Sent {
+        let Some(changes) = self.service.changes() else {
+            return self.send_whole(body, to);
+        };
+        let begun = place.known().copy.take();
+        let is_begun = begun.is_some();
+        let mut copy = begun.unwrap_or_else(|| {
+            changes.begin_copy(body);
+            OutgoingCopy::new(to.hand.generation - 1)
+        });
+        let sent = self.send_pieces((changes, body), &mut copy, to);
+        if sent != Sent::NoCopy {
+            // It ends with the body, or if the shard stays here.
+            place.known().copy = Some(copy);
+            return sent;
+        }
+        changes.end_copy(body);
+        match is_begun {
+            // A copy from the beginning is sent at once.
+            true => Sent::NotYet,
+            false => self.send_whole(body, to),
+        }
+    }
+
+    /// Sends one piece of the copy after the other.
+    fn send_pieces(
+        &self,
+        (changes, body): (&dyn Changes<S::Body>, &mut S::Body),
+        copy: &mut OutgoingCopy,
+        to: Recipient,
+    ) -> Sent {
+        loop {
+            let made = copy.piece(|| changes.next_piece(body, self.options.piece));
+            let Some(is_last) = made.map(|it| it.left == 0) else {
+                tracing::warn!(
+                    to.shard,
+                    "a piece of the body is empty, or too long to be sent"
+                );
+                return Sent::NoCopy;
+            };
+            let frame = HandFrame {
+                shard: to.shard,
+                hand: to.hand,
+                is_copy: true,
+                at: copy.at(),
+                is_last,
+                bytes: copy.bytes(),
+            };
+            match self.send_frame(to.next, frame) {
+                Sent::All if is_last => return Sent::All,
+                Sent::All => copy.note_taken(),
+                Sent::NotYet => return Sent::NotYet,
+                Sent::NoCopy => return Sent::NoCopy,
+            }
+        }
+    }
+
+    /// Sends the body as the service hands it over, in frames.
+    fn send_whole(&self, body: &mut S::Body, to: Recipient) -> Sent {
+        let bytes = self.service.hand_over(body);
+        let mut at = 0;
+        loop {
+            let end = (at + CHUNK).min(bytes.len());
+            let frame = HandFrame {
+                shard: to.shard,
+                hand: to.hand,
+                is_copy: false,
+                at: at as u64,
+                is_last: end == bytes.len(),
+                bytes: &bytes[at..end],
+            };
+            let sent = self.send_frame(to.next, frame);
+            if sent != Sent::All || end == bytes.len() {
+                return sent;
+            }
+            at = end;
+        }
+    }
+
+    fn send_frame(&self, next: u16, frame: HandFrame<'_>) -> Sent {
+        let Some(address) = self.address_of(next) else {
+            return Sent::NotYet;
+        };
+        let response = self.connections.ask(&address, &Request::Hand(frame), PIECE);
+        let shard = frame.shard;
+        match response.as_deref().map(Response::read) {
+            Ok(Ok(Response::Taken)) => Sent::All,
+            Ok(Ok(Response::NoCopy(why))) => {
+                tracing::info!(shard, next, why, "the next owner has no such copy");
+                Sent::NoCopy
+            }
+            Ok(Ok(Response::Again(why))) => {
+                tracing::info!(shard, next, why, "the next owner doesn't take the body yet");
+                Sent::NotYet
+            }
+            Ok(Ok(_)) => Sent::NotYet,
+            Ok(Err(error)) => {
+                tracing::info!(shard, next, %error, "the next owner's answer isn't read");
+                Sent::NotYet
+            }
+            Err(error) => {
+                tracing::info!(shard, next, %error, "the next owner isn't reached");
+                Sent::NotYet
+            }
+        }
+    }
+}

@@ -1,0 +1,154 @@
+use crate::frame::HandFrame;
+use crate::Fault;
+use thiserror::Error;
+use tokio::sync::OwnedSemaphorePermit;
+
+/// What comes of a shard's body from its owner to its next owner, piece by piece.
+pub(crate) struct IncomingBody<B> {
+    /// The generation of the record by which this process prepares. It is handed over by the record behind.
+    generation: u64,
+    /// How many bytes have come.
+    bytes: u64,
+    content: Content<B>,
+    /// As many bodies come to this process at once as may.
+    _place: OwnedSemaphorePermit,
+}
+
+/// What has come.
+pub(crate) enum Content<B> {
+    /// A part of the bytes of [`Service::hand_over`](crate::Service::hand_over).
+    Whole(Vec<u8>),
+    /// A body to which the service adds pieces.
+    Copy(B),
+}
+
+/// Why a piece isn't taken.
+#[derive(Debug, Error)]
+pub(crate) enum PieceFault {
+    #[error("it doesn't follow on the piece before")]
+    Unexpected,
+    #[error("it is longer than --body lets it be")]
+    TooLong,
+    #[error("the service doesn't add it: {0}")]
+    Service(Fault),
+}
+
+impl<B> IncomingBody<B> {
+    /// Returns what comes by the record of this generation, and that behind it.
+    pub(crate) fn new(
+        generation: u64,
+        content: Content<B>,
+        place: OwnedSemaphorePermit,
+    ) -> IncomingBody<B> {
+        IncomingBody {
+            generation,
+            bytes: 0,
+            content,
+            _place: place,
+        }
+    }
+
+    /// Returns how many bytes have come.
+    pub(crate) fn bytes(&self) -> u64 {
+        self.bytes
+    }
+
+    /// Returns whether the piece that is handed over is of this body.
+    pub(crate) fn is_of(&self, frame: &HandFrame<'_>) -> bool {
+        let is_copy = matches!(self.content, Content::Copy(_));
+        self.generation + 1 == frame.hand.generation && is_copy == frame.is_copy
+    }
+
+    /// Takes the piece behind `at` bytes, if it is the next one, and no more than `most` bytes have come then. A piece
+    /// that was taken last is taken again, without effect.
+    pub(crate) fn take(
+        &mut self,
+        at: u64,
+        piece: &[u8],
+        most: u64,
+        add: impl FnOnce(&mut B, &[u8]) -> Result<(), Fault>,
+    ) -> Result<(), PieceFault> {
+        let end = at.saturating_add(piece.len() as u64);
+        if at < self.bytes && end == self.bytes {
+            return Ok(());
+        }
+        if at != self.bytes {
+            return Err(PieceFault::Unexpected);
+        }
+        if end > most {
+            return Err(PieceFault::TooLong);
+        }
+        match &mut self.content {
+            Content::Whole(bytes) => bytes.extend(piece),
+            Content::Copy(body) => add(body, piece).map_err(PieceFault::Service)?,
+        }
+        self.bytes = end;
+        Ok(())
+    }
+
+    /// Returns what has come.
+    pub(crate) fn into_content(self) -> Content<B> {
+        self.content
+    }
+}
+
+#[cfg(test)]
+mod tests {
+    use super::*;
+    use durkenzo_store_sys::HandOver;
+    use std::sync::Arc;
+    use tokio::sync::Semaphore;
+
+    fn body(content: Content<Vec<u8>>) -> IncomingBody<Vec<u8>> {
+        let place = Arc::new(Semaphore::new(1)).try_acquire_owned();
+        IncomingBody::new(7, content, place.unwrap())
+    }
+
+    fn add(body: &mut Vec<u8>, piece: &[u8]) -> Result<(), Fault> {
+        if piece == b"bad" {
+            return Err("it is bad".into());
+        }
+        body.extend(piece);
+        Ok(())
+    }
+
+    #[test]
+    fn pieces_are_taken_in_their_order_and_once() {
+        for content in [Content::Whole(Vec::new()), Content::Copy(Vec::new())] {
+            let mut body = body(content);
+            let mut take = |at, piece: &[u8]| body.take(at, piece, 5, add);
+            assert!(matches!(take(2, b"cd"), Err(PieceFault::Unexpected)));
+            assert!(take(0, b"ab").is_ok() && take(0, b"ab").is_ok());
+            assert!(matches!(take(3, b"de"), Err(PieceFault::Unexpected)));
+            assert!(matches!(take(2, b"cdef"), Err(PieceFault::TooLong)));
+            assert!(take(2, b"cde").is_ok() && take(5, b"").is_ok());
+            assert_eq!(body.bytes(), 5);
+            let (Content::Whole(bytes) | Content::Copy(bytes)) = body.into_content();
+            assert_eq!(bytes, b"abcde");
+        }
+        let refused = body(Content::Copy(Vec::new())).take(0, b"bad", 5, add);
+        assert!(matches!(refused, Err(PieceFault::Service(_))));
+    }
+
+    #[test]
+    fn a_piece_is_of_the_body_whose_record_comes_before() {
+        let body = body(Content::Copy(Vec::new()));
+        let of = |generation, is_copy| {
+            let hand = HandOver {
+                joined: 1,
+                generation,
+                server: 3,
+            };
+            let (shard, at, is_last, bytes) = (0, 0, true, &b""[..]);
+            body.is_of(&HandFrame {
+                shard,
+                hand,
+                is_copy,
+                at,
+                is_last,
+                bytes,
+            })
+        };
+        assert!(of(8, true) && !of(8, false) && !of(7, true) && !of(9, true));
+    }
+}

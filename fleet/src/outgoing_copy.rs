@@ -1,0 +1,121 @@
+use crate::frame::MOST;
+use crate::Piece;
+
+/// A copy of a body, as its owner makes it piece by piece.
+pub(crate) struct OutgoingCopy {
+    /// The generation of the record by which the next owner prepares.
+    generation: u64,
+    /// The piece that was made last, which is kept until the next owner has it.
+    piece: Piece,
+    /// How many bytes came before that piece.
+    at: u64,
+    /// Whether that piece is sent unasked, and isn't known to be taken.
+    is_pending: bool,
+}
+
+impl OutgoingCopy {
+    /// Returns a copy without pieces, for the next owner by the record of this generation.
+    pub(crate) fn new(generation: u64) -> OutgoingCopy {
+        OutgoingCopy {
+            generation,
+            piece: Piece::default(),
+            at: 0,
+            is_pending: false,
+        }
+    }
+
+    pub(crate) fn generation(&self) -> u64 {
+        self.generation
+    }
+
+    /// Returns how many bytes came before the piece that was made last.
+    pub(crate) fn at(&self) -> u64 {
+        self.at
+    }
+
+    /// Returns the bytes of the piece that was made last.
+    pub(crate) fn bytes(&self) -> &[u8] {
+        &self.piece.bytes
+    }
+
+    /// Returns the piece behind so many bytes, which the next owner asks for: the last one again, or the next one, which
+    /// this makes. Returns nothing if the copy has neither, or if the piece can't be sent.
+    pub(crate) fn piece_at(&mut self, at: u64, make: impl FnOnce() -> Piece) -> Option<&Piece> {
+        if at == self.end() {
+            self.make(make);
+        }
+        (at == self.at).then(|| self.sendable())?
+    }
+
+    /// Returns the next piece for the next owner, which has all that it asked for: the last one that this returned, if
+    /// that isn't taken yet, or another one, which this makes. Returns nothing if the piece can't be sent.
+    pub(crate) fn piece(&mut self, make: impl FnOnce() -> Piece) -> Option<&Piece> {
+        if !self.is_pending {
+            self.make(make);
+        }
+        self.is_pending = true;
+        self.sendable()
+    }
+
+    /// Notes that the next owner has the piece that was made last. It lies here no more.
+    pub(crate) fn note_taken(&mut self) {
+        self.at = self.end();
+        self.piece = Piece::default();
+        self.is_pending = false;
+    }
+
+    fn make(&mut self, make: impl FnOnce() -> Piece) {
+        self.at = self.end();
+        self.piece = make();
+    }
+
+    /// Returns the piece that was made last, if it can be sent.
+    fn sendable(&self) -> Option<&Piece> {
+        let length = self.piece.bytes.len();
+        (length <= MOST && (length > 0 || self.piece.left == 0)).then_some(&self.piece)
+    }
+
+    fn end(&self) -> u64 {
+        self.at + self.piece.bytes.len() as u64
+    }
+}
+
+#[cfg(test)]
+mod tests {
+    use super::*;
+
+    fn piece(bytes: &[u8], left: u64) -> Piece {
+        let bytes = bytes.to_vec();
+        Piece { bytes, left }
+    }
+
+    #[test]
+    fn a_piece_is_made_once_and_sent_until_it_is_taken() {
+        let mut copy = OutgoingCopy::new(4);
+        let first = piece(b"abc", 2);
+        assert_eq!(copy.piece_at(0, || first.clone()), Some(&first));
+        let again = || -> Piece { panic!("it is made") };
+        assert_eq!(copy.piece_at(0, again), Some(&first));
+        assert_eq!(copy.piece_at(2, again), None);
+        let second = piece(b"de", 0);
+        assert_eq!(copy.piece_at(3, || second.clone()), Some(&second));
+        assert_eq!(copy.piece_at(0, again), None);
+        // The next owner has that one, and what has changed since comes unasked.
+        let third = piece(b"f", 0);
+        assert_eq!(copy.piece(|| third.clone()), Some(&third));
+        assert_eq!(copy.piece(again), Some(&third));
+        assert_eq!(copy.at(), 5);
+        copy.note_taken();
+        let fourth = piece(b"", 0);
+        assert_eq!(copy.piece(|| fourth.clone()), Some(&fourth));
+        assert_eq!((copy.at(), copy.generation()), (6, 4));
+    }
+
+    #[test]
+    fn a_piece_that_goes_on_without_bytes_or_is_too_long_isnt_sent() {
+        let mut copy = OutgoingCopy::new(4);
+        assert_eq!(copy.piece(|| piece(b"", 1)), None);
+        copy.note_taken();
+        assert_eq!(copy.piece(|| piece(&vec![0; MOST + 1], 0)), None);
+    }
+}
