@@ -250,17 +250,7 @@ impl<S: Service> FleetInner<S> {
             notices.teller(),
         )?;
         let member = Arc::new(member);
-        let own = Own {
-            member: member.clone(),
-            // No request of such a service goes through a log.
-            elsewhere: Box::new(|_, steps| {
-                steps
-                    .into_iter()
-                    .for_each(|it| it.work.end(Err(NotDone::Busy)));
-            }),
-            acks: Acks::ByService,
-        };
-        let (shards, tuning) = (sharding.shards(), Tuning::default());
+        let (shards, tuning, own) = (sharding.shards(), Tuning::default(), own(&member));
         let durable = Durable::open_one(store, shards, tuning, own, notices.teller())?;
         let unread = ShardView::new(options.name, 0, 0);
         let unread = unread.map_err(|it| JoinError::Options(it.to_string()))?;
@@ -419,6 +409,18 @@ impl<S: Service> FleetInner<S> {
             }
             _ => false,
         }
+    }
+}
+
+/// The member in whose name records are followed. No request of such a service goes through a log.
+fn own(member: &Arc<Member>) -> Own {
+    Own {
+        member: member.clone(),
+        elsewhere: Box::new(|_, steps| {
+            let ended = steps.into_iter();
+            ended.for_each(|it| it.work.end(Err(NotDone::Busy)));
+        }),
+        acks: Acks::ByService,
     }
 }
 
