@@ -2,10 +2,12 @@
 use crate::connections::NotAnswered;
 use crate::fleet::FleetInner;
 use crate::frame::{CallFrame, Request, Response, MOST};
+use crate::place::Place;
 use crate::queue::Turn;
 use crate::stream::is_open;
 use crate::{Destination, Enter, Mode, Permit, Service};
 use durkenzo::MOST_HOPS;
+use std::borrow::Cow;
 use std::net::TcpStream;
 use std::sync::atomic::Ordering;
 use std::time::{Duration, Instant};
@@ -13,12 +15,15 @@ use std::time::{Duration, Instant};
 /// How long a call waits until it is sent again to a server that isn't reached.
 const PAUSE: Duration = Duration::from_millis(5);
 
+/// Why a call doesn't wait.
+const FULL: &str = "as many calls wait for the shard as may";
+
 /// What became of a look.
 enum Step {
     /// The response is written.
     Done,
     /// Nothing was done yet, for this reason.
-    Waits(String),
+    Waits(Cow<'static, str>),
     /// The record by which it was sent isn't read yet. Calls behind it may go on.
     Unread,
 }
@@ -39,38 +44,38 @@ impl<S: Service> FleetInner<S> {
         }
         // Who comes later waits behind those who wait.
         let mut turn = None;
-        if !place.queue.is_empty() {
-            turn = place.queue.enter(self.options.waiting);
-            if turn.is_none() {
-                return Response::Again("as many calls wait for the shard as may").write(out);
-            }
+        if !place.queue.is_empty() && !self.has_turn(place, &mut turn) {
+            return Response::Again(FULL).write(out);
         }
-        let mut why = "calls that came before wait for the shard".to_owned();
+        let mut why = Cow::Borrowed("calls that came before wait for the shard");
         loop {
             if turn.as_ref().is_none_or(Turn::is_first) {
                 match self.look(call, client, end, &mut turn, out) {
                     Step::Done => return,
                     Step::Waits(reason) => why = reason,
                     Step::Unread => {
-                        why = "the record by which it was sent isn't read yet".to_owned();
+                        why = "the record by which it was sent isn't read yet".into();
                         drop(turn.take());
-                        std::thread::sleep(
-                            PAUSE.min(waits.saturating_duration_since(Instant::now())),
-                        );
+                        let left = waits.saturating_duration_since(Instant::now());
+                        std::thread::sleep(PAUSE.min(left));
                     }
                 }
             }
             if Instant::now() >= waits || self.is_stopping() {
                 return Response::Again(&why).write(out);
             }
-            match &turn {
-                Some(turn) => turn.wait(waits),
-                None => turn = place.queue.enter(self.options.waiting),
-            }
-            if turn.is_none() {
-                return Response::Again("as many calls wait for the shard as may").write(out);
+            if let Some(turn) = &turn {
+                turn.wait(waits);
+            } else if !self.has_turn(place, &mut turn) {
+                return Response::Again(FULL).write(out);
             }
         }
+    }
+
+    /// Takes a turn behind all others who wait. Returns whether there is room.
+    fn has_turn<'a>(&self, place: &'a Place<S::Body>, turn: &mut Option<Turn<'a>>) -> bool {
+        *turn = place.queue.enter(self.options.waiting);
+        turn.is_some()
     }
 
     /// Looks once what becomes of the call. Those behind it may look once it is decided.
@@ -99,14 +104,14 @@ impl<S: Service> FleetInner<S> {
             }
             Enter::Forward(to) => (to, self.server()),
             Enter::Elsewhere(to) => (to, 0),
-            Enter::Wait(why) => return Step::Waits(why.to_owned()),
+            Enter::Wait(why) => return Step::Waits(why.into()),
             Enter::Refused(why) => {
                 Response::Again(&why.to_string()).write(out);
                 return Step::Done;
             }
         };
         if call.hops >= MOST_HOPS {
-            return Step::Waits("it was forwarded as often as it may be".to_owned());
+            return Step::Waits("it was forwarded as often as it may be".into());
         }
         // What lay here for long, as this process was paused, is no more to be done if nobody waits for it.
         if !is_open(client) {
@@ -128,7 +133,7 @@ impl<S: Service> FleetInner<S> {
         let budget = left.as_millis() as u32;
         let Some(address) = to.address.as_deref().filter(|_| budget > 0) else {
             std::thread::sleep(PAUSE.min(left));
-            return Step::Waits(format!("server {} isn't there", to.server));
+            return Step::Waits(format!("server {} isn't there", to.server).into());
         };
         let onward = CallFrame {
             from,
@@ -151,7 +156,7 @@ impl<S: Service> FleetInner<S> {
             }
             Err(error @ NotAnswered::Unreached(..)) => {
                 std::thread::sleep(PAUSE.min(left));
-                Step::Waits(error.to_string())
+                Step::Waits(error.to_string().into())
             }
         }
     }
@@ -180,7 +185,7 @@ fn execute<S: Service>(mut permit: Permit<'_, S>, call: &CallFrame<'_>, out: &mu
 /// Writes what another server has answered, unless nothing was done there.
 fn returned(bytes: &[u8], out: &mut Vec<u8>) -> Step {
     match Response::read(bytes) {
-        Ok(Response::Again(why)) => return Step::Waits(why.to_owned()),
+        Ok(Response::Again(why)) => return Step::Waits(why.to_owned().into()),
         Ok(response) => response.write(out),
         Err(error) => Response::Unsure(&error.to_string()).write(out),
     }

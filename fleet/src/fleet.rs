@@ -254,17 +254,7 @@ impl<S: Service> FleetInner<S> {
         )?;
         let member = Arc::new(member);
         let connections = met(&member, safety, checksum(settings.as_bytes()))?;
-        let own = Own {
-            member: member.clone(),
-            // No request of such a service goes through a log.
-            elsewhere: Box::new(|_, steps| {
-                steps
-                    .into_iter()
-                    .for_each(|it| it.work.end(Err(NotDone::Busy)));
-            }),
-            acks: Acks::ByService,
-        };
-        let (shards, tuning) = (sharding.shards(), Tuning::default());
+        let (shards, tuning, own) = (sharding.shards(), Tuning::default(), own(&member));
         let durable = Durable::open_one(store, shards, tuning, own, notices.teller())?;
         let unread = ShardView::new(options.name, 0, 0);
         let unread = unread.map_err(|it| JoinError::Options(it.to_string()))?;
@@ -451,6 +441,18 @@ fn met(member: &Member, safety: &Safety, settings: u64) -> Result<Connections, J
         member.leave();
         Err(why)
     })
+}
+
+/// The member in whose name records are followed. No request of such a service goes through a log.
+fn own(member: &Arc<Member>) -> Own {
+    Own {
+        member: member.clone(),
+        elsewhere: Box::new(|_, steps| {
+            let ended = steps.into_iter();
+            ended.for_each(|it| it.work.end(Err(NotDone::Busy)));
+        }),
+        acks: Acks::ByService,
+    }
 }
 
 pub(crate) fn nanoseconds(time: Duration) -> u64 {

@@ -277,6 +277,7 @@ fn options(server: u16, lease: u64, plant: Option<Plant>) -> Options {
     (options.lease, options.plant) = (lease, plant);
     // What is left of a body comes in several pieces, before it stops and after.
     options.piece = 1;
+    options.moves = 1;
     options
 }
 
@@ -476,6 +477,87 @@ fn bodies_move_in_pieces_and_by_what_has_changed_since() {
     let came = came.lock().unwrap();
     let count = |name: &str| came.iter().filter(|it| **it == name).count();
     assert!(count("copied") == migrations, "{came:?} {migrations}");
+}
+
+/// Begins a fleet whose bodies move in pieces, each with a count of one key. Returns a shard of each other server, which
+/// go to the third one.
+fn copying() -> (Trial, [u16; 2]) {
+    let trial = Trial::new(30, true, None);
+    let router = Router::watch(&*trial.store).unwrap();
+    (0..SHARDS).for_each(|it| assert_eq!(count(&router, &key_of(&router, it)), 1));
+    let of = |owner| (0..SHARDS).find(|it| trial.owner(*it) == Some(owner));
+    let [first, second, third] = [1, 2, 3].map(|it| of(it).unwrap());
+    // So that the third one has room for both.
+    trial.migrate(third, 1);
+    (trial, [first, second])
+}
+
+impl Trial {
+    /// Whether the server has a copy of the shard's body.
+    fn has_copy(&self, shard: u16, server: u16) -> bool {
+        let places = &self.fleets[usize::from(server) - 1].inner.places;
+        places[usize::from(shard)].incoming().is_some()
+    }
+
+    /// Has the shard's copy be made for the server, or asks only for it.
+    fn prepare(&self, shard: u16, server: u16, acks: Option<u16>) {
+        let (named, to) = (shard.to_string(), server.to_string());
+        self.step(shard, &["PREPARE_ADD", &named, &to], acks);
+    }
+}
+
+#[test]
+fn a_migration_that_is_given_up_leaves_no_copy_and_ends_the_owners() {
+    let (trial, [shard, _]) = copying();
+    trial.prepare(shard, 3, Some(3));
+    assert!(trial.has_copy(shard, 3));
+    trial.command(&["CANCEL", &shard.to_string()]);
+    trial.wait_until("the next owner drops its copy", || {
+        !trial.has_copy(shard, 3)
+    });
+    let ended = || trial.came.lock().unwrap().contains(&"stayed");
+    trial.wait_until("the owner ends its copy", ended);
+    let router = Router::watch(&*trial.store).unwrap();
+    assert_eq!(count(&router, &key_of(&router, shard)), 2);
+    // It moves by another copy, for which there is room again.
+    trial.migrate(shard, 3);
+    assert_eq!(count(&router, &key_of(&router, shard)), 3);
+    trial.end();
+}
+
+#[test]
+fn the_owner_goes_on_if_the_next_one_fails_with_its_copy() {
+    let (trial, [shard, _]) = copying();
+    trial.prepare(shard, 3, Some(3));
+    trial.fleets[2].leave();
+    let ended = || trial.came.lock().unwrap().contains(&"stayed");
+    trial.wait_until("the owner ends its copy", ended);
+    let router = Router::watch(&*trial.store).unwrap();
+    assert_eq!(count(&router, &key_of(&router, shard)), 2);
+    trial.end();
+}
+
+#[test]
+fn no_more_bodies_come_at_once_than_may_and_the_next_one_follows() {
+    let (trial, [first, second]) = copying();
+    trial.prepare(first, 3, Some(3));
+    trial.prepare(second, 3, None);
+    let member = &trial.fleets[0].inner.member;
+    let has_acked = |shard| member.acked(shard, 3) == Some(trial.generation(shard));
+    assert!(trial.has_copy(first, 3));
+    // Calls of the second one are answered by its owner for as long as it waits.
+    let router = Router::watch(&*trial.store).unwrap();
+    for next in 2..30 {
+        assert_eq!(count(&router, &key_of(&router, second)), next);
+        assert!(!has_acked(second) && !trial.has_copy(second, 3));
+    }
+    trial.step(first, &["PREPARE_DROP", &first.to_string()], Some(1));
+    trial.wait_until("the second one is copied", || has_acked(second));
+    trial.add(first);
+    trial.step(second, &["PREPARE_DROP", &second.to_string()], Some(2));
+    trial.add(second);
+    assert_eq!(count(&router, &key_of(&router, second)), 30);
+    trial.end();
 }
 
 /// What clients see of migrations while this wrong rule is planted.

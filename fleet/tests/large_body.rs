@@ -52,6 +52,13 @@ fn peak(process: &Process) -> u64 {
     words.unwrap().parse().unwrap()
 }
 
+/// Has all pages be there.
+fn fill(router: &Router) {
+    let fill = [&b"fill"[..], &PAGES.to_be_bytes()].concat();
+    let filled = router.call(b"", &fill, Retry::Until(LONG)).unwrap();
+    assert_eq!(filled.bytes, PAGES.to_be_bytes());
+}
+
 /// Has the shard go to the second server, once that is there.
 fn migrate(router: &Router) {
     let migrate = || router.command(&["MIGRATE", "0", "2"], LONG).is_ok();
@@ -71,9 +78,7 @@ fn a_large_body_moves_under_load_and_neither_process_has_it_twice() {
     };
     let owner = begin("1");
     let router = Router::watch(&*store).unwrap();
-    let fill = [&b"fill"[..], &PAGES.to_be_bytes()].concat();
-    let filled = router.call(b"", &fill, Retry::Until(LONG)).unwrap();
-    assert_eq!(filled.bytes, PAGES.to_be_bytes());
+    fill(&router);
     let next = begin("2");
     let seen = Seen::default();
     let answered = |by: usize| seen.answered[by].load(Ordering::SeqCst);

@@ -18,7 +18,7 @@ pub struct Beginning {
 pub enum BeginningStep {
     /// Its server is there.
     Joined(Arc<Member>, Option<LinkShape>),
-    Waits(Beginning),
+    Waits(Box<Beginning>),
     /// It ends.
     Failed(JoinFault),
 }
@@ -55,7 +55,7 @@ impl Beginning {
     pub fn turn(self) -> BeginningStep {
         match self.joining.turn() {
             JoinStep::Joined(member) => BeginningStep::Joined(Arc::new(member), self.shape),
-            JoinStep::Waits(joining, _) => BeginningStep::Waits(Beginning { joining, ..self }),
+            JoinStep::Waits(joining, _) => BeginningStep::Waits(Box::new(Beginning { joining, ..self })),
             JoinStep::Failed(fault) => BeginningStep::Failed(fault),
         }
     }

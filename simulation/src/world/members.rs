@@ -59,7 +59,7 @@ impl World {
         };
         let (sender, watches) = (beginning.sender, self.store().watches());
         match beginning.turn() {
-            BeginningStep::Waits(beginning) => self.beginnings[place] = Some(beginning),
+            BeginningStep::Waits(beginning) => self.beginnings[place] = Some(*beginning),
             BeginningStep::Failed(fault) => self.note_unbegun(sender, &fault),
             BeginningStep::Joined(member, shape) => {
                 self.begin_shards(sender, member, shape, watches)
