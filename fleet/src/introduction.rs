@@ -105,9 +105,9 @@ mod tests {
                 generation: 1,
                 server: 2,
             },
-            is_changes: false,
+            is_copy: false,
             at: 0,
-            total: 0,
+            is_last: true,
             bytes: b"",
         });
         for (request, client, second, third) in [
