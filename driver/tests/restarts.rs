@@ -1,11 +1,12 @@
 //! A server that was stopped is up again by a later process, whoever leads by then.
 mod common;
 
-use common::cluster::{assign, campaign, kill, until, Net, Node};
+use common::cluster::{assign, campaign, kill, soon, until, Net, Node};
 use durkenzo_driver::{
-    CommandFault, ControlCommand, DurableControl, Refused, ServerRun, ServerState,
+    CommandFault, ControlCommand, DurableControl, Next, Refused, ServerRun, ServerState,
 };
 use durkenzo_store::{Embedded, Store};
+use std::sync::atomic::Ordering;
 use std::sync::Arc;
 
 /// Three processes over a store, of which each shard's owner is one.
@@ -24,18 +25,24 @@ impl Three {
         Three { store, net, nodes }
     }
 
-    /// Has server 1 be stopped for its restart, by the control of server 3.
-    fn stop(&self) -> DurableControl {
+    /// Has server 1 be let go for its restart, with its shard paused, by the control of server 3.
+    fn let_go(&self) -> DurableControl {
         let mut control = campaign(&self.nodes[2]);
         assign(&mut control, 3);
         for command in [
             ControlCommand::Ask(1),
             ControlCommand::Approve(1),
             ControlCommand::Pause(0),
-            ControlCommand::Stopped(1),
         ] {
             control.command(command).unwrap();
         }
+        control
+    }
+
+    /// Has it be stopped then.
+    fn stop(&self) -> DurableControl {
+        let mut control = self.let_go();
+        soon(&mut control, ControlCommand::Stopped(1));
         control
     }
 
@@ -93,13 +100,50 @@ fn a_server_may_be_stopped_again_once_it_is_back() {
         until("the leader sees that it is back", || {
             control.command(ControlCommand::Back(1)).is_ok()
         });
-        for command in [
-            ControlCommand::Ask(1),
-            ControlCommand::Approve(1),
-            ControlCommand::Stopped(1),
-        ] {
-            control.command(command).unwrap();
-        }
+        control.command(ControlCommand::Ask(1)).unwrap();
+        control.command(ControlCommand::Approve(1)).unwrap();
+        soon(&mut control, ControlCommand::Stopped(1));
         assert_eq!(control.run_of(1).unwrap(), three.run(ServerState::Stopped));
     }
+}
+
+#[test]
+fn a_server_is_stopped_once_it_has_let_go_of_what_is_paused() {
+    let three = Three::new();
+    three.nodes[0].is_deaf.store(true, Ordering::Release);
+    let mut control = three.let_go();
+    // It doesn't know that the shard is paused.
+    assert_eq!(control.next_of_server(1).unwrap(), Next::Waits);
+    let early = control.command(ControlCommand::Stopped(1));
+    assert!(matches!(
+        early,
+        Err(Refused::Judged(CommandFault::NotAcked))
+    ));
+    let paused = control.record(0).unwrap().unwrap();
+    let member = three.nodes[0].durable.member().unwrap();
+    member.ack(0, paused.generation);
+    let stopped = Next::Command(ControlCommand::Stopped(1));
+    until("the leader sees that it has let go", || {
+        control.next_of_server(1).unwrap() == stopped
+    });
+    control.command(ControlCommand::Stopped(1)).unwrap();
+    assert_eq!(control.run_of(1).unwrap(), three.run(ServerState::Stopped));
+}
+
+#[test]
+fn a_server_that_died_before_it_let_go_fails() {
+    let three = Three::new();
+    three.nodes[0].is_deaf.store(true, Ordering::Release);
+    let mut control = three.let_go();
+    kill(&three.nodes[0]);
+    three.nodes[0].expire();
+    until("the leader sees that it is gone", || {
+        control.fallen().unwrap() == Some(1)
+    });
+    control.command(ControlCommand::Fail(1)).unwrap();
+    assert_eq!(control.state_of(1).unwrap(), ServerState::Failed);
+    let Next::Command(command) = control.next_of_shard(0).unwrap() else {
+        panic!("its shard goes to another server");
+    };
+    control.command(command).unwrap();
 }

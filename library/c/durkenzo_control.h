@@ -164,7 +164,7 @@ uint32_t durkenzo_director_read(durkenzo_director_handle *director, uint64_t pla
 /* Judges the command of this kind, for the shard and the server that it names, where this process runs the server, 0 if
  * none was seen: 0 where it is to be sent, and nothing else until its outcome is told; or else the first fault that
  * applies. Errors: WRONG_HANDLE, BAD_ARGUMENT (also where what isn't named isn't 0), UNREAD, UNDER_WAY, NOT_FOLLOWED for
- * DROP_SHARD, NOT_ACKED for a change that waits for a server, the faults 10 to 14 and 30 to 49, and EARLIER_PROCESS: if
+ * DROP_SHARD, NOT_ACKED for a command that waits for a server, the faults 10 to 14 and 30 to 49, and EARLIER_PROCESS: if
  * STOPPED has no process to name, or BACK is of the process that was stopped. */
 uint32_t durkenzo_director_command(durkenzo_director_handle *director, uint8_t kind, uint16_t shard, uint16_t server,
                                    uint64_t process);
@@ -205,7 +205,8 @@ uint32_t durkenzo_director_forget_acks(durkenzo_director_handle *director);
 uint32_t durkenzo_director_next_of_shard(durkenzo_director_handle *director, uint16_t shard, durkenzo_step *step);
 
 /* What comes next of a server's restart: one that was asked for is approved as soon as the caps allow it, one that was
- * approved stops as soon as nothing is served there. Errors: WRONG_HANDLE, BAD_ARGUMENT, UNREAD, UNDER_WAY. */
+ * approved stops as soon as nothing is served there and the server has acked what is paused for it. Errors:
+ * WRONG_HANDLE, BAD_ARGUMENT, UNREAD, UNDER_WAY. */
 uint32_t durkenzo_director_next_of_server(durkenzo_director_handle *director, uint16_t server, durkenzo_step *step);
 
 /* What comes next of the drain of a server, or for 0 of the vacant shards: the first move of the plan begins. Where a

@@ -309,10 +309,10 @@ impl Director {
     /// What comes next of the server's restart.
     pub fn next_of_server(&self, server: ServerId) -> Result<NextStep, DirectorFault>
         ensures { IfOk result (λ step. HasControl (λ control.
-            (step ≡ server_step control server) × IsAllowed control step) self.now) }
+            (step ≡ server_step control self.now.acks.items server) × IsAllowed control step) self.now) }
     {
         let control = self.standing()?;
-        Ok(control.next_of_server(server))
+        Ok(control.next_of_server(server, &self.acks))
     }
 
     /// What comes next of the drain of the server.

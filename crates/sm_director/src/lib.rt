@@ -369,15 +369,15 @@ pub extern "C" fn durkenzo_director_next_of_shard(
     }
 }
 
-/// Writes what comes next of the server's restart.
+/// Writes what comes next of the server's restart, by the acks that were added.
 #[unsafe(no_mangle)]
 pub extern "C" fn durkenzo_director_next_of_server(
     director: &mut DirectorHandle,
     server: u16,
     step: &mut StepParts,
 ) -> u32
-    ensures told { result ≡ 0 → KeepsDirector (HasControl (λ control.
-        TellsStep step.new (server_step control server) control)) director.old.owned.state }
+    ensures told { result ≡ 0 → KeepsDirector (λ kept. HasControl (λ control.
+        TellsStep step.new (server_step control kept.acks.items server) control) kept) director.old.owned.state }
     ensures unchanged { director.new.owned.state ≡ director.old.owned.state }
 {
     let Some(server) = ServerId::new(server) else {

@@ -1,5 +1,5 @@
 -- What a control knows of the store: once it has read, and once its command was made; and which commands it may send.
-use Rattle.std.proofs.Common.{◌≡◌, ◌≢◌, ℕ, ◌<◌, Bool, true, false, List, [], ◌∷◌, ◌++◌, length, get_or, set}
+use Rattle.std.proofs.Common.{◌≡◌, ◌≢◌, ℕ, zero, suc, ◌<◌, Bool, true, false, List, [], ◌∷◌, ◌++◌, length, get_or, set}
 use Rattle.std.proofs.Common.{Option, Some, None, refl, sym, ap, subst, ◌∙◌, inl, ⊎_elim, arith}
 use Rattle.std.specs.Prelude.{IsTrue, IfSome, find, is_none, not, unwrap_or, ◌≤◌, ◌==◌, ◌&&◌, ◌||◌, ◌↔◌}
 use Rattle.std.specs.Prelude.{if◌then◌else◌}
@@ -8,6 +8,7 @@ use Rattle.std.specs.List.{AllByRecursion}
 use Rattle.std.proofs.lemmas.Bool.{cases_eq, eq-eqb, ne_eqb, ltb-true, cond-true, cond-false}
 use Rattle.std.proofs.lemmas.Bool.{and_parts, cases_lt, cond_both, eqb-true, false≢true}
 use Rattle.std.proofs.lemmas.List.{get_or_past, get_or-set_same, get_or-set_other, length-map, length-set}
+use Rattle.sm_ranges.specs.declared.stand.Stand.TheVariants.{Paused}
 use Rattle.sm_ownership.specs.declared.change.Change.{Change as AnyChange}
 use Rattle.sm_ownership.specs.declared.record.Record.{Record}
 use Rattle.sm_ownership.specs.History.{after_change, change_fits}
@@ -17,7 +18,7 @@ use Rattle.sm_place.specs.declared.server_state.ServerState.{ServerState}
 use Rattle.sm_rows.specs.declared.server_row.ServerRow.{ServerRow}
 use Rattle.sm_place.specs.declared.server_state.ServerState.TheVariants as states
 use Rattle.sm_place.specs.Books.{BooksView, IsKnown, no_server, place_of, state_of, with_state}
-use Rattle.sm_place.specs.ServerState.{is_failed}
+use Rattle.sm_place.specs.ServerState.{is_failed, is_stopped}
 use Rattle.sm_place.specs.Sound.{AreSound}
 use Rattle.sm_place.specs.lemmas.Changed.{id-at_place, length-with_stand}
 use Rattle.sm_desk.specs.declared.command.Command.{Command}
@@ -34,7 +35,7 @@ use Rattle.sm_store.specs.Store.{IsRising, revision_of, stored_record, stored_ru
 use Rattle.sm_store.specs.Deeds.{AreRight, Changing, Charter, Deed, HasLed, IsChanged, MaySend, Restarting}
 use Rattle.sm_store.specs.Deeds.{WasFound, absence_compares, at, done_at, is_next_run, read_run, transaction_of}
 use Rattle.sm_store.specs.Store.{acked_of}
-use Rattle.sm_store.specs.Waits.{HasLetGo, gives_up, has_let_go}
+use Rattle.sm_store.specs.Waits.{HasLetGo, HaveLetGo, gives_up, has_let_go}
 use Rattle.sm_store.specs.lemmas.Acks.{let_go_as_read}
 use Rattle.sm_store.specs.lemmas.Heart.{first_held, stood_among}
 use Rattle.sm_store.specs.lemmas.Views.{IsOfDeed, deeds_of_right, placement_view, rising_of_right}
@@ -48,7 +49,8 @@ use Rattle.sm_lead.specs.Commands.{unwritten, write_of}
 use Rattle.sm_lead.specs.Controls.{CommandWasMade, IsLoaded, IsReadOf, KnowsStore}
 use Rattle.sm_lead.specs.Placements.{Agrees, charter_of, desk_in, rows_of}
 use Rattle.sm_lead.specs.Sendings.{command_transaction, sending_of}
-use Rattle.sm_lead.specs.Waits.{AreAcksMade, acked_in, has_waited, lets_go, holds_of_named}
+use Rattle.sm_lead.specs.Waits.{AreAcksMade, acked_in, has_waited, holds_of_named, is_paused_for, let_paused_go}
+use Rattle.sm_lead.specs.Waits.{lets_go, lets_paused_go, may_stop}
 use Rattle.sm_lead.proofs.Agreement.{agrees_changed, agrees_entered, processes_entered, same_books}
 
 pub none_both : {A : Type 0} (a b : Option A) → option_or a b ≡ None → (a ≡ None) × (b ≡ None)
@@ -156,9 +158,11 @@ module _ {Q P : Type 0} (parts : List (Item Q) → List P) (log : List (Transact
       → is_none (desk_fault (desk_in (rows_of control.desk.books) control.desk.caps knows.read)
       (Rattle.sm_lead.specs.Placements.step_to run.state a)) ≡ true
       → is_next_run (run_at control a) run ≡ true
+      → (IsTrue control.waits → run.state ≡ states.Stopped
+      → HaveLetGo log knows.read (length (rows_of control.desk.books).shards) a)
       → MaySend (charter_of (rows_of control.desk.books) control.desk.caps control.ceiling control.waits parts) log
       (command_transaction (sending_of control (WritesState a run)))
-  restart_may a run known allows next = record {
+  restart_may a run known allows next waited = record {
     deed = Restarting control.lead.process a run control.lead.elected control.placed;
     is = refl;
     may = record {
@@ -167,6 +171,7 @@ module _ {Q P : Type 0} (parts : List (Item Q) → List P) (log : List (Transact
       placement_was = knows.placement_was;
       allowed = allows;
       next = subst (λ (before : ServerRun). is_next_run before run ≡ true) (run_is a known) next;
+      waited = waited;
     };
   }
 
@@ -220,6 +225,32 @@ module _ {Q P : Type 0} (parts : List (Item Q) → List P) (log : List (Transact
   all_let_go acks were_made k within waits None is = tt
   all_let_go acks were_made k within waits (Some server) is = one_let_go acks were_made k server within waits is
 
+  -- the server has let go of what is paused for it, as far as was read
+  paused_let_go : (acks : List AckRead) → AreAcksMade log acks → IsTrue control.waits → (server number k : ℕ)
+      → let_paused_go control acks server number ≡ true → k < number → k < length control.desk.books.shards
+      → (knows.read.records k).stand ≡ Paused server → HasLetGo log knows.read k server
+  paused_let_go acks were_made waits server (suc number) k is below within paused =
+      let state = (read_at control.records.items k).state in
+      let parts = and_parts (let_paused_go control acks server number) (lets_paused_go control acks server number) is in
+      ⊎_elim
+      (λ (same : k ≡ number).
+      let stands : state.stand ≡ Paused server = ap (λ (r : Record). r.stand) (knows.records k within) ∙ paused in
+      let one : lets_paused_go control acks server k ≡ true =
+      subst (λ (n : ℕ). lets_paused_go control acks server n ≡ true) (sym same) parts.1 in
+      let is_so : is_paused_for server state.stand ≡ true =
+      ap (is_paused_for server) stands ∙ eq-eqb server server refl in
+      one_let_go acks were_made k server within waits (must_have_read _ _ is_so one))
+      (λ (apart : k ≢ number). paused_let_go acks were_made waits server number k parts.0 (omega arith) within paused)
+      (cases_eq k number)
+  paused_let_go acks were_made waits server zero k is below within paused = absurd (omega arith)
+
+  have_let_go : (acks : List AckRead) → AreAcksMade log acks → (server : ℕ) → may_stop control acks server ≡ true
+      → IsTrue control.waits → HaveLetGo log knows.read (length (rows_of control.desk.books).shards) server
+  have_let_go acks were_made server may waits = λ k below paused.
+      let rows_len = length-map control.desk.books.shards (λ shard. shard.row) in
+      let count = knows.count in
+      paused_let_go acks were_made waits server (length control.records.items) k may (omega arith) (omega arith) paused
+
   pub may_be_sent : ((ceiling : ℕ) (state : Record) (change : AnyChange)
       → IsTrue (change_fits ceiling state 0 change)
       ↔ ((phase_fault state.stand change ≡ None) × (record_fault ceiling state ≡ None)))
@@ -255,23 +286,23 @@ module _ {Q P : Type 0} (parts : List (Item Q) → List P) (log : List (Transact
   may_be_sent exactly acks were_made process (Ask a) none waited named =
       restart_may a (run_into control process a states.Asked)
       (known_of control.desk.books a _ (none_both _ _ none).0)
-      (allowed (Ask a) (none_both _ _ none).0) named
+      (allowed (Ask a) (none_both _ _ none).0) named (λ waits stops. absurd (false≢true (ap is_stopped stops)))
   may_be_sent exactly acks were_made process (Approve a) none waited named =
       restart_may a (run_into control process a states.Approved)
       (known_of control.desk.books a _ (none_both _ _ none).0)
-      (allowed (Approve a) (none_both _ _ none).0) named
+      (allowed (Approve a) (none_both _ _ none).0) named (λ waits stops. absurd (false≢true (ap is_stopped stops)))
   may_be_sent exactly acks were_made process (Stopped a) none waited named =
       restart_may a (run_into control process a states.Stopped)
       (known_of control.desk.books a _ (none_both _ _ none).0)
-      (allowed (Stopped a) (none_both _ _ none).0) named
+      (allowed (Stopped a) (none_both _ _ none).0) named (λ waits stops. have_let_go acks were_made a waited waits)
   may_be_sent exactly acks were_made process (Back a) none waited named =
       restart_may a (run_into control process a states.Up)
       (known_of control.desk.books a _ (none_both _ _ none).0)
-      (allowed (Back a) (none_both _ _ none).0) named
+      (allowed (Back a) (none_both _ _ none).0) named (λ waits stops. absurd (false≢true (ap is_stopped stops)))
   may_be_sent exactly acks were_made process (Fail a) none waited named =
       restart_may a (run_into control process a states.Failed)
       (known_of control.desk.books a _ (none_both _ _ none).0)
-      (allowed (Fail a) (none_both _ _ none).0) named
+      (allowed (Fail a) (none_both _ _ none).0) named (λ waits stops. absurd (false≢true (ap is_stopped stops)))
 
 module _ {Q P : Type 0} where
   -- the records and states that were read stood when the command was made

@@ -22,7 +22,7 @@ use Rattle.sm_lead.specs.declared.next_step.NextStep.{NextStep}
 use Rattle.sm_lead.specs.declared.next_step.NextStep.TheVariants.{Takes, Waits, Nothing}
 use Rattle.sm_lead.specs.declared.store_control.StoreControl.{StoreControl}
 use Rattle.sm_lead.specs.Commands.{command_fault, read_at}
-use Rattle.sm_lead.specs.Waits.{lets_go}
+use Rattle.sm_lead.specs.Waits.{lets_go, may_stop}
 
 -- each of them has read the store up to this revision
 abbrev pub all_follow : List Follower → ℕ → Bool
@@ -66,11 +66,12 @@ step_of_stand desk followed acked k (Taken owner previous) = takes_once followed
 step_of_stand desk followed acked k (Paused owner) =
     if is_failed (state_of desk.books owner) then waits_for (reassignment desk k) else Nothing
 
--- how it goes on with a server in this state: a restart that was asked for is approved, and one that was approved stops
-abbrev pub step_of_state : ServerState → ℕ → NextStep
-step_of_state states.Asked server = Takes (Approve server)
-step_of_state states.Approved server = Takes (Stopped server)
-step_of_state _ server = Nothing
+-- how it goes on with a server in this state: a restart that was asked for is approved, and one that was approved
+-- stops, once it may
+abbrev pub step_of_state : Bool → ServerState → ℕ → NextStep
+step_of_state may states.Asked server = Takes (Approve server)
+step_of_state may states.Approved server = takes_once may (Stopped server)
+step_of_state may _ server = Nothing
 
 -- where nothing of a server is to be moved, the first shard left pauses, if the server's restart was approved
 abbrev pub step_of_left : Bool → List ℕ → NextStep
@@ -110,9 +111,9 @@ shard_step control followers acks k =
     (shard_at control.desk.books.shards k).stand)
 
 -- the next step of a server's restart
-abbrev pub server_step : StoreControl → ℕ → NextStep
-server_step control server = unless_refused control
-    (step_of_state (state_of control.desk.books server) server)
+abbrev pub server_step : StoreControl → List AckRead → ℕ → NextStep
+server_step control acks server = unless_refused control
+    (step_of_state (may_stop control acks server) (state_of control.desk.books server) server)
 
 -- the server is among the followers
 abbrev pub is_following : List Follower → ℕ → Bool

@@ -1,13 +1,14 @@
 -- For whom the control waits, as far as it has read acks.
-use Rattle.std.specs.Prelude.{ℕ, Bool, true, not, Option, Some, None, ◌≤◌, ◌==◌, ◌&&◌, ◌||◌, List, find, unwrap_or}
+use Rattle.std.specs.Prelude.{ℕ, zero, suc, Bool, true, false, not, Option, Some, None, ◌≤◌, ◌==◌, ◌&&◌, ◌||◌, List}
+use Rattle.std.specs.Prelude.{find, length, unwrap_or}
 use Rattle.std.specs.List.{AllByRecursion}
 use Rattle.std.specs.Option.{option_map}
 use Rattle.sm_ranges.specs.declared.stand.Stand.{Stand}
-use Rattle.sm_ranges.specs.declared.stand.Stand.TheVariants.{Prepared}
+use Rattle.sm_ranges.specs.declared.stand.Stand.TheVariants.{Paused, Prepared}
 use Rattle.sm_place.specs.Books.{state_of}
 use Rattle.sm_place.specs.ServerState.{is_failed}
 use Rattle.sm_desk.specs.declared.command.Command.{Command}
-use Rattle.sm_desk.specs.declared.command.Command.TheVariants.{Change}
+use Rattle.sm_desk.specs.declared.command.Command.TheVariants.{Change, Stopped}
 use Rattle.sm_store.specs.Store.{Transaction, acked_of}
 use Rattle.sm_store.specs.Waits.{gives_up, has_let_go}
 use Rattle.sm_lead.specs.declared.ack_read.AckRead.{AckRead}
@@ -18,6 +19,11 @@ use Rattle.sm_lead.specs.Commands.{read_at}
 abbrev pub acked_in : List AckRead → ℕ → ℕ → ℕ
 acked_in acks shard server =
     unwrap_or (option_map (λ ack. ack.generation) (find (λ ack. ack.shard == shard && ack.server == server) acks)) 0
+
+-- a shard of this stand is paused, and the server owns it
+abbrev pub is_paused_for : ℕ → Stand → Bool
+is_paused_for server (Paused owner) = owner == server
+is_paused_for server stand = false
 
 -- the server has acked the shard's record, as far as was read, or has failed; a control that doesn't wait takes it so
 abbrev pub lets_go : StoreControl → List AckRead → ℕ → ℕ → Bool
@@ -31,10 +37,26 @@ abbrev pub holds_of_named : (ℕ → Bool) → Option ℕ → Bool
 holds_of_named holds None = true
 holds_of_named holds (Some server) = holds server
 
+-- the server has let go of the shard, if that is paused for it
+abbrev pub lets_paused_go : StoreControl → List AckRead → ℕ → ℕ → Bool
+lets_paused_go control acks server shard =
+    not (is_paused_for server (read_at control.records.items shard).state.stand) || lets_go control acks shard server
+
+-- it has let go of each of the first shards, so many, that is paused for it
+abbrev pub let_paused_go : StoreControl → List AckRead → ℕ → ℕ → Bool
+let_paused_go control acks server zero = true
+let_paused_go control acks server (suc shard) =
+    let_paused_go control acks server shard && lets_paused_go control acks server shard
+
+-- the server has let go of all that is paused for it, or the control doesn't wait
+abbrev pub may_stop : StoreControl → List AckRead → ℕ → Bool
+may_stop control acks server = let_paused_go control acks server (length control.records.items)
+
 -- whoever the command waits for has let go, or the control doesn't wait
 abbrev pub has_waited : StoreControl → List AckRead → Command → Bool
 has_waited control acks (Change shard change) =
     holds_of_named (lets_go control acks shard) (gives_up (read_at control.records.items shard).state.stand change)
+has_waited control acks (Stopped server) = may_stop control acks server
 has_waited control acks command = true
 
 -- the next owner of a shard that is prepared for it

@@ -12,13 +12,14 @@ pub struct AckRead {
     pub generation: u64,
 }
 
-/// Returns the generation up to which the server has acked the shard, as far as was read; 0 if it hasn't.
-pub(crate) fn acked_in(acks: &[AckRead], shard: ShardId, server: ServerId) -> u64
+/// Returns the generation up to which the server has acked the shard of this number, as far as was read; 0 if it
+/// hasn't.
+pub(crate) fn acked_in(acks: &[AckRead], shard: usize, server: ServerId) -> u64
     ensures { result ≡ acked_in acks.now shard server }
 {
     let found = acks
         .iter()
-        .find(|ack| ack.shard == shard && ack.server == server);
+        .find(|ack| ack.shard.index() == shard && ack.server == server);
     match found {
         Some(ack) => ack.generation,
         None => 0,

@@ -43,12 +43,14 @@ impl StoreControl {
     }
 
     /// How it goes on with the server's restart: one that was asked for is approved as soon as the caps allow it, and
-    /// one that was approved stops as soon as nothing is served there.
-    pub fn next_of_server(&self, server: ServerId) -> NextStep
-        ensures exact { result ≡ server_step self.now server }
+    /// one that was approved stops as soon as nothing is served there, and the server has let go of what is paused for
+    /// it.
+    pub fn next_of_server(&self, server: ServerId, acks: &[AckRead]) -> NextStep
+        ensures exact { result ≡ server_step self.now acks.now server }
         ensures allowed { IsAllowed self.now result }
     {
-        self.unless_refused(step_of_state(state_of(&self.desk, server), server))
+        let may = self.may_stop(acks, server);
+        self.unless_refused(step_of_state(may, state_of(&self.desk, server), server))
     }
 
     /// How it goes on with the drain of a server: the first move of its plan begins; where there is none and the
@@ -205,13 +207,17 @@ fn step_of_reassignment(desk: &Desk, k: ShardId) -> NextStep
     }
 }
 
-// The step of a server in this state.
-fn step_of_state(state: ServerState, server: ServerId) -> NextStep
-    ensures { result ≡ step_of_state state server }
+// The step of a server in this state, which may be stopped or not.
+fn step_of_state(may: bool, state: ServerState, server: ServerId) -> NextStep
+    ensures { result ≡ step_of_state may state server }
 {
     match state {
         ServerState::Asked => NextStep::Takes(Command::Approve(server)),
-        ServerState::Approved => NextStep::Takes(Command::Stopped(server)),
+        ServerState::Approved => if may {
+            NextStep::Takes(Command::Stopped(server))
+        } else {
+            NextStep::Waits
+        },
         ServerState::Up | ServerState::Stopped | ServerState::Failed => NextStep::Nothing,
     }
 }

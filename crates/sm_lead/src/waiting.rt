@@ -1,7 +1,8 @@
 //! For whom a control waits, by the acks that it has read.
 
-ghost use Rattle.std.specs.Prelude.{◌≡◌};
-ghost use Rattle.sm_lead.specs.Waits.{has_waited, is_prepared, lets_go, prepared_of};
+ghost use Rattle.std.specs.Prelude.{◌≡◌, ◌<◌, length};
+ghost use Rattle.sm_lead.specs.Waits.{has_waited, is_paused_for, is_prepared, lets_go, lets_paused_go, may_stop};
+ghost use Rattle.sm_lead.specs.Waits.{prepared_of};
 
 use crate::ack_read::{AckRead, acked_in};
 use crate::record_read::read_at;
@@ -21,7 +22,32 @@ impl StoreControl {
     {
         let state = read_at(&self.records, shard).state;
         let failed = is_failed(state_of(&self.desk, server));
-        !self.waits || has_let_go(&state, acked_in(acks, shard, server), failed)
+        !self.waits || has_let_go(&state, acked_in(acks, shard.index(), server), failed)
+    }
+
+    /// Returns whether the server has let go of all that is paused for it, as it must before it is stopped: it has
+    /// acked each of those records, as far as was read, or has failed; `true` if the control doesn't wait.
+    pub fn may_stop(&self, acks: &[AckRead], server: ServerId) -> bool
+        ensures { result ≡ may_stop self.now acks.now server }
+    {
+        let mut let_go = true;
+        for shard in 0..self.records.len() {
+            let_go = let_go && self.lets_paused_go(acks, server, shard);
+        }
+        let_go
+    }
+
+    // Whether the server has let go of the shard of this number, if that is paused for it.
+    fn lets_paused_go(&self, acks: &[AckRead], server: ServerId, shard: usize) -> bool
+        requires { shard < length self.now.records.items }
+        ensures { result ≡ lets_paused_go self.now acks.now server shard }
+    {
+        let state = self.records[shard].state;
+        if !is_paused_for(server, state.stand) || !self.waits {
+            return true;
+        }
+        let failed = is_failed(state_of(&self.desk, server));
+        has_let_go(&state, acked_in(acks, shard, server), failed)
     }
 
     /// Returns whether the next owner has acked the record of a prepared shard, or has failed; `true` if the control
@@ -35,8 +61,8 @@ impl StoreControl {
         }
     }
 
-    /// Returns whether the server that the command waits for has acked the record, or has failed. Commands wait for a
-    /// server if they are `AddShard`, `Reassign`, or `Cancel` once the shard forwards, and the control waits.
+    /// Returns whether the server that the command waits for has acked the record, or has failed. If the control waits,
+    /// commands wait for a server that are `AddShard`, `Reassign`, `Cancel` once the shard forwards, or `Stopped`.
     pub fn has_waited(&self, acks: &[AckRead], command: &Command) -> bool
         ensures { result ≡ has_waited self.now acks.now command.now }
     {
@@ -48,12 +74,23 @@ impl StoreControl {
                     None => true,
                 }
             }
-            Command::Ask(_)
-            | Command::Approve(_)
-            | Command::Stopped(_)
-            | Command::Back(_)
-            | Command::Fail(_) => true,
+            Command::Stopped(server) => self.may_stop(acks, *server),
+            Command::Ask(_) | Command::Approve(_) | Command::Back(_) | Command::Fail(_) => true,
         }
+    }
+}
+
+// Whether a shard of this stand is paused, and the server owns it.
+fn is_paused_for(server: ServerId, stand: Stand) -> bool
+    ensures { result ≡ is_paused_for server stand }
+{
+    match stand {
+        Stand::Paused(owner) => owner == server,
+        Stand::Vacant
+        | Stand::Serving(_)
+        | Stand::Prepared { .. }
+        | Stand::Forwarding { .. }
+        | Stand::Taken { .. } => false,
     }
 }
 

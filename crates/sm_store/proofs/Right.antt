@@ -18,7 +18,7 @@ use Rattle.sm_store.specs.Deeds.{absence_compares, done_at}
 use Rattle.sm_store.specs.Deeds.{IsChanged, MayAck, ShardLog, is_next_run, read_run}
 use Rattle.sm_store.specs.Deeds.{shard_log, WasFound, MayDo, MayName, MayClear, IsHonest, IsBehind, IsRight}
 use Rattle.sm_store.specs.Deeds.{HasLed, IsRightBase, AreRight}
-use Rattle.sm_store.specs.Waits.{HasWaited, MayLetGo}
+use Rattle.sm_store.specs.Waits.{HasWaited, HaveLetGo, MayLetGo}
 use Rattle.sm_store.specs.lemmas.Heads.{read_until, risen}
 use Rattle.sm_store.specs.lemmas.Heart.{first_held, stands, stands_among, unwritten}
 use Rattle.sm_store.specs.lemmas.Logs.{all_map}
@@ -175,6 +175,8 @@ module _ {Q P : Type 0} (charter : Charter Q P) where
         next = subst (λ (p : Placement). IsTrue (is_next_run (read_run p server) run)) (sym now) may.next;
         absent = λ is. absent_then log server (subst (λ (s : ServerState).
             all_hold log (absence_compares server s) ≡ true) is second.1);
+        waited = λ waits stops. subst (λ (p : Placement). HaveLetGo log p charter.count server) (sym now)
+            (may.waited waits stops);
       }
   right_one log (Settling settings) right held may =
       never_settled log (rising_of_right charter log right) (first_held log settings_key 0 [] held).0

@@ -9,7 +9,7 @@ use Rattle.sm_ownership.specs.declared.record.Record.{Record}
 use Rattle.sm_ownership.specs.History.{after_change, change_fits}
 use Rattle.sm_ownership.specs.Rules.{accepts}
 use Rattle.sm_place.specs.declared.server_state.ServerState.{ServerState}
-use Rattle.sm_place.specs.declared.server_state.ServerState.TheVariants.{Failed}
+use Rattle.sm_place.specs.declared.server_state.ServerState.TheVariants.{Failed, Stopped}
 use Rattle.sm_place.specs.ServerState.{is_stopped, is_up}
 use Rattle.sm_store.specs.declared.compare.Compare.{Compare}
 use Rattle.sm_store.specs.declared.head.Head.{Head}
@@ -26,7 +26,7 @@ use Rattle.sm_store.specs.Store.{placement_key, settings_key, revision_of, all_h
 use Rattle.sm_store.specs.Store.{placement_of, server_key, stored_run, stored_settings, head_of, part_at, made}
 use Rattle.sm_store.specs.Store.{made_until}
 use Rattle.sm_store.specs.Store.{last_revision, made_at, unmade}
-use Rattle.sm_store.specs.Waits.{HasWaited, MayLetGo}
+use Rattle.sm_store.specs.Waits.{HasWaited, HaveLetGo, MayLetGo}
 
 -- what all processes go by: how many shards there are, the greatest generation of a record, which changes and states
 -- the control allows by the records and states as they are, whether commands wait for acks, and the parts of a base
@@ -174,7 +174,8 @@ pub record MayChange {Q P : Type 0} (charter : Charter Q P) (log : List (Transac
   pub changed : IsChanged charter.ceiling (read.records shard) change next
   pub waited : IsTrue charter.waits → HasWaited log read shard change
 
--- and whose step of a restart they allow, of a process that may be named then
+-- and whose step of a restart they allow, of a process that may be named then; a server that is to be stopped has let
+-- go of what is paused for it
 pub record MayRestart {Q P : Type 0} (charter : Charter Q P) (log : List (Transaction Q P)) (process server : ℕ)
     (run : ServerRun) (elected placed : ℕ) : Type 0 where
   pub led : HasLed log process elected
@@ -182,6 +183,7 @@ pub record MayRestart {Q P : Type 0} (charter : Charter Q P) (log : List (Transa
   pub placement_was : WasFound placement_of placement_key log read placed
   pub allowed : IsTrue (charter.allows_state read server run.state)
   pub next : IsTrue (is_next_run (read_run read server) run)
+  pub waited : IsTrue charter.waits → run.state ≡ Stopped → HaveLetGo log read charter.count server
 
 -- one who has read the record, and head and requests
 pub record MayExecute {Q P : Type 0} (charter : Charter Q P) (log : List (Transaction Q P)) (shard server : ℕ)
@@ -289,13 +291,15 @@ pub record IsRightChange {Q P : Type 0} (charter : Charter Q P) (log : List (Tra
   pub waited : IsTrue charter.waits → HasWaited log (placement_of log) shard change
 
 -- the step of a restart is made by who leads, and all records and states allow it, of a process that may be named then;
--- a server is said to have failed while its key isn't there
+-- a server is said to have failed while its key isn't there; and if commands wait, one is stopped once it has let go of
+-- what is paused for it
 pub record IsRightRestart {Q P : Type 0} (charter : Charter Q P) (log : List (Transaction Q P)) (process server : ℕ)
     (run : ServerRun) : Type 0 where
   pub leads : leader_of log ≡ process
   pub allowed : IsTrue (charter.allows_state (placement_of log) server run.state)
   pub next : IsTrue (is_next_run (stored_run server log) run)
   pub absent : run.state ≡ Failed → revision_of (server_key server) log ≡ 0
+  pub waited : IsTrue charter.waits → run.state ≡ Stopped → HaveLetGo log (placement_of log) charter.count server
 
 -- the requests are executed by the server that the record accepts, and come next in the log
 pub record IsRightBatch {Q P : Type 0} (charter : Charter Q P) (log : List (Transaction Q P)) (shard server : ℕ)

@@ -1,4 +1,4 @@
--- For whom a change of a record waits, and when a server has let go.
+-- For whom a change of a record waits, and a step of a restart, and when a server has let go.
 use Rattle.std.specs.Prelude.{ℕ, Bool, Option, Some, None, IfSome, ◌≡◌, ◌≢◌, ◌<◌, ◌≤◌, ◌⊎◌, ◌||◌, List, nat_le}
 use Rattle.sm_ranges.specs.declared.stand.Stand.{Stand}
 use Rattle.sm_ranges.specs.declared.stand.Stand.TheVariants.{Forwarding, Paused}
@@ -25,7 +25,12 @@ HasLetGo log read shard server =
 abbrev pub HasWaited : {Q P : Type 0} → List (Transaction Q P) → Placement → ℕ → Change → Type 0
 HasWaited log read shard change = IfSome (gives_up (read.records shard).stand change) (HasLetGo log read shard)
 
--- the same, as far as was read of the server: the generation up to which it acked, and whether it failed
+-- the server has let go of each of the first shards, so many, that is paused for it
+abbrev pub HaveLetGo : {Q P : Type 0} → List (Transaction Q P) → Placement → ℕ → ℕ → Type 0
+HaveLetGo log read count server =
+    (shard : ℕ) → shard < count → (read.records shard).stand ≡ Paused server → HasLetGo log read shard server
+
+-- it has let go, as far as was read of the server: the generation up to which it acked, and whether it failed
 abbrev pub has_let_go : Record → ℕ → Bool → Bool
 has_let_go state acked failed = nat_le state.generation acked || failed
 

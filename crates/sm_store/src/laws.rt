@@ -34,11 +34,11 @@ pub fn read_stands<Q, P>()
 
 /// Each transaction of an honest store, to which all sent only what they might, was right for the store before
 /// it: a change of a record or a state was made by who led then, and the rule allowed it by all records and states as
-/// they were, of a server that failed while its key wasn't there, and of a process that its state might name; whoever a
-/// change waits for had let go; a server acked over its own key, as it told it last, and no record by which it
-/// executes; a batch was made by the server that the record accepts, with requests that come next; a head names a base
-/// that lies there whole; settings were the first; what was deleted lay behind the base, or was a lease; and revisions
-/// rise.
+/// they were, of a server that failed while its key wasn't there, and of a process that its state might name; if
+/// commands wait, whoever a change waits for had let go, and a server that was stopped had of what was paused for it; a
+/// server acked over its own key, as it told it last, and no record by which it executes; a batch was made by the
+/// server that the record accepts, with requests that come next; a head names a base that lies there whole; settings
+/// were the first; what was deleted lay behind the base, or was a lease; and revisions rise.
 pub fn honest_is_right<Q, P>()
     ensures { (charter : Charter Q P) (log : List (Transaction Q P)) → IsHonest charter log → AreRight charter log }
 {}

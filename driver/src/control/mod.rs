@@ -3,7 +3,7 @@ mod intents;
 
 use crate::command::{ControlCommand, Next, Subject};
 use crate::plan::planned;
-use crate::proved::{CommandTransaction, Director};
+use crate::proved::{AckRead, CommandTransaction, Director};
 use crate::{keys, process, CoreFault, Durable, Live, Refused, ServerRun, ServerState};
 use durkenzo::{word, Plan, Record, Stand};
 use durkenzo_store::{Outcome, Reading, Revision, Transaction, WriteError};
@@ -206,25 +206,43 @@ impl DurableControl {
         }
     }
 
-    /// Tells the director which of the servers that the shard's record names have acked it, if it waits for one: as
-    /// this process has seen acks, which count once they were made.
-    fn hear_acks(&mut self, shard: u16) -> Result<(), Refused> {
+    /// Tells the director the acks of what the subject waits for, as this process has seen them; they count once they
+    /// were made. If this process has all servers, nothing waits.
+    fn hear_acks(&mut self, subject: Subject) -> Result<(), Refused> {
         let Some(member) = self.durable.member().cloned() else {
             return Ok(());
         };
-        let Some(record) = self.record_read(shard)? else {
-            return Ok(());
-        };
-        let named = match record.stand {
-            Stand::Prepared { owner, next } | Stand::Forwarding { owner, next } => {
-                [Some(owner), Some(next)]
+        let mut acks = Vec::new();
+        for (shard, server) in self.awaited(subject)? {
+            let generation = member.acked(shard, server);
+            acks.extend(generation.map(|generation| AckRead {
+                shard,
+                server,
+                generation,
+            }));
+        }
+        self.director.acked(acks.into_iter()).map_err(Refused::of)
+    }
+
+    /// The servers whose acks may be waited for, each with the shard: those that the shard's record names, or the server
+    /// with each shard that is paused for it.
+    fn awaited(&mut self, subject: Subject) -> Result<Vec<(u16, u16)>, Refused> {
+        let mut awaited = Vec::new();
+        match subject {
+            Subject::Shard(shard) => {
+                let named = self.record_read(shard)?.map(|it| [it.owner(), it.other()]);
+                awaited.extend(named.into_iter().flatten().flatten().map(|it| (shard, it)));
             }
-            Stand::Paused(owner) => [Some(owner), None],
-            Stand::Vacant | Stand::Serving(_) | Stand::Taken { .. } => return Ok(()),
-        };
-        let acked = |it| Some((it, member.acked(shard, it)?));
-        let heard = named.into_iter().flatten().filter_map(acked);
-        self.director.acked(shard, heard).map_err(Refused::of)
+            Subject::Server(server) => {
+                for shard in 0..self.durable.shards() {
+                    let stand = self.record_read(shard)?.map(|it| it.stand);
+                    if stand == Some(Stand::Paused(server)) {
+                        awaited.push((shard, server));
+                    }
+                }
+            }
+        }
+        Ok(awaited)
     }
 
     /// Makes the command, or says why not.
@@ -251,9 +269,7 @@ impl DurableControl {
             if let ControlCommand::DropShard(shard) = command {
                 self.follow_if_taken(shard)?;
             }
-            if let Subject::Shard(shard) = command.subject() {
-                self.hear_acks(shard)?;
-            }
+            self.hear_acks(command.subject())?;
             let runs = self.process_of(command)?;
             self.director.command(command, runs).map_err(Refused::of)?;
             let sending = self.director.sending().map_err(Refused::of)?;
@@ -340,13 +356,14 @@ impl DurableControl {
     pub fn next_of_shard(&mut self, shard: u16) -> Result<Next, Refused> {
         self.catch_up()?;
         self.follow_if_taken(shard)?;
-        self.hear_acks(shard)?;
+        self.hear_acks(Subject::Shard(shard))?;
         self.director.next_of_shard(shard).map_err(Refused::of)
     }
 
     /// What comes next of the server's restart.
     pub fn next_of_server(&mut self, server: u16) -> Result<Next, Refused> {
         self.catch_up()?;
+        self.hear_acks(Subject::Server(server))?;
         self.director.next_of_server(server).map_err(Refused::of)
     }
 

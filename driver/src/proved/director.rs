@@ -27,6 +27,14 @@ impl CommandTransaction {
     }
 }
 
+/// The generation up to which a server was read to have acked a shard's records.
+#[derive(Clone, Copy, Debug)]
+pub(crate) struct AckRead {
+    pub(crate) shard: u16,
+    pub(crate) server: u16,
+    pub(crate) generation: u64,
+}
+
 /// A proved control of a store.
 #[derive(Debug)]
 pub(crate) struct Director {
@@ -120,16 +128,11 @@ impl Director {
         Ok(())
     }
 
-    /// These servers have acked the shard's records, each up to that generation. What was told of other shards is
-    /// forgotten.
-    pub(crate) fn acked(
-        &mut self,
-        shard: u16,
-        servers: impl Iterator<Item = (u16, u64)>,
-    ) -> Result<(), CoreFault> {
+    /// These are the acks that were read. Those that were told before are forgotten.
+    pub(crate) fn acked(&mut self, acks: impl Iterator<Item = AckRead>) -> Result<(), CoreFault> {
         self.control.forget_acks()?;
-        for (server, generation) in servers {
-            self.control.ack(shard, server, generation)?;
+        for ack in acks {
+            self.control.ack(ack.shard, ack.server, ack.generation)?;
         }
         Ok(())
     }

@@ -3,5 +3,5 @@ mod core;
 mod director;
 
 pub(crate) use core::Core;
-pub(crate) use director::{CommandTransaction, Director};
+pub(crate) use director::{AckRead, CommandTransaction, Director};
 pub(crate) use durkenzo_store_sys::ServerRequest;

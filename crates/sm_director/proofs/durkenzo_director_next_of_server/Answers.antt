@@ -10,9 +10,11 @@ use Rattle.sm_director.proofs.durkenzo_director_next_of_server.Goals as goal
 pub returns-in-Ok-clause-told : goal.returns-in-Ok-clause-told
 returns-in-Ok-clause-told c =
     let found = c.in-Ok.ensures in
-    let step = found.2.0 ∙ ap (λ (server : ℕ). server_step found.0 server) c.in-Some.ensures.value in
-    λ _. subst (λ (state : Option Director). KeepsDirector (HasControl (λ control. TellsStep c.parts_of.result
-    (server_step control c.args.server) control)) state) (sym c.state_mut.ensures.value) (
+    let step = found.2.0
+    ∙ ap (λ (server : ℕ). server_step found.0 c.state_mut.result.now.acks.items server) c.in-Some.ensures.value in
+    λ _. subst (λ (state : Option Director). KeepsDirector (λ kept. HasControl (λ control. TellsStep
+    c.parts_of.result (server_step control kept.acks.items c.args.server) control) kept) state)
+    (sym c.state_mut.ensures.value) (
       found.0,
       found.1,
       (

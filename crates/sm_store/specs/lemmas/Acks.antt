@@ -7,7 +7,7 @@ use Rattle.sm_place.specs.declared.server_state.ServerState.TheVariants.{Failed}
 use Rattle.sm_store.specs.Store.{Ack, Write, Leads, Stands, Enters, Commands, Settles, Heads, Executes, Bases, Follows}
 use Rattle.sm_store.specs.Store.{Acks, Deletes, Elsewhere, Placement, Transaction, acked, acked_among, acked_of}
 use Rattle.sm_store.specs.Store.{left_by}
-use Rattle.sm_store.specs.Waits.{HasLetGo, HasWaited, gives_up, has_let_go}
+use Rattle.sm_store.specs.Waits.{HasLetGo, HasWaited, HaveLetGo, gives_up, has_let_go}
 
 pub among_rises : (shard : ℕ) (acks : List Ack) (before : ℕ) → before ≤ acked_among shard acks before
 among_rises shard [] before = omega arith
@@ -56,6 +56,11 @@ module _ {Q P : Type 0} where
   let_go_grows later past read shard server (inl within) =
       let more = acks_grow {Q = Q} {P = P} shard server later past in inl (omega arith)
   let_go_grows later past read shard server (inr failed) = inr failed
+
+  pub have_let_go_grows : (later past : List (Transaction Q P)) (read : Placement) (count server : ℕ)
+      → HaveLetGo past read count server → HaveLetGo (later ++ past) read count server
+  have_let_go_grows later past read count server have = λ shard within paused.
+      let_go_grows later past read shard server (have shard within paused)
 
   waited_for : (later past : List (Transaction Q P)) (read : Placement) (shard : ℕ) (found : Option ℕ)
       → IfSome found (HasLetGo past read shard) → IfSome found (HasLetGo (later ++ past) read shard)

@@ -14,7 +14,7 @@ use Rattle.sm_store.specs.Deeds.{Clearing, Following, Restarting, Settling, Chec
 use Rattle.sm_store.specs.Deeds.{IsRight, MayAck, MayClear, MayDo, MaySend}
 use Rattle.sm_store.specs.Deeds.{WasFound, transaction_of}
 use Rattle.sm_store.specs.System.{Ask, Claim, Replies, Overtaken, Reads, IsSo, WasAsked}
-use Rattle.sm_store.specs.lemmas.Acks.{waited_grows}
+use Rattle.sm_store.specs.lemmas.Acks.{have_let_go_grows, waited_grows}
 use Rattle.sm_store.specs.lemmas.Logs.{all_map}
 use Rattle.sm_store.specs.lemmas.Numbers.{next-append, over_grows, reply-append}
 
@@ -129,6 +129,7 @@ module _ {Q P : Type 0} (charter : Charter Q P) where
     placement_was = found_grows _ _ more log _ _ may.placement_was;
     allowed = may.allowed;
     next = may.next;
+    waited = λ waits stops. have_let_go_grows more log may.read charter.count server (may.waited waits stops);
   }
   may_grow more log (Settling settings) may = tt
   may_grow more log (Following server revision acks told) may =
