@@ -24,7 +24,7 @@ use Rattle.sm_shard.specs.declared.steps.ShardOutput.{ShardOutput}
 use Rattle.sm_shard.specs.declared.steps.ShardOutput.TheVariants.{Sends, Answers, Bases, Clears}
 use Rattle.sm_shard.specs.ShardServers.{IsTrueOf, StoreLog, basing_by, parts_transactions, sending_transaction}
 use Rattle.sm_shard.specs.ShardServers.{sent_transaction}
-use Rattle.sm_shard.specs.Steps.{IsOutputOf, IsStepOf, KeepsAsked}
+use Rattle.sm_shard.specs.Steps.{IsCaughtUp, IsOutputOf, IsStepOf, KeepsAsked}
 use Rattle.sm_store.specs.declared.store_key.PassingKey.{PassingKey}
 use Rattle.sm_store.specs.declared.store_key.PassingKey.TheVariants.{Batch, Part as PartKey}
 use Rattle.sm_texts.specs.declared.text_reply.TextReply.{TextReply}
@@ -66,6 +66,7 @@ pub record StepsOn (old : TextServer) (is_input : TextInput → Type 0) (output 
   pub exact : IsOutputOf texts_service request_size old.core input output
   pub call : IsStepOf texts_service old.core input (Ok output) new.core
   pub asked_for : KeepsAsked old.core input (Ok output) new.core
+  pub caught_up : IsCaughtUp old.core input new.core
   pub me : new.core.me ≡ old.core.me
   pub shard : new.core.shard ≡ old.core.shard
   pub count : new.core.count ≡ old.core.count

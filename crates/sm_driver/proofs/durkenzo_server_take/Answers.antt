@@ -20,6 +20,7 @@ returns-in-Ok-take c =
               exact = steps.exact;
               call = steps.call;
               asked_for = steps.asked_for;
+              caught_up = steps.caught_up;
               me = steps.me;
               shard = steps.shard;
               count = steps.count;

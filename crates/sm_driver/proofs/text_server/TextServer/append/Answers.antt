@@ -24,6 +24,7 @@ returns c =
           exact = step.exact;
           call = step.call;
           asked_for = step.asked_for;
+          caught_up = step.caught_up;
           me = step.me;
           shard = step.shard;
           count = step.count;
