@@ -105,3 +105,65 @@ fn a_server_is_stopped_of_a_process_and_up_again_by_a_later_one() {
     let up = make(&mut core, DirectorStep::BACK, 6);
     assert_eq!(up, Err(Code::DIRECTOR_ALREADY_UP));
 }
+
+/// What lies at the key of a shard's record of this word, by process 7.
+fn record(word: u64) -> Vec<u8> {
+    [&[1][..], &word.to_be_bytes(), &7u64.to_be_bytes()].concat()
+}
+
+/// Has the control read the first shard's record, and that nothing else was written.
+fn read(core: &mut Director, word: u64) {
+    core.record(&record(word), 2).unwrap();
+    core.record(&UNWRITTEN, 0).unwrap();
+    (0..3).for_each(|_| core.state(&UNWRITTEN).unwrap());
+    core.read(2).unwrap();
+}
+
+#[test]
+fn a_command_waits_for_acks_unless_one_process_has_all_servers() {
+    // Shard 0 is forwarded by server 1 to server 2, in generation 5.
+    let word = 3 << 61 | 1 << 48 | 2 << 36 | 5;
+    let adds = DirectorStep::of_shard(DirectorStep::ADD_SHARD, 0, 0);
+    let mut core = Director::new(SETTINGS, 7, 3).unwrap();
+    read(&mut core, word);
+    assert_eq!(core.next_of_shard(0).unwrap().kind, DirectorStep::WAITS);
+    assert_eq!(core.command(adds, 0), Err(Code::DIRECTOR_NOT_ACKED));
+    core.ack(0, 1, 5).unwrap();
+    assert_eq!(core.next_of_shard(0), Ok(adds));
+    core.command(adds, 0).unwrap();
+    let mut alone = Director::alone(SETTINGS, 7, 3).unwrap();
+    read(&mut alone, word);
+    assert_eq!(alone.next_of_shard(0), Ok(adds));
+    alone.command(adds, 0).unwrap();
+}
+
+#[test]
+fn a_server_is_stopped_once_it_has_acked_what_is_paused_for_it() {
+    // Shard 0 is paused, and server 2 owns it, in generation 4.
+    let word = 5 << 61 | 2 << 48 | 4;
+    for (is_alone, early) in [(false, Err(Code::DIRECTOR_NOT_ACKED)), (true, Ok(()))] {
+        let made = match is_alone {
+            true => Director::alone(SETTINGS, 7, 3),
+            false => Director::new(SETTINGS, 7, 3),
+        };
+        let mut core = made.unwrap();
+        read(&mut core, word);
+        for (kind, revision) in [(DirectorStep::ASK, 4), (DirectorStep::APPROVE, 5)] {
+            core.command(DirectorStep::of_server(kind, 2), 9).unwrap();
+            core.made(revision).unwrap();
+        }
+        let stops = DirectorStep::of_server(DirectorStep::STOPPED, 2);
+        assert_eq!(core.next_of_server(2).unwrap() == stops, is_alone);
+        // An ack of the record before isn't enough.
+        core.ack(0, 2, 3).unwrap();
+        assert_eq!(core.command(stops, 9), early);
+        if !is_alone {
+            core.forget_acks().unwrap();
+            core.ack(0, 2, 4).unwrap();
+            assert_eq!(core.next_of_server(2), Ok(stops));
+            core.command(stops, 9).unwrap();
+        }
+        core.made(6).unwrap();
+        assert_eq!(core.state_of(2), Ok((3, 9)));
+    }
+}
