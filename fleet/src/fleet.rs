@@ -6,6 +6,7 @@ use crate::listener::Listener;
 use crate::permit::BodyGuard;
 use crate::place::{Known, Place};
 use crate::retry::end_of;
+use crate::settings::Settings;
 use crate::stream::left;
 use crate::{
     settings, Destination, Enter, JoinError, Mode, Options, Permit, Refused, Safety, Service,
@@ -86,7 +87,7 @@ impl<S: Service> Fleet<S> {
         options: Options,
         store: Arc<dyn Store>,
     ) -> Result<Fleet<S>, JoinError> {
-        let sharding = options.sharding()?;
+        let settings = options.settings()?;
         let safety = options.guarded()?;
         // Each connection has a descriptor.
         raise_limit();
@@ -97,7 +98,7 @@ impl<S: Service> Fleet<S> {
             .unwrap_or_else(|| address.to_string());
         let (notices, noticed) = Notices::new();
         let inner =
-            FleetInner::joined((service, options, sharding), (at, &safety), store, &notices)?;
+            FleetInner::joined((service, options, settings), (at, &safety), store, &notices)?;
         let inner = Arc::new(inner);
         follower::begin(&inner, noticed)?;
         host::begin(&inner)?;
@@ -231,13 +232,13 @@ impl<S: Service> fmt::Debug for Fleet<S> {
 impl<S: Service> FleetInner<S> {
     /// Joins as the server of these options, which others reach at that address.
     fn joined(
-        (service, options, sharding): (S, Options, Sharding),
+        (service, options, settings): (S, Options, Settings),
         (at, safety): (String, &Safety),
         store: Arc<dyn Store>,
         notices: &Notices,
     ) -> Result<FleetInner<S>, JoinError> {
-        let settings = sharding.settings(options.servers);
-        settings::agree(&*store, &settings)?;
+        let (wanted, sharding) = (settings.written(), settings.sharding);
+        let settings = settings::agree(&*store, wanted)?;
         let (addresses, lease) = (
             Addresses {
                 servers: at.clone(),

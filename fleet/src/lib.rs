@@ -72,6 +72,8 @@ mod safety;
 mod safety_trial;
 mod service;
 mod settings;
+#[cfg(test)]
+mod settings_trial;
 mod settler;
 mod shard;
 mod stream;
@@ -93,5 +95,5 @@ pub use retry::Retry;
 pub use router::{Answer, Router};
 pub use safety::{Safety, SafetyOptions};
 pub use service::{Call, Came, Fault, Service};
-pub use settings::Sharding;
+pub use settings::{SettingsError, Sharding};
 pub use shard::Shard;
