@@ -1,7 +1,8 @@
+use crate::body_lock::BodyInUse;
 use crate::connections::Connections;
 use crate::follower::{self, Notices};
-use crate::introduction::Introduction;
 use crate::host;
+use crate::introduction::Introduction;
 use crate::listener::Listener;
 use crate::permit::BodyGuard;
 use crate::place::{Known, Place};
@@ -304,21 +305,40 @@ impl<S: Service> FleetInner<S> {
     }
 
     pub(crate) fn enter(&self, shard: u16, mode: Mode) -> Enter<'_, S> {
+        match self.asked(shard, mode) {
+            Ok((place, from)) => self.entered((shard, from), place, place.body()),
+            Err(decided) => decided,
+        }
+    }
+
+    /// Returns what becomes of the call, or the place and the sender of one that this process may execute.
+    pub(crate) fn asked(
+        &self,
+        shard: u16,
+        mode: Mode,
+    ) -> Result<(&Place<S::Body>, u16), Enter<'_, S>> {
         let Some(place) = self.places.get(usize::from(shard)) else {
-            return Enter::Refused(Refused::UnknownShard);
+            return Err(Enter::Refused(Refused::UnknownShard));
         };
         let from = match mode {
             Mode::Direct => 0,
             Mode::Forwarded(server) if (1..=durkenzo::MAX_SERVER).contains(&server) => server,
-            Mode::Forwarded(_) => return Enter::Refused(Refused::UnknownServer),
+            Mode::Forwarded(_) => return Err(Enter::Refused(Refused::UnknownServer)),
         };
         let known = place.known();
-        if !self.may_execute(&known, from) {
-            return self.onward(&known, from);
+        match self.may_execute(&known, from) {
+            true => Ok((place, from)),
+            false => Err(self.onward(&known, from)),
         }
-        drop(known);
-        // The call before this one is over by then, and time has passed.
-        let body = place.body();
+    }
+
+    /// Looks again: the call before this one is over by now, and time has passed.
+    pub(crate) fn entered<'a>(
+        &'a self,
+        (shard, from): (u16, u16),
+        place: &'a Place<S::Body>,
+        body: BodyInUse<'a, S::Body>,
+    ) -> Enter<'a, S> {
         let known = place.known();
         if !self.may_execute(&known, from) {
             return self.onward(&known, from);

@@ -16,7 +16,10 @@ pub enum JoinError {
     #[error("{0}")]
     Options(String),
     /// Other machines reach this one, and have to show nothing.
-    #[error("--listen {0} is reached from other machines, and whoever reaches it may hand over bodies: give --secret-file, or --tls-ca, --tls-cert and --tls-key, or say --open in a private network")]
+    #[error(
+        "--listen {0} is reached from other machines, and whoever reaches it may hand over bodies: give \
+         --secret-file, or --tls-ca, --tls-cert and --tls-key, or say --open in a private network"
+    )]
     Open(std::net::SocketAddr),
     /// There is no secret as it is given.
     #[error(transparent)]

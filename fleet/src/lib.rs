@@ -41,6 +41,15 @@
 #![deny(missing_docs)]
 
 mod adoption;
+#[cfg(feature = "tokio")]
+mod async_enter;
+#[cfg(feature = "tokio")]
+mod async_router;
+#[cfg(feature = "tokio")]
+mod async_stream;
+#[cfg(all(test, feature = "tokio"))]
+mod async_trial;
+mod body_lock;
 mod call_error;
 mod calls;
 mod changes;
@@ -80,6 +89,8 @@ mod stream;
 #[cfg(test)]
 mod trial;
 
+#[cfg(feature = "tokio")]
+pub use async_router::AsyncRouter;
 pub use call_error::CallError;
 pub use changes::{Changes, Piece};
 pub use durkenzo::Mode;

@@ -312,3 +312,57 @@ fn piece(text: &str) -> Result<usize, String> {
     let read = text.parse().ok().filter(is_meant);
     read.ok_or_else(|| format!("a piece has 1 to {MOST} bytes"))
 }
+
+#[cfg(test)]
+mod tests {
+    use super::*;
+    use std::path::Path;
+    use std::{env, fs, process};
+
+    fn parsed(words: &str) -> Result<Options, String> {
+        let words = ["fleet"].into_iter().chain(words.split_whitespace());
+        Options::try_parse_from(words).map_err(|it| it.to_string())
+    }
+
+    #[test]
+    fn etcd_is_reached_as_options_say() {
+        let file = env::temp_dir().join(format!("durkenzo-fleet-password-{}", process::id()));
+        fs::write(&file, "word\n").unwrap();
+        let words = format!(
+            "--etcd https://a:1,https://b:2 --etcd-user fleet --etcd-password-file {} --etcd-ca ca.pem \
+             --etcd-cert own.pem --etcd-key own.key",
+            file.display()
+        );
+        let options = parsed(&words).unwrap();
+        let access = options.etcd_access.access(&options.etcd).unwrap();
+        assert_eq!(access.endpoints, ["https://a:1", "https://b:2"]);
+        assert_eq!(access.user, Some(("fleet".to_owned(), "word".to_owned())));
+        assert_eq!(access.roots.as_deref(), Some(Path::new("ca.pem")));
+        let identity = access.identity.unwrap();
+        assert_eq!(identity, ("own.pem".into(), "own.key".into()));
+        fs::remove_file(&file).unwrap();
+        let gone = options.etcd_access.access(&options.etcd);
+        assert!(matches!(gone, Err(JoinError::Secret(_))));
+        let plain = parsed("").unwrap();
+        let access = plain.etcd_access.access(&plain.etcd).unwrap();
+        assert!(access.user.is_none() && access.roots.is_none() && access.identity.is_none());
+    }
+
+    #[test]
+    fn what_does_not_go_together_is_named() {
+        for (words, named) in [
+            ("--etcd-user x", "--etcd-password-file"),
+            ("--etcd-cert x", "--etcd-key"),
+            ("--tls-ca x", "--tls-cert"),
+            ("--tls-cert x", "--tls-ca"),
+            ("--settings x --servers 3", "--servers"),
+            ("--settings x --shards 3", "--shards"),
+            ("--settings x --bounds a", "--bounds"),
+        ] {
+            let told = parsed(words).map(drop).unwrap_err();
+            assert!(told.contains(named), "{words}: {told}");
+        }
+        let by_name = |words| parsed(words).unwrap().safety.secret_file.unwrap();
+        assert_eq!(by_name("--secret-file x"), by_name("--secret x"));
+    }
+}

@@ -33,8 +33,8 @@ impl Settings {
         }
     }
 
-    /// Reads those of this file, which is a script or has settings alone. Keys go by hash to as many shards as it has, or
-    /// by its bounds.
+    /// Reads those of this file, which is a script or has settings alone. Keys go by hash to as many shards as it has,
+    /// or by its bounds.
     ///
     /// # Errors
     ///
