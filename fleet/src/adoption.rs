@@ -1,4 +1,5 @@
 //! What a shard's next owner does: it fetches a copy while the owner answers calls, and takes the rest.
+use crate::body_lock::BodyInUse;
 use crate::copy_progress::CopyProgress;
 use crate::fleet::FleetInner;
 use crate::frame::{HandFrame, Request, Response};
@@ -7,7 +8,6 @@ use crate::incoming_body::{Content, IncomingBody, PieceFault};
 use crate::place::{Known, Place};
 use crate::{Came, Changes, Fault, Service, Shard};
 use durkenzo::Stand;
-use std::sync::MutexGuard;
 use tokio::sync::OwnedSemaphorePermit;
 
 /// How often a copy is fetched from its beginning, until the shard goes on without a copy.
@@ -231,7 +231,7 @@ impl<S: Service> FleetInner<S> {
     fn adopt(
         &self,
         place: &Place<S::Body>,
-        mut body: MutexGuard<'_, Option<S::Body>>,
+        mut body: BodyInUse<'_, S::Body>,
         frame: &HandFrame<'_>,
         content: Content<S::Body>,
     ) -> Result<(), NotTaken> {

@@ -9,9 +9,9 @@ use std::time::{Duration, Instant};
 use thiserror::Error;
 
 /// How long it takes at most until both sides know each other.
-const MEET: Duration = Duration::from_secs(5);
+pub(crate) const MEET: Duration = Duration::from_secs(5);
 /// How many connections to a server are kept for the next calls.
-const IDLE: usize = 64;
+pub(crate) const IDLE: usize = 64;
 /// Of how many addresses it is noted at most that they refuse.
 const REFUSING: usize = 4_096;
 
@@ -56,9 +56,19 @@ impl Connections {
         request: &Request<'_>,
         within: Duration,
     ) -> Result<Vec<u8>, NotAnswered> {
-        let end = Instant::now() + within;
         let mut bytes = Vec::new();
         request.write(&mut bytes);
+        self.ask_bytes(address, bytes, within)
+    }
+
+    /// Sends these bytes of a request as [`Connections::ask`] does.
+    pub(crate) fn ask_bytes(
+        &self,
+        address: &str,
+        mut bytes: Vec<u8>,
+        within: Duration,
+    ) -> Result<Vec<u8>, NotAnswered> {
+        let end = Instant::now() + within;
         let unreached = |error| NotAnswered::Unreached(address.to_owned(), error);
         let mut stream = match self.kept(address) {
             Some(stream) => stream,

@@ -1,11 +1,13 @@
+use crate::body_lock::BodyInUse;
 use crate::connections::Connections;
 use crate::follower::{self, Notices};
-use crate::introduction::Introduction;
 use crate::host;
+use crate::introduction::Introduction;
 use crate::listener::Listener;
 use crate::permit::BodyGuard;
 use crate::place::{Known, Place};
 use crate::retry::end_of;
+use crate::settings::Settings;
 use crate::stream::left;
 use crate::{
     settings, Destination, Enter, JoinError, Mode, Options, Permit, Refused, Safety, Service,
@@ -86,7 +88,7 @@ impl<S: Service> Fleet<S> {
         options: Options,
         store: Arc<dyn Store>,
     ) -> Result<Fleet<S>, JoinError> {
-        let sharding = options.sharding()?;
+        let settings = options.settings()?;
         let safety = options.guarded()?;
         // Each connection has a descriptor.
         raise_limit();
@@ -97,7 +99,7 @@ impl<S: Service> Fleet<S> {
             .unwrap_or_else(|| address.to_string());
         let (notices, noticed) = Notices::new();
         let inner =
-            FleetInner::joined((service, options, sharding), (at, &safety), store, &notices)?;
+            FleetInner::joined((service, options, settings), (at, &safety), store, &notices)?;
         let inner = Arc::new(inner);
         follower::begin(&inner, noticed)?;
         host::begin(&inner)?;
@@ -231,13 +233,13 @@ impl<S: Service> fmt::Debug for Fleet<S> {
 impl<S: Service> FleetInner<S> {
     /// Joins as the server of these options, which others reach at that address.
     fn joined(
-        (service, options, sharding): (S, Options, Sharding),
+        (service, options, settings): (S, Options, Settings),
         (at, safety): (String, &Safety),
         store: Arc<dyn Store>,
         notices: &Notices,
     ) -> Result<FleetInner<S>, JoinError> {
-        let settings = sharding.settings(options.servers);
-        settings::agree(&*store, &settings)?;
+        let (wanted, sharding) = (settings.written(), settings.sharding);
+        let settings = settings::agree(&*store, wanted)?;
         let (addresses, lease) = (
             Addresses {
                 servers: at.clone(),
@@ -303,21 +305,40 @@ impl<S: Service> FleetInner<S> {
     }
 
     pub(crate) fn enter(&self, shard: u16, mode: Mode) -> Enter<'_, S> {
+        match self.asked(shard, mode) {
+            Ok((place, from)) => self.entered((shard, from), place, place.body()),
+            Err(decided) => decided,
+        }
+    }
+
+    /// Returns what becomes of the call, or the place and the sender of one that this process may execute.
+    pub(crate) fn asked(
+        &self,
+        shard: u16,
+        mode: Mode,
+    ) -> Result<(&Place<S::Body>, u16), Enter<'_, S>> {
         let Some(place) = self.places.get(usize::from(shard)) else {
-            return Enter::Refused(Refused::UnknownShard);
+            return Err(Enter::Refused(Refused::UnknownShard));
         };
         let from = match mode {
             Mode::Direct => 0,
             Mode::Forwarded(server) if (1..=durkenzo::MAX_SERVER).contains(&server) => server,
-            Mode::Forwarded(_) => return Enter::Refused(Refused::UnknownServer),
+            Mode::Forwarded(_) => return Err(Enter::Refused(Refused::UnknownServer)),
         };
         let known = place.known();
-        if !self.may_execute(&known, from) {
-            return self.onward(&known, from);
+        match self.may_execute(&known, from) {
+            true => Ok((place, from)),
+            false => Err(self.onward(&known, from)),
         }
-        drop(known);
-        // The call before this one is over by then, and time has passed.
-        let body = place.body();
+    }
+
+    /// Looks again: the call before this one is over by now, and time has passed.
+    pub(crate) fn entered<'a>(
+        &'a self,
+        (shard, from): (u16, u16),
+        place: &'a Place<S::Body>,
+        body: BodyInUse<'a, S::Body>,
+    ) -> Enter<'a, S> {
         let known = place.known();
         if !self.may_execute(&known, from) {
             return self.onward(&known, from);

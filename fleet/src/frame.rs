@@ -1,4 +1,5 @@
-//! What clients and servers of a fleet send each other: frames with a length, a kind and fields, the greatest byte first.
+//! What clients and servers of a fleet send each other: frames with a length, a kind and fields, the greatest byte
+//! first.
 use durkenzo_control::links::{Fields, WireFault};
 use durkenzo_store_sys::HandOver;
 use std::io::{self, Read};

@@ -1,10 +1,11 @@
-use crate::MeetError;
+use crate::{MeetError, SettingsError};
 use durkenzo::LayoutFault;
 use durkenzo_control::links::SecretFault;
 use durkenzo_control::tls::{TlsFault, PEER_NAME};
 use durkenzo_driver::{JoinFault, OpenFault};
 use durkenzo_store::{ReadError, StartError, WriteError};
 use std::io;
+use std::path::PathBuf;
 use thiserror::Error;
 
 /// Why a process doesn't join a fleet, or a client reads no map of one.
@@ -15,7 +16,10 @@ pub enum JoinError {
     #[error("{0}")]
     Options(String),
     /// Other machines reach this one, and have to show nothing.
-    #[error("--listen {0} is reached from other machines, and whoever reaches it may hand over bodies: give --secret-file, or --tls-ca, --tls-cert and --tls-key, or say --open in a private network")]
+    #[error(
+        "--listen {0} is reached from other machines, and whoever reaches it may hand over bodies: give \
+         --secret-file, or --tls-ca, --tls-cert and --tls-key, or say --open in a private network"
+    )]
     Open(std::net::SocketAddr),
     /// There is no secret as it is given.
     #[error(transparent)]
@@ -31,14 +35,15 @@ pub enum JoinError {
     /// No other server of the fleet takes this process.
     #[error("{0} isn't met: {1}")]
     NotMet(String, MeetError),
-    /// The store has a fleet of other settings.
-    #[error("the store has a fleet of other settings: start with those, or name another etcd\nfound  {found}\nwanted {wanted}")]
-    OtherSettings {
-        /// What lies there.
-        found: String,
-        /// What this process says.
-        wanted: String,
-    },
+    /// The store has a fleet of other settings, which differ in this.
+    #[error("OTHERSETTINGS the store has a fleet of other settings: {0}: start with those, or name another etcd")]
+    OtherSettings(String),
+    /// The file can't be read.
+    #[error("{}: {}", .0.display(), .1)]
+    Unreadable(PathBuf, io::Error),
+    /// The file's settings break a rule, which docs/SETTINGS.md tells by its name.
+    #[error("{}: {}", .0.display(), .1)]
+    Settings(PathBuf, SettingsError),
     /// The bounds make no layout.
     #[error("the bounds of shards: {0}")]
     Layout(#[from] LayoutFault),

@@ -41,6 +41,15 @@
 #![deny(missing_docs)]
 
 mod adoption;
+#[cfg(feature = "tokio")]
+mod async_enter;
+#[cfg(feature = "tokio")]
+mod async_router;
+#[cfg(feature = "tokio")]
+mod async_stream;
+#[cfg(all(test, feature = "tokio"))]
+mod async_trial;
+mod body_lock;
 mod call_error;
 mod calls;
 mod changes;
@@ -72,12 +81,16 @@ mod safety;
 mod safety_trial;
 mod service;
 mod settings;
+#[cfg(test)]
+mod settings_trial;
 mod settler;
 mod shard;
 mod stream;
 #[cfg(test)]
 mod trial;
 
+#[cfg(feature = "tokio")]
+pub use async_router::AsyncRouter;
 pub use call_error::CallError;
 pub use changes::{Changes, Piece};
 pub use durkenzo::Mode;
@@ -93,5 +106,5 @@ pub use retry::Retry;
 pub use router::{Answer, Router};
 pub use safety::{Safety, SafetyOptions};
 pub use service::{Call, Came, Fault, Service};
-pub use settings::Sharding;
+pub use settings::{SettingsError, Sharding};
 pub use shard::Shard;

@@ -13,7 +13,9 @@ pub enum MeetError {
     #[error(transparent)]
     Unreached(#[from] io::Error),
     /// It has another secret, or only one side has any.
-    #[error("it doesn't take this secret: give both sides the same, by --secret-file or DURKENZO_SECRET")]
+    #[error(
+        "it doesn't take this secret: give both sides the same, by --secret-file or DURKENZO_SECRET"
+    )]
     OtherSecret,
     /// It is of a fleet with other settings.
     #[error("it is of a fleet with other settings: name one of this fleet")]
@@ -21,9 +23,12 @@ pub enum MeetError {
     /// It speaks TLS, and this side doesn't.
     #[error("{SPEAKS_TLS}: give --tls-ca, --tls-cert and --tls-key")]
     SpeaksTls,
-    /// It speaks no TLS, or a certificate isn't taken: it has expired, is of another authority or hasn't the name that a
-    /// process has.
-    #[error("TLS fails: {0}: either side needs a --tls-cert of one --tls-ca that hasn't expired, a process one for the name peer.durkenzo")]
+    /// It speaks no TLS, or a certificate isn't taken: it has expired, is of another authority or hasn't the name that
+    /// a process has.
+    #[error(
+        "TLS fails: {0}: either side needs a --tls-cert of one --tls-ca that hasn't expired, a process one for the \
+         name peer.durkenzo"
+    )]
     Tls(io::Error),
     /// It refuses for another reason, as that its places are taken.
     #[error("it refuses: {0}")]

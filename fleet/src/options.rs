@@ -1,6 +1,8 @@
 use crate::frame::MOST;
+use crate::settings::Settings;
 use crate::{JoinError, Safety, SafetyOptions, Sharding};
 use clap::{Args, Parser};
+use durkenzo::LayoutFault;
 use durkenzo_control::links::Secret;
 use durkenzo_store::{Access, Etcd, Store};
 use std::net::SocketAddr;
@@ -33,6 +35,19 @@ pub struct Options {
         default_value_t = 1
     )]
     pub name: u16,
+
+    /// File with the settings of ./sm serve --settings: capacities, groups, domains, caps and bounds [default: none]
+    #[arg(
+        long,
+        env = "DURKENZO_SETTINGS",
+        value_name = "FILE",
+        conflicts_with_all = ["servers", "shards", "bounds"]
+    )]
+    pub settings: Option<PathBuf>,
+
+    /// Keys go to shards by hash, also if settings or bounds are given, of which there are as many
+    #[arg(long, env = "DURKENZO_HASH")]
+    pub hash: bool,
 
     /// How many servers the fleet has
     #[arg(
@@ -247,16 +262,17 @@ impl Options {
         }
     }
 
-    /// Returns how keys go to shards, if all options are within their bounds.
-    pub(crate) fn sharding(&self) -> Result<Sharding, JoinError> {
-        if !(1..=durkenzo::MAX_SERVER).contains(&self.servers)
-            || !(1..=self.servers).contains(&self.name)
-        {
+    /// Returns the settings of the fleet, if all options are within their bounds.
+    pub(crate) fn settings(&self) -> Result<Settings, JoinError> {
+        let settings = match &self.settings {
+            Some(file) => Settings::of_file(file, self.hash)?,
+            None => Settings::of_servers(self.sharding()?, self.servers),
+        };
+        let (servers, most) = (settings.servers, durkenzo::MAX_SERVER);
+        if !(1..=most).contains(&servers) || !(1..=servers).contains(&self.name) {
             let why = format!(
-                "--name {} of --servers {}: servers are 1 to {}",
-                self.name,
-                self.servers,
-                durkenzo::MAX_SERVER
+                "--name {} of {servers} servers: they are 1 to {most}",
+                self.name
             );
             return Err(JoinError::Options(why));
         }
@@ -264,11 +280,18 @@ impl Options {
             let why = "--margin and --drift leave nothing of --lease";
             return Err(JoinError::Options(why.to_owned()));
         }
-        let first = std::iter::once(String::new());
-        Ok(match self.bounds.is_empty() {
-            true => Sharding::hashes(self.shards)?,
-            false => Sharding::ranges(first.chain(self.bounds.iter().cloned()).collect())?,
-        })
+        Ok(settings)
+    }
+
+    /// Returns how keys go to shards if no file says it.
+    fn sharding(&self) -> Result<Sharding, LayoutFault> {
+        let bounds = std::iter::once(String::new()).chain(self.bounds.iter().cloned());
+        match (self.bounds.is_empty(), self.hash) {
+            (true, _) => Sharding::hashes(self.shards),
+            // A layout has at most 4,096.
+            (false, true) => Sharding::hashes(u16::try_from(bounds.count()).unwrap_or(u16::MAX)),
+            (false, false) => Sharding::ranges(bounds.collect()),
+        }
     }
 
     /// Returns how long a process goes by a lease of this length, by its own clock, since it asked.
@@ -288,4 +311,58 @@ fn piece(text: &str) -> Result<usize, String> {
     let is_meant = |it: &usize| (1..=MOST).contains(it);
     let read = text.parse().ok().filter(is_meant);
     read.ok_or_else(|| format!("a piece has 1 to {MOST} bytes"))
+}
+
+#[cfg(test)]
+mod tests {
+    use super::*;
+    use std::path::Path;
+    use std::{env, fs, process};
+
+    fn parsed(words: &str) -> Result<Options, String> {
+        let words = ["fleet"].into_iter().chain(words.split_whitespace());
+        Options::try_parse_from(words).map_err(|it| it.to_string())
+    }
+
+    #[test]
+    fn etcd_is_reached_as_options_say() {
+        let file = env::temp_dir().join(format!("durkenzo-fleet-password-{}", process::id()));
+        fs::write(&file, "word\n").unwrap();
+        let words = format!(
+            "--etcd https://a:1,https://b:2 --etcd-user fleet --etcd-password-file {} --etcd-ca ca.pem \
+             --etcd-cert own.pem --etcd-key own.key",
+            file.display()
+        );
+        let options = parsed(&words).unwrap();
+        let access = options.etcd_access.access(&options.etcd).unwrap();
+        assert_eq!(access.endpoints, ["https://a:1", "https://b:2"]);
+        assert_eq!(access.user, Some(("fleet".to_owned(), "word".to_owned())));
+        assert_eq!(access.roots.as_deref(), Some(Path::new("ca.pem")));
+        let identity = access.identity.unwrap();
+        assert_eq!(identity, ("own.pem".into(), "own.key".into()));
+        fs::remove_file(&file).unwrap();
+        let gone = options.etcd_access.access(&options.etcd);
+        assert!(matches!(gone, Err(JoinError::Secret(_))));
+        let plain = parsed("").unwrap();
+        let access = plain.etcd_access.access(&plain.etcd).unwrap();
+        assert!(access.user.is_none() && access.roots.is_none() && access.identity.is_none());
+    }
+
+    #[test]
+    fn what_does_not_go_together_is_named() {
+        for (words, named) in [
+            ("--etcd-user x", "--etcd-password-file"),
+            ("--etcd-cert x", "--etcd-key"),
+            ("--tls-ca x", "--tls-cert"),
+            ("--tls-cert x", "--tls-ca"),
+            ("--settings x --servers 3", "--servers"),
+            ("--settings x --shards 3", "--shards"),
+            ("--settings x --bounds a", "--bounds"),
+        ] {
+            let told = parsed(words).map(drop).unwrap_err();
+            assert!(told.contains(named), "{words}: {told}");
+        }
+        let by_name = |words| parsed(words).unwrap().safety.secret_file.unwrap();
+        assert_eq!(by_name("--secret-file x"), by_name("--secret x"));
+    }
 }

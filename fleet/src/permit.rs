@@ -1,11 +1,12 @@
+use crate::body_lock::BodyInUse;
 use crate::fleet::FleetInner;
 use crate::{Call, Service, Shard};
 use durkenzo_store_sys::ShardView;
 use std::fmt;
 use std::ops::{Deref, DerefMut};
-use std::sync::MutexGuard;
 
-/// The right to execute a call of a shard, and the shard's body. No other call uses the body meanwhile.
+/// The right to execute a call of a shard, and the shard's body. No other call uses the body meanwhile. A task may take
+/// it from thread to thread.
 pub struct Permit<'a, S: Service> {
     pub(crate) fleet: &'a FleetInner<S>,
     pub(crate) body: BodyGuard<'a, S::Body>,
@@ -16,11 +17,11 @@ pub struct Permit<'a, S: Service> {
 }
 
 /// A body that is there, in use.
-pub(crate) struct BodyGuard<'a, B>(MutexGuard<'a, Option<B>>);
+pub(crate) struct BodyGuard<'a, B>(BodyInUse<'a, B>);
 
 impl<'a, B> BodyGuard<'a, B> {
     /// Returns the guard, if there is a body.
-    pub(crate) fn new(guard: MutexGuard<'a, Option<B>>) -> Option<BodyGuard<'a, B>> {
+    pub(crate) fn new(guard: BodyInUse<'a, B>) -> Option<BodyGuard<'a, B>> {
         guard.is_some().then_some(BodyGuard(guard))
     }
 }

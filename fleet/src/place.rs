@@ -1,3 +1,4 @@
+use crate::body_lock::{BodyInUse, BodyLock};
 use crate::incoming_body::IncomingBody;
 use crate::outgoing_copy::OutgoingCopy;
 use crate::queue::Queue;
@@ -13,7 +14,7 @@ use std::sync::{Mutex, MutexGuard, PoisonError};
 /// executed, and what is known only for a look. So what was read is taken at once, and to let go waits for the call that is under way.
 pub(crate) struct Place<B> {
     known: Mutex<Known>,
-    body: Mutex<Option<B>>,
+    body: BodyLock<B>,
     incoming: Mutex<Option<IncomingBody<B>>>,
     pub(crate) queue: Queue,
 }
@@ -83,7 +84,7 @@ impl<B> Place<B> {
         };
         Place {
             known: Mutex::new(known),
-            body: Mutex::new(None),
+            body: BodyLock::new(),
             incoming: Mutex::new(None),
             queue: Queue::default(),
         }
@@ -94,17 +95,38 @@ impl<B> Place<B> {
     }
 
     /// Locks the body, once the call that is under way is over. If a callback has panicked with the body, the body may
-    /// be half changed: it is dropped, and the shard begins again without it.
-    pub(crate) fn body(&self) -> MutexGuard<'_, Option<B>> {
-        self.body.lock().unwrap_or_else(|poisoned| {
-            self.body.clear_poison();
-            let mut body = poisoned.into_inner();
-            *body = None;
+    /// be half changed: it was dropped, and the shard begins again without it.
+    pub(crate) fn body(&self) -> BodyInUse<'_, B> {
+        let (body, is_lost) = self.body.lock();
+        self.note_lost(is_lost);
+        body
+    }
+
+    /// Locks the body as [`Place::body`] does, and blocks no thread meanwhile.
+    #[cfg(feature = "tokio")]
+    pub(crate) async fn body_async(&self) -> BodyInUse<'_, B> {
+        let (body, is_lost) = self.body.lock_async().await;
+        self.note_lost(is_lost);
+        body
+    }
+
+    /// Whether nobody uses the body.
+    #[cfg(all(test, feature = "tokio"))]
+    pub(crate) fn is_free(&self) -> bool {
+        self.body.is_free()
+    }
+
+    /// Whether a task waits for the body.
+    #[cfg(all(test, feature = "tokio"))]
+    pub(crate) fn has_task(&self) -> bool {
+        self.body.has_task()
+    }
+
+    fn note_lost(&self, is_lost: bool) {
+        if is_lost {
             let mut known = self.known();
             (known.body_is_of, known.settled, known.copy) = (None, None, None);
-            drop(known);
-            body
-        })
+        }
     }
 
     /// Locks what comes of the body. If a callback has panicked as it added a piece, all of it is dropped.

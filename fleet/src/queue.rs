@@ -1,5 +1,9 @@
 use std::collections::VecDeque;
+#[cfg(feature = "tokio")]
+use std::future::poll_fn;
 use std::sync::{Mutex, MutexGuard, PoisonError};
+#[cfg(feature = "tokio")]
+use std::task::{Poll, Waker};
 use std::thread::{self, Thread};
 use std::time::{Duration, Instant};
 
@@ -15,7 +19,15 @@ pub(crate) struct Queue {
 #[derive(Default)]
 struct Waiting {
     next: u64,
-    calls: VecDeque<(u64, Thread)>,
+    calls: VecDeque<(u64, Waiter)>,
+}
+
+/// Who waits for the look of a call.
+enum Waiter {
+    Thread(Thread),
+    /// A task; none as long as it hasn't waited yet.
+    #[cfg(feature = "tokio")]
+    Task(Option<Waker>),
 }
 
 /// A place in the queue, which it leaves when it is dropped.
@@ -27,13 +39,23 @@ pub(crate) struct Turn<'a> {
 impl Queue {
     /// Returns a place behind all others, if fewer than so many wait.
     pub(crate) fn enter(&self, most: usize) -> Option<Turn<'_>> {
+        self.enter_as(Waiter::Thread(thread::current()), most)
+    }
+
+    /// Returns a place for a task as [`Queue::enter`] does for a thread.
+    #[cfg(feature = "tokio")]
+    pub(crate) fn enter_task(&self, most: usize) -> Option<Turn<'_>> {
+        self.enter_as(Waiter::Task(None), most)
+    }
+
+    fn enter_as(&self, waiter: Waiter, most: usize) -> Option<Turn<'_>> {
         let mut waiting = self.waiting();
         if waiting.calls.len() >= most {
             return None;
         }
         let number = waiting.next;
         waiting.next += 1;
-        waiting.calls.push_back((number, thread::current()));
+        waiting.calls.push_back((number, waiter));
         Some(Turn {
             queue: self,
             number,
@@ -47,8 +69,13 @@ impl Queue {
 
     /// Has the first call look again.
     pub(crate) fn wake(&self) {
-        if let Some((_, thread)) = self.waiting().calls.front() {
-            thread.unpark();
+        match self.waiting().calls.front() {
+            Some((_, Waiter::Thread(thread))) => thread.unpark(),
+            #[cfg(feature = "tokio")]
+            Some((_, Waiter::Task(Some(waker)))) => waker.wake_by_ref(),
+            #[cfg(feature = "tokio")]
+            Some((_, Waiter::Task(None))) => {}
+            None => {}
         }
     }
 
@@ -67,6 +94,26 @@ impl Turn<'_> {
     /// Blocks until somebody wakes the call, for a short while, and not beyond this time.
     pub(crate) fn wait(&self, end: Instant) {
         thread::park_timeout(end.saturating_duration_since(Instant::now()).min(LOOK));
+    }
+
+    /// Waits as [`Turn::wait`] does, and blocks no thread meanwhile.
+    #[cfg(feature = "tokio")]
+    pub(crate) async fn woken(&self, end: Instant) {
+        let mut has_waited = false;
+        let woken = poll_fn(|context| {
+            if std::mem::replace(&mut has_waited, true) {
+                return Poll::Ready(());
+            }
+            let mut waiting = self.queue.waiting();
+            let mut own = waiting.calls.iter_mut().filter(|it| it.0 == self.number);
+            if let Some((_, waiter)) = own.next() {
+                *waiter = Waiter::Task(Some(context.waker().clone()));
+            }
+            Poll::Pending
+        });
+        let soon = end.min(Instant::now() + LOOK);
+        // Whether somebody told or time has passed, it is looked.
+        let _ = tokio::time::timeout_at(soon.into(), woken).await;
     }
 }
 

@@ -3,7 +3,7 @@ use crate::frame::{spelled, CallFrame, Request, Response, MOST};
 use crate::introduction::Introduction;
 use crate::retry::end_of;
 use crate::{commands, CallError, JoinError, Retry, Safety, Sharding};
-use durkenzo_control::links::{checksum, UNKNOWN_SETTINGS};
+use durkenzo_control::links::{checksum, NO_SERVER, UNKNOWN_SETTINGS};
 use durkenzo_driver::{keys, RouteMap};
 use durkenzo_store::Store;
 use std::collections::BTreeMap;
@@ -13,7 +13,7 @@ use std::sync::{Mutex, MutexGuard, PoisonError};
 use std::time::{Duration, Instant};
 
 /// How long a call waits until it is sent again.
-const PAUSE: Duration = Duration::from_millis(5);
+pub(crate) const PAUSE: Duration = Duration::from_millis(5);
 /// How long servers aren't asked for their map again.
 const AGAIN: Duration = Duration::from_millis(20);
 /// How long a server may take to tell its map.
@@ -140,11 +140,6 @@ impl Router {
     /// [`CallError::NotMade`] if nothing is done of it, in the time that `retry` gives. [`CallError::Unsure`] if it may
     /// have been made, or may be made still: such a call is never sent again.
     pub fn call(&self, key: &[u8], request: &[u8], retry: Retry) -> Result<Answer, CallError> {
-        if request.len() > MOST {
-            return Err(CallError::NotMade(format!(
-                "a request has at most {MOST} bytes"
-            )));
-        }
         let (shard, end) = (self.sharding.shard_of(key), end_of(retry.budget()));
         loop {
             let why = match self.call_once(shard, request, end) {
@@ -168,7 +163,23 @@ impl Router {
     }
 
     fn call_once(&self, shard: u16, request: &[u8], end: Instant) -> Result<Answer, CallError> {
+        let Outgoing { address, bytes } = self.outgoing(shard, request, end)?;
+        let left = end.saturating_duration_since(Instant::now());
+        Router::answered(self.connections.ask_bytes(&address, bytes, left))
+    }
+
+    /// Returns the call as it is sent now.
+    pub(crate) fn outgoing(
+        &self,
+        shard: u16,
+        request: &[u8],
+        end: Instant,
+    ) -> Result<Outgoing, CallError> {
         let not_made = |why: &str| CallError::NotMade(why.to_owned());
+        if request.len() > MOST {
+            let why = format!("a request has at most {MOST} bytes");
+            return Err(CallError::NotMade(why));
+        }
         let Some((address, revision)) = self.route(shard) else {
             return Err(not_made("the shard has no owner that is there"));
         };
@@ -179,20 +190,23 @@ impl Router {
         }
         let call = CallFrame {
             shard,
-            from: 0,
+            from: NO_SERVER,
             hops: 0,
             revision,
             budget,
             request,
         };
-        let bytes = match self.connections.ask(&address, &Request::Call(call), left) {
-            Ok(bytes) => bytes,
-            Err(error @ NotAnswered::Unreached(..)) => {
-                return Err(CallError::NotMade(error.to_string()))
-            }
-            Err(error @ NotAnswered::Lost(..)) => return Err(CallError::Unsure(error.to_string())),
-        };
-        answer_of(&bytes)
+        let bytes = written(&Request::Call(call));
+        Ok(Outgoing { address, bytes })
+    }
+
+    /// Returns what came of a call that was sent.
+    pub(crate) fn answered(response: Result<Vec<u8>, NotAnswered>) -> Result<Answer, CallError> {
+        match response {
+            Ok(bytes) => answer_of(&bytes),
+            Err(error @ NotAnswered::Unreached(..)) => Err(CallError::NotMade(error.to_string())),
+            Err(error @ NotAnswered::Lost(..)) => Err(CallError::Unsure(error.to_string())),
+        }
     }
 
     /// Gives the control of the fleet a command, as `["MIGRATE", "3", "2"]`, by way of the owner of the first shard,
@@ -240,30 +254,71 @@ impl Router {
         }
     }
 
-    /// Asks servers for the map again until this time, if none tells of its changes. Another one is asked first each
-    /// time, because the map of a server that is cut from the store is old.
+    /// Asks servers for the map again until this time, if none tells of its changes.
     fn refresh(&self, end: Instant) {
-        let Source::Servers(told) = &self.source else {
-            return;
-        };
-        let addresses = {
-            let mut told = locked(told);
-            if told.asked.is_some_and(|it| it.elapsed() < AGAIN) {
-                return;
-            }
-            told.asked = Some(Instant::now());
-            told.addresses.rotate_left(1);
-            told.addresses.clone()
-        };
-        let answered = addresses.iter().find_map(|it| {
+        let answered = self.due().into_iter().find_map(|it| {
             let left = end.saturating_duration_since(Instant::now());
             let is_left = !left.is_zero();
-            is_left.then(|| map_of(&self.connections, it, left.min(MAP)).ok())?
+            is_left.then(|| map_of(&self.connections, &it, left.min(MAP)).ok())?
         });
         if let Some(text) = answered {
-            locked(told).note(&text);
+            self.note(&text);
         }
     }
+
+    /// Returns the addresses of servers to be asked for the map now. Another one comes first each time, because the map
+    /// of a server that is cut from the store is old.
+    pub(crate) fn due(&self) -> Vec<String> {
+        let Source::Servers(told) = &self.source else {
+            return Vec::new();
+        };
+        let mut told = locked(told);
+        if told.asked.is_some_and(|it| it.elapsed() < AGAIN) {
+            return Vec::new();
+        }
+        told.asked = Some(Instant::now());
+        told.addresses.rotate_left(1);
+        told.addresses.clone()
+    }
+
+    /// Notes the map that a server has told.
+    pub(crate) fn note(&self, text: &str) {
+        if let Source::Servers(told) = &self.source {
+            locked(told).note(text);
+        }
+    }
+}
+
+/// What a client asks a server for the map by, and what that answers.
+#[cfg(feature = "tokio")]
+impl Router {
+    pub(crate) fn asking() -> Vec<u8> {
+        written(&Request::Routes)
+    }
+
+    pub(crate) fn map_in(response: &[u8]) -> Option<String> {
+        match Response::read(response) {
+            Ok(Response::Text(text)) => Some(String::from_utf8_lossy(text).into_owned()),
+            _ => None,
+        }
+    }
+
+    pub(crate) fn introduction(&self) -> &Introduction {
+        self.connections.introduction()
+    }
+}
+
+/// A call on its way.
+pub(crate) struct Outgoing {
+    /// Where the server is that is asked.
+    pub(crate) address: String,
+    pub(crate) bytes: Vec<u8>,
+}
+
+fn written(request: &Request<'_>) -> Vec<u8> {
+    let mut bytes = Vec::new();
+    request.write(&mut bytes);
+    bytes
 }
 
 /// What a server has answered to a call.

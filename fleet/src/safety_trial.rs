@@ -1,5 +1,5 @@
-//! Who may reach a fleet, over sockets: by a secret, by TLS, by both and by neither. What isn't taken has a name, and has
-//! nothing executed.
+//! Who may reach a fleet, over sockets: by a secret, by TLS, by both and by neither. What isn't taken has a name, and
+//! has nothing executed.
 use crate::connections::Connections;
 use crate::frame::{CallFrame, Request, Response, LONGEST};
 use crate::introduction::Introduction;
@@ -98,6 +98,13 @@ impl Guarded {
         let watching = Router::watch_with(&*self.store, safety.clone()).unwrap();
         let told = watching.call(b"key", b"request", Retry::Until(BRIEF));
         assert!(matches!(told, Err(CallError::NotMade(_))), "{told:?}");
+        #[cfg(feature = "tokio")]
+        {
+            let router =
+                crate::AsyncRouter::from(Router::watch_with(&*self.store, safety.clone()).unwrap());
+            let told = tasks().block_on(router.call(b"key", b"request", Retry::Until(BRIEF)));
+            assert!(matches!(told, Err(CallError::NotMade(_))), "{told:?}");
+        }
         let refused = self.asks(safety).unwrap_err();
         assert_eq!(self.executed.load(Ordering::SeqCst), before);
         match refused {
@@ -122,7 +129,30 @@ impl Guarded {
                 assert_eq!(answer.bytes, [key]);
             }
         }
+        #[cfg(feature = "tokio")]
+        self.works_for_tasks(safety);
     }
+
+    /// Calls from a task, of more bytes than a record of TLS has.
+    #[cfg(feature = "tokio")]
+    fn works_for_tasks(&self, safety: &Safety) {
+        let calling = async {
+            let router = crate::AsyncRouter::of(&self.address(), safety.clone()).await;
+            let router = router.unwrap();
+            for length in [0, 7, 200_000, 1 << 20] {
+                let request = vec![7; length];
+                let answer = router.call(b"key", &request, Retry::Until(SOON)).await;
+                assert!(answer.unwrap().bytes == request);
+            }
+        };
+        tasks().block_on(calling);
+    }
+}
+
+#[cfg(feature = "tokio")]
+fn tasks() -> tokio::runtime::Runtime {
+    let mut builder = tokio::runtime::Builder::new_current_thread();
+    builder.enable_all().build().unwrap()
 }
 
 fn by_secret(secret: &str) -> Safety {

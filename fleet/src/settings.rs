@@ -1,10 +1,107 @@
 //! Which shards and servers a fleet has, and which shard a key is of. All processes agree on it by the store.
 use crate::JoinError;
-use durkenzo::{Layout, LayoutFault};
+use durkenzo::{Board, Layout, LayoutFault};
 use durkenzo_driver::keys;
 use durkenzo_store::{Outcome, Revision, Store, Transaction};
-use serde_json::{json, Value};
+use serde_json::{json, Map, Value};
 use std::fmt;
+use std::fs;
+use std::path::Path;
+
+/// How many differences of settings are told.
+const TOLD: usize = 5;
+/// How many characters of a value are told.
+const CUT: usize = 80;
+
+/// The settings of a fleet: the rule by which keys go to shards, and the line that the proved control reads.
+#[derive(Debug)]
+pub(crate) struct Settings {
+    pub(crate) sharding: Sharding,
+    /// Servers are 1 to this one.
+    pub(crate) servers: u16,
+    line: String,
+}
+
+impl Settings {
+    /// Returns those of a fleet of so many servers which take turns, with the room that they need if one is away.
+    pub(crate) fn of_servers(sharding: Sharding, servers: u16) -> Settings {
+        let line = sharding.line(servers);
+        Settings {
+            sharding,
+            servers,
+            line,
+        }
+    }
+
+    /// Reads those of this file, which is a script or has settings alone. Keys go by hash to as many shards as it has,
+    /// or by its bounds.
+    ///
+    /// # Errors
+    ///
+    /// The file can't be read, or its settings break a rule, as the proved library finds.
+    pub(crate) fn of_file(file: &Path, hashes: bool) -> Result<Settings, JoinError> {
+        let text = fs::read_to_string(file);
+        let text = text.map_err(|error| JoinError::Unreadable(file.to_owned(), error))?;
+        // Of a script its first line is taken.
+        let first = text.lines().next().unwrap_or_default();
+        let text = if first.ends_with('}') { first } else { &text };
+        Settings::of_text(text.trim_end(), hashes).map_err(|why| why.of_file(file))
+    }
+
+    fn of_text(text: &str, hashes: bool) -> Result<Settings, SettingsError> {
+        // No text in JSON has an end of line in it as it is.
+        let line = text.replace(['\r', '\n'], " ");
+        let members = serde_json::from_str(&line).unwrap_or(Value::Null);
+        let rows = |name: &str| members[name].as_array().map_or(&[][..], Vec::as_slice);
+        let bodies = vec![(); rows("bounds").len()];
+        let (_, layout) = Board::by_settings(&line, bodies)?;
+        let mut servers = (1..=u64::MAX).zip(rows("servers"));
+        if servers.any(|(number, row)| row["id"] != number) {
+            return Err(SettingsError::Gaps);
+        }
+        let sharding = match hashes {
+            true => Sharding::hashes(layout.count() as u16)?,
+            false => Sharding {
+                layout,
+                hashes,
+                bounds: Vec::new(),
+            },
+        };
+        // The library takes at most 4,095.
+        let servers = rows("servers").len() as u16;
+        Ok(Settings {
+            sharding,
+            servers,
+            line,
+        })
+    }
+
+    /// Returns them as they lie in the store.
+    pub(crate) fn written(&self) -> String {
+        let rule = if self.sharding.hashes { HASHES } else { RANGES };
+        format!("{rule}\n{}", self.line)
+    }
+}
+
+/// Why a text has no settings of a fleet.
+#[derive(Debug, thiserror::Error)]
+pub enum SettingsError {
+    /// They break a rule of the library's.
+    #[error(transparent)]
+    Fault(#[from] durkenzo::SettingsFault),
+    /// Servers have other numbers than 1, 2 and so on.
+    #[error("BadServers: servers have the numbers 1, 2 and so on, without gaps")]
+    Gaps,
+    /// There are as many shards as no hash spreads over.
+    #[error(transparent)]
+    Layout(#[from] LayoutFault),
+}
+
+impl SettingsError {
+    fn of_file(self, file: &Path) -> JoinError {
+        JoinError::Settings(file.to_owned(), self)
+    }
+}
 
 /// How keys go to shards, by the proved layout.
 pub struct Sharding {
@@ -56,11 +153,16 @@ impl Sharding {
     pub(crate) fn written(settings: &str) -> Option<Result<Sharding, LayoutFault>> {
         let (rule, line) = settings.split_once('\n')?;
         let line: Value = serde_json::from_str(line).ok()?;
-        let bounds = line.get("bounds")?.as_array()?.iter();
+        let bounds = line.get("bounds")?.as_array()?;
+        if rule == HASHES {
+            // A layout has at most 4,096.
+            return Some(Sharding::hashes(u16::try_from(bounds.len()).ok()?));
+        }
+        let bounds = bounds.iter();
         let bounds = bounds
             .map(|it| it.as_str().map(str::to_owned))
             .collect::<Option<_>>()?;
-        Some(Sharding::of(bounds, rule == HASHES))
+        Some(Sharding::of(bounds, false))
     }
 
     /// Returns how many shards there are.
@@ -77,9 +179,8 @@ impl Sharding {
         }
     }
 
-    /// Returns the settings of a fleet of so many servers: the rule, and the line that the proved control reads.
-    pub(crate) fn settings(&self, servers: u16) -> String {
-        let rule = if self.hashes { HASHES } else { RANGES };
+    /// Returns the line that says this of a fleet of so many servers.
+    fn line(&self, servers: u16) -> String {
         let shards = self.shards();
         // Whatever server is away, the others have room.
         let capacity = shards.div_ceil(servers.saturating_sub(1).max(1));
@@ -102,7 +203,7 @@ impl Sharding {
             "workers": 1,
             "domains": domains,
         });
-        format!("{rule}\n{line}")
+        line.to_string()
     }
 }
 
@@ -118,27 +219,64 @@ impl fmt::Debug for Sharding {
 const HASHES: &str = "hash";
 const RANGES: &str = "ranges";
 
-/// Writes the settings if the store has none.
+/// Writes the settings if the store has none. Returns them as they lie there.
 ///
 /// # Errors
 ///
 /// The store has others, or can't be read or written.
-pub(crate) fn agree(store: &dyn Store, wanted: &str) -> Result<(), JoinError> {
+pub(crate) fn agree(store: &dyn Store, wanted: String) -> Result<String, JoinError> {
     let first = Transaction::new()
         .compare(keys::SETTINGS, Revision::NEVER)
-        .put(keys::SETTINGS, wanted)
+        .put(keys::SETTINGS, &*wanted)
         .or_read(keys::SETTINGS);
     let Outcome::Lost(reading) = store.make(first)? else {
-        return Ok(());
+        return Ok(wanted);
     };
     let found = reading.get(keys::SETTINGS).map_or(&[][..], |it| &it.value);
-    match found == wanted.as_bytes() {
-        true => Ok(()),
-        false => Err(JoinError::OtherSettings {
-            found: String::from_utf8_lossy(found).into_owned(),
-            wanted: wanted.to_owned(),
-        }),
+    let found = String::from_utf8_lossy(found).into_owned();
+    match differences(&found, &wanted) {
+        none if none.is_empty() => Ok(found),
+        some => Err(JoinError::OtherSettings(some)),
     }
+}
+
+/// Returns in what these settings differ, by name, and nothing if they say the same.
+fn differences(found: &str, wanted: &str) -> String {
+    let read = |text: &str| {
+        let (rule, line) = text.split_once('\n').unwrap_or((text, ""));
+        let members = serde_json::from_str::<Map<_, _>>(line);
+        (rule.to_owned(), members.unwrap_or_default())
+    };
+    let ((rule, there), (other, here)) = (read(found), read(wanted));
+    let by_rule = (rule != other).then(|| differing("keys go to shards", &rule, &other));
+    let names: std::collections::BTreeSet<&String> = there.keys().chain(here.keys()).collect();
+    let members = names.into_iter().filter_map(|name| {
+        let of = |members: &Map<String, Value>| members.get(name).cloned().unwrap_or_default();
+        difference(name, &of(&there), &of(&here))
+    });
+    let told: Vec<_> = by_rule.into_iter().chain(members).take(TOLD).collect();
+    told.join("; ")
+}
+
+/// Returns in what a member differs: by how many rows, or by the first one of them.
+fn difference(name: &str, there: &Value, here: &Value) -> Option<String> {
+    match (there, here) {
+        (there, here) if there == here => None,
+        (Value::Array(there), Value::Array(here)) if there.len() != here.len() => {
+            let rows = |it: &[Value]| format!("{} rows", it.len());
+            Some(differing(name, &rows(there), &rows(here)))
+        }
+        (Value::Array(there), Value::Array(here)) => {
+            let mut rows = (0..).zip(there.iter().zip(here));
+            rows.find_map(|(at, (there, here))| difference(&format!("{name}[{at}]"), there, here))
+        }
+        (there, here) => Some(differing(name, &there.to_string(), &here.to_string())),
+    }
+}
+
+fn differing(name: &str, there: &str, here: &str) -> String {
+    let cut = |it: &str| it.chars().take(CUT).collect::<String>();
+    format!("{name}: {} there, {} here", cut(there), cut(here))
 }
 
 /// Returns the line of the settings that the proved control reads.
@@ -192,16 +330,80 @@ mod tests {
             Sharding::hashes(5).unwrap(),
             Sharding::ranges(["", "a\"],b", "c\\"].map(str::to_owned).to_vec()).unwrap(),
         ] {
-            let written = sharding.settings(3);
-            let read = Sharding::written(&written).unwrap().unwrap();
-            assert_eq!(read.settings(3), written);
+            let settings = Settings::of_servers(sharding, 3);
+            let read = Sharding::written(&settings.written()).unwrap().unwrap();
+            assert_eq!(Settings::of_servers(read, 3).written(), settings.written());
+            let read = Sharding::written(&settings.written()).unwrap().unwrap();
             for key in ["", "a", "b", "customer-17", "zz"] {
-                assert_eq!(
-                    read.shard_of(key.as_bytes()),
-                    sharding.shard_of(key.as_bytes())
-                );
+                let key = key.as_bytes();
+                assert_eq!(read.shard_of(key), settings.sharding.shard_of(key));
             }
         }
+    }
+
+    const LINE: &str = r#"{"version":2,"bounds":["","m"],"servers":[{"id":1,"domain":0,"capacity":3},
+        {"id":2,"domain":1,"capacity":1}],"groups":[{"limit":2,"down":2}],"shards":[{"group":0,"load":1,"cap":1},
+        {"group":0,"load":1,"cap":1}],"ops":1,"kept":9,"ceiling":1000,"workers":1,"domains":[{"domain":0,"down":1},
+        {"domain":1,"down":1}]}"#;
+
+    #[test]
+    fn settings_of_scripts_are_read_by_the_library() {
+        let settings = Settings::of_text(LINE, false).unwrap();
+        let written = settings.written();
+        assert!(
+            written.starts_with("ranges\n{") && written.lines().count() == 2,
+            "{written}"
+        );
+        let shards = ["a", "m", "z"].map(|it| settings.sharding.shard_of(it.as_bytes()));
+        assert_eq!((settings.servers, shards), (2, [0, 1, 1]));
+        let hashed = Settings::of_text(LINE, true).unwrap();
+        let read = Sharding::written(&hashed.written()).unwrap().unwrap();
+        let keys = ["a", "m", "customer-17", "zz"].map(str::as_bytes);
+        assert_eq!(
+            keys.map(|it| read.shard_of(it)),
+            keys.map(|it| hashed.sharding.shard_of(it))
+        );
+        for (from, to, name) in [
+            ("\"id\":2", "\"id\":3", "BadServers"),
+            ("\"ops\":1", "\"ops\":5000", "BadOps"),
+            ("\"ops\":1", "\"oops\":1", "BadShape"),
+            ("\"m\"", "\"\"", "BadLayout"),
+            ("]}", "", "BadJson"),
+        ] {
+            let fault = Settings::of_text(&LINE.replace(from, to), false).unwrap_err();
+            assert!(fault.to_string().starts_with(name), "{fault}");
+        }
+    }
+
+    #[test]
+    fn it_is_told_in_what_settings_differ() {
+        let settings = |line: &str| format!("ranges\n{line}");
+        let found = settings(LINE);
+        assert_eq!(
+            differences(&found, &settings(&LINE.replace([' ', '\n'], ""))),
+            ""
+        );
+        for (from, to, told) in [
+            ("\"ops\":1", "\"ops\":2", "ops: 1 there, 2 here"),
+            ("\"m\"", "\"n\"", "bounds[1]: \"m\" there, \"n\" here"),
+            (
+                ",{\"domain\":1,\"down\":1}",
+                "",
+                "domains: 2 rows there, 1 rows here",
+            ),
+        ] {
+            let line = LINE.replace([' ', '\n'], "");
+            assert_eq!(
+                differences(&found, &settings(&line.replace(from, to))),
+                told
+            );
+        }
+        let hashed = found.replace(RANGES, HASHES);
+        assert_eq!(
+            differences(&found, &hashed),
+            "keys go to shards: ranges there, hash here"
+        );
+        assert!(!differences("", &found).is_empty());
     }
 
     #[test]

@@ -98,7 +98,7 @@ impl Stream {
 
     /// Whether nothing has come that wasn't read, nor the end.
     pub(crate) fn is_quiet(&self) -> bool {
-        polled(&self.socket, PollFlags::IN | PollFlags::RDHUP).is_empty()
+        is_quiet(&self.socket)
     }
 }
 
@@ -134,6 +134,11 @@ pub(crate) fn left(end: Instant) -> Duration {
 /// read yet: so it isn't looked for these.
 pub(crate) fn is_open(socket: &TcpStream) -> bool {
     polled(socket, PollFlags::RDHUP).is_empty()
+}
+
+/// Returns whether nothing has come that wasn't read, nor the end.
+pub(crate) fn is_quiet(socket: &TcpStream) -> bool {
+    polled(socket, PollFlags::IN | PollFlags::RDHUP).is_empty()
 }
 
 fn polled(socket: &TcpStream, asked: PollFlags) -> PollFlags {

@@ -55,7 +55,9 @@ impl Beginning {
     pub fn turn(self) -> BeginningStep {
         match self.joining.turn() {
             JoinStep::Joined(member) => BeginningStep::Joined(Arc::new(member), self.shape),
-            JoinStep::Waits(joining, _) => BeginningStep::Waits(Box::new(Beginning { joining, ..self })),
+            JoinStep::Waits(joining, _) => {
+                BeginningStep::Waits(Box::new(Beginning { joining, ..self }))
+            }
             JoinStep::Failed(fault) => BeginningStep::Failed(fault),
         }
     }

@@ -1,13 +1,14 @@
 //! How two processes make themselves known to each other, as bytes that come and go.
 use super::greeting::VERSION;
 use super::{Admission, Greeting, Identity, Secret, Terms, WireFault, OTHER_SECRET};
+use std::fmt;
 use std::io;
 
 /// No greeting is longer.
 const MOST: usize = 8 << 10;
 
 /// The side of a handshake that connects: it greets, and learns who answers.
-pub(super) struct Greeter {
+pub struct Greeter {
     /// Who this process is.
     own: Identity,
     /// The server that the other process is to run.
@@ -20,7 +21,7 @@ pub(super) struct Greeter {
 impl Greeter {
     /// Greets the process that was reached, which is to run this server, in this version. Returns the greeter and the
     /// bytes to send.
-    pub(super) fn new(terms: &Terms, server: u16, version: u8) -> (Greeter, Vec<u8>) {
+    pub fn new(terms: &Terms, server: u16, version: u8) -> (Greeter, Vec<u8>) {
         let secret = terms.secret.as_ref().map_or(&[][..], Secret::reveal);
         let hello = Greeting::Hello(terms.identity, server, secret.to_vec());
         let greeter = Greeter {
@@ -39,7 +40,7 @@ impl Greeter {
     ///
     /// If the process isn't who it is to be, or refuses. One that speaks an older version refuses by
     /// [`WireFault::Older`].
-    pub(super) fn receive(&mut self, bytes: &[u8]) -> io::Result<Option<Identity>> {
+    pub fn receive(&mut self, bytes: &[u8]) -> io::Result<Option<Identity>> {
         let Some((greeting, spoken)) = self.input.receive(bytes)? else {
             return Ok(None);
         };
@@ -57,6 +58,14 @@ impl Greeter {
             None => Ok(Some(identity)),
             Some(why) => Err(io::Error::other(why)),
         }
+    }
+}
+
+impl fmt::Debug for Greeter {
+    fn fmt(&self, f: &mut fmt::Formatter<'_>) -> fmt::Result {
+        f.debug_struct("Greeter")
+            .field("server", &self.server)
+            .finish_non_exhaustive()
     }
 }
 

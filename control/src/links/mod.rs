@@ -73,6 +73,7 @@ pub use forwarded_command::ForwardedCommand;
 pub use forwarded_request::{ForwardedMessage, ForwardedRequest};
 pub use frame::{Frame, MAX_FRAME, MAX_REQUEST, MAX_REQUESTS};
 pub use greeting::{Greeting, MAX_SECRET, VERSION};
+pub use handshake::Greeter;
 pub use host::Host;
 pub use identity::{checksum, Identity, FIRST_TABLE};
 pub use keep_alive::{KeepAlive, KEEP_ALIVE};

@@ -7,8 +7,8 @@ use std::sync::{Arc, Mutex};
 /// How many processes are waited for.
 pub(super) const MOST: usize = 64;
 
-/// Whoever connected, and hasn't shown yet that it is of the cluster. They have places of their own, and each that comes
-/// too many ends the one that has taken longest: so nobody keeps processes apart by saying nothing.
+/// Whoever connected, and hasn't shown yet that it is of the cluster. They have places of their own, and each that
+/// comes too many ends the one that has taken longest: so nobody keeps processes apart by saying nothing.
 pub struct PendingHandshakes {
     most: usize,
     state: Mutex<HandshakesState>,

@@ -14,7 +14,7 @@ impl Secret {
         (!bytes.is_empty()).then(|| Secret(bytes.into()))
     }
 
-    /// Returns the first line of the file. If no file is named, returns the variable of the environment, if that is set.
+    /// Returns the first line of the file. If no file is named, returns the variable of the environment, if it is set.
     ///
     /// # Errors
     ///

@@ -8,8 +8,8 @@ use std::net::TcpStream;
 use std::path::Path;
 use std::time::Duration;
 
-/// How the processes of a fleet and its clients meet by TLS, at one port: either side shows a certificate of the fleet's
-/// authority. A process's has the name of peers, for which who connects looks.
+/// How the processes of a fleet and its clients meet by TLS, at one port: either side shows a certificate of the
+/// fleet's authority. A process's has the name of peers, for which who connects looks.
 #[derive(Clone)]
 pub struct FleetTls {
     as_client: SslContext,
@@ -40,6 +40,15 @@ impl FleetTls {
         self.is_process
     }
 
+    /// Returns a connection to a process, before its first byte.
+    ///
+    /// # Errors
+    ///
+    /// OpenSSL has no memory for it.
+    pub fn connection(&self) -> io::Result<TlsConnection> {
+        TlsConnection::connecting(&self.as_client, PEER_NAME).map_err(io::Error::other)
+    }
+
     /// Meets the process that was connected to, in this time in all. Returns what reads from it and what writes to it.
     ///
     /// # Errors
@@ -51,8 +60,7 @@ impl FleetTls {
         socket: TcpStream,
         within: Duration,
     ) -> io::Result<(ReadHalf, WriteHalf)> {
-        let connection = TlsConnection::connecting(&self.as_client, PEER_NAME);
-        let (caller, halves) = met(connection.map_err(io::Error::other)?, socket, within)?;
+        let (caller, halves) = met(self.connection()?, socket, within)?;
         caller.as_process().map(|()| halves)
     }
 

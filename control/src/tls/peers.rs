@@ -118,10 +118,7 @@ pub(super) fn met(
 ) -> io::Result<(Caller, Halves)> {
     socket.set_nodelay(true)?;
     shake(&mut connection, &socket, within)?;
-    let caller = match connection.shown().is_some_and(|it| is_peer(&it)) {
-        true => Caller::Process,
-        false => Caller::Client,
-    };
+    let caller = connection.caller();
     let (other, shared) = (
         socket.try_clone()?,
         Arc::new(SharedConnection::new(connection)),
@@ -130,9 +127,23 @@ pub(super) fn met(
     Ok((caller, (reader, WriteHalf::new(socket, shared))))
 }
 
+impl TlsConnection {
+    /// Returns who the other side is, by the certificate that it has shown, once the handshake is over.
+    pub fn caller(&self) -> Caller {
+        match self.shown().is_some_and(|it| is_peer(&it)) {
+            true => Caller::Process,
+            false => Caller::Client,
+        }
+    }
+}
+
 impl Caller {
     /// Says that it isn't a process, if it isn't.
-    pub(super) fn as_process(self) -> io::Result<()> {
+    ///
+    /// # Errors
+    ///
+    /// `InvalidData` for a client.
+    pub fn as_process(self) -> io::Result<()> {
         match self {
             Caller::Process => Ok(()),
             Caller::Client => {
