@@ -9,13 +9,13 @@ use durkenzo_fleet::{Call, Came, Fault, Fleet, Options, Retry, Router, Service, 
 use serde::{Deserialize, Serialize};
 use std::collections::HashMap;
 use std::io::{self, ErrorKind};
-use std::path::PathBuf;
-use std::{error::Error, fs, mem, thread, time::Duration};
+use std::{error::Error, fs, mem, path::PathBuf, thread, time::Duration};
 
 /// How many bytes of keys and values are kept of a shard at most, but for the last value.
 const MOST: usize = 1 << 20;
 /// How long the slow store takes.
 const SLOW: Duration = Duration::from_millis(20);
+const PATIENCE: Duration = Duration::from_secs(10);
 
 /// What was loaded of a shard, in two halves. What wasn't used since the older half was the newer one is dropped.
 #[derive(Default, Serialize, Deserialize)]
@@ -108,10 +108,10 @@ impl Service for Cache {
 fn main() -> Result<(), Box<dyn Error>> {
     let words: Vec<String> = std::env::args().skip(1).collect();
     if let [url, key, asked] = &words[..] {
-        let retry = Retry::Until(Duration::from_secs(10));
-        let request = format!("{key} {asked}");
+        let (request, retry) = (format!("{key} {asked}"), Retry::Until(PATIENCE));
         let answer = Router::of(url)?.call(key.as_bytes(), request.as_bytes(), retry)?;
-        return Ok(println!("{}", String::from_utf8_lossy(&answer.bytes)));
+        println!("{}", String::from_utf8_lossy(&answer.bytes));
+        return Ok(());
     }
     let folder = std::env::var_os("SLOW").ok_or("SLOW names no folder")?;
     let fleet = Fleet::join(Cache(folder.into()), Options::parse())?;

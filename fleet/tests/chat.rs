@@ -133,7 +133,7 @@ impl Member {
     /// Hears what comes until a line has this text.
     fn hear(&mut self, text: &str) {
         let end = Instant::now() + PATIENCE;
-        while !self.heard.last().is_some_and(|it| it.1 == text) {
+        while self.heard.last().is_none_or(|it| it.1 != text) {
             assert!(
                 Instant::now() < end,
                 "{text} wasn't heard: {:?}",
