@@ -20,8 +20,10 @@ pub enum Enter<'a, S: Service> {
 pub struct Destination {
     /// The server.
     pub server: u16,
-    /// Where it is reached, if it is there.
+    /// Where it is reached by a fleet's frames, if it is there.
     pub address: Option<String>,
+    /// Where clients reach it by frames of the service's own, if it is there: its `--clients`, or else its address.
+    pub clients: Option<String>,
     /// The revision of the shard's record by which it goes there. The other process reads the record of it first.
     pub revision: u64,
 }

@@ -243,7 +243,7 @@ impl<S: Service> FleetInner<S> {
         let (addresses, lease) = (
             Addresses {
                 servers: at.clone(),
-                clients: at,
+                clients: options.clients.clone().unwrap_or(at),
             },
             Duration::from_secs(options.lease),
         );
@@ -393,16 +393,22 @@ impl<S: Service> FleetInner<S> {
     }
 
     fn destination(&self, server: u16, revision: u64) -> Destination {
+        let addresses = self.addresses_of(server);
         Destination {
             server,
-            address: self.address_of(server),
+            address: addresses.clone().map(|it| it.servers),
+            clients: addresses.map(|it| it.clients),
             revision,
         }
     }
 
     pub(crate) fn address_of(&self, server: u16) -> Option<String> {
+        self.addresses_of(server).map(|it| it.servers)
+    }
+
+    fn addresses_of(&self, server: u16) -> Option<Addresses> {
         let members = self.member.members();
-        members.get(&server).map(|it| it.addresses.servers.clone())
+        members.get(&server).map(|it| it.addresses.clone())
     }
 
     /// Whether the permit holds still, by what was known as it was given and the lease as it was kept since.

@@ -5,7 +5,7 @@ use clap::{Args, Parser};
 use durkenzo::LayoutFault;
 use durkenzo_control::links::Secret;
 use durkenzo_store::{Access, Etcd, Store};
-use std::net::SocketAddr;
+use std::net::{SocketAddr, TcpListener};
 use std::path::PathBuf;
 use std::sync::Arc;
 use std::time::Duration;
@@ -88,6 +88,10 @@ pub struct Options {
     /// How they reach it, if that is another way
     #[arg(long, env = "DURKENZO_ADVERTISE", value_name = "ADDRESS:PORT")]
     pub advertise: Option<String>,
+
+    /// Where clients reach what the service answers by frames of its own, which other servers are told
+    #[arg(long, env = "DURKENZO_CLIENTS", value_name = "ADDRESS:PORT")]
+    pub clients: Option<String>,
 
     /// Lets other machines connect, though they need neither a secret nor TLS: for a private network
     #[arg(long, env = "DURKENZO_OPEN")]
@@ -260,6 +264,21 @@ impl Options {
             Some(tls) if !tls.is_process() => Err(JoinError::NoProcess),
             _ => Ok(safety),
         }
+    }
+
+    /// Listens for clients of frames of the service's own: at `--clients`, or else at a free port of this machine, which is
+    /// noted there, so that other servers are told. Comes before [`Fleet::join`](crate::Fleet::join).
+    ///
+    /// # Errors
+    ///
+    /// The address isn't of this machine, or is taken.
+    pub fn listen_for_clients(&mut self) -> Result<TcpListener, JoinError> {
+        let at = self.clients.as_deref().unwrap_or("127.0.0.1:0");
+        let listener = TcpListener::bind(at).and_then(|it| Ok((it.local_addr()?, it)));
+        let (bound, listener) =
+            listener.map_err(|error| JoinError::Address(at.to_owned(), error))?;
+        self.clients = Some(bound.to_string());
+        Ok(listener)
     }
 
     /// Returns the settings of the fleet, if all options are within their bounds.

@@ -244,7 +244,7 @@ impl Router {
         match &self.source {
             Source::Store(map) => {
                 let route = map.route(shard)?;
-                Some((route.addresses.clients, route.revision.0))
+                Some((route.addresses.servers, route.revision.0))
             }
             Source::Servers(told) => {
                 let told = locked(told);

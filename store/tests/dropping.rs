@@ -1,5 +1,8 @@
-//! What a store tells may let go of the store last.
-use durkenzo_store::{Access, Embedded, Etcd, Store, Transaction};
+//! What a store tells may let go of the store last, and a watch goes on without the store.
+mod beside;
+
+use beside::Member;
+use durkenzo_store::{Access, Embedded, Etcd, Seen, Store, Transaction};
 use std::sync::mpsc;
 use std::sync::Arc;
 use std::time::Duration;
@@ -36,4 +39,22 @@ fn a_store_on_etcd_may_be_dropped_by_what_it_tells() {
         ..Access::new(["http://127.0.0.1:1"])
     };
     assert!(is_let_go(Etcd::new(access).expect("an address")));
+}
+
+#[test]
+fn a_watch_on_etcd_goes_on_once_its_store_is_dropped() {
+    let Some(member) = Member::start(&[]) else {
+        return;
+    };
+    let (tell, told) = mpsc::channel();
+    let watcher = Box::new(move |seen| drop(tell.send(seen)));
+    let watched = member.store().watch(b"key/", watcher);
+    let watch = watched.expect("a watch");
+    let put = Transaction::new().put("key/1", "");
+    member.store().make(put).expect("an outcome");
+    let is_change = |it: Seen| matches!(it, Seen::Changes(_, changes) if !changes.is_empty());
+    while !is_change(told.recv_timeout(PATIENCE).expect("the change")) {}
+    // Its thread has ended once nobody can tell any more.
+    drop(watch);
+    while told.recv_timeout(PATIENCE).is_ok() {}
 }

@@ -1,10 +1,12 @@
 """What a cluster of several processes over etcd passes, where etcd is installed: it begins and ends as a demo, a short
 trial by faults finds nothing wrong and finds planted bugs, and what its page says to type does what it says."""
 import contextlib
+import json
 import re
 import shutil
 import signal
 import subprocess
+import urllib.request
 
 import fleet
 import other_crates
@@ -52,6 +54,52 @@ def demo(room, program):
     yield verdict("the demo wants an empty folder", is_refused, again.stderr)
 
 
+def service(room):
+    """The demo of a user's service answers, moves a shard that its page asks for, and leaves nothing but logs."""
+    command = [sources.TOP / "sm", "fleet", "demo", "--port", "0", "--folder", f"{room}/service"]
+    with subprocess.Popen(command, stdout=subprocess.PIPE, stderr=subprocess.STDOUT, text=True) as run:
+        said = []
+        for line in run.stdout:
+            said.append(line)
+            if "Ctrl-C" in line:
+                break
+        text = "".join(said)
+        url = re.search(r"http://\S+/", text)
+        try:
+            seen = moved(url[0]) if url else "there is no page"
+        except (AssertionError, OSError) as why:
+            seen = str(why)
+        finally:
+            run.send_signal(signal.SIGINT)
+        rest = run.communicate(timeout=SECONDS)[0]
+    yield verdict("the demo of a service moves a shard, with no call refused or unsure", seen is None, f"{text}{seen}")
+    yield verdict("the demo of a service ends", run.returncode == 0 and "stopped" in rest, f"{run.returncode}: {rest}")
+    left = [it for it in re.findall(r"process (\d+)", text) if runs.pathlib.Path(f"/proc/{it}").exists()]
+    yield verdict("the demo of a service leaves no process", not left, str(left))
+
+
+def moved(url):
+    """Moves a shard by the page, and returns what isn't as it should be, or nothing."""
+
+    def state(holds):
+        def look():
+            found = json.loads(urllib.request.urlopen(f"{url}state.json").read())
+            return found if found.get("shards") and holds(found) else None
+
+        return fleet.served.eventually(look)
+
+    if b"<script>" not in urllib.request.urlopen(url).read():
+        return "it is another page"
+    begun = state(lambda it: it["calls"]["answered"] and all(row[1] == "Serving" for row in it["shards"]))
+    target = str(int(begun["shards"][0][2]) % 3 + 1)
+    how = {"method": "POST", "headers": {"X-Demo": "1"}}
+    urllib.request.urlopen(urllib.request.Request(f"{url}ask", f"MIGRATE 0 {target}".encode(), **how)).close()
+    after = state(lambda it: it["shards"][0][1:3] == ["Serving", target])
+    later = state(lambda it: it["calls"]["answered"] > after["calls"]["answered"])
+    is_well = not later["calls"]["refused"] and not later["calls"]["unsure"]
+    return None if is_well else f"{after} {later}"
+
+
 def asked(port):
     """What a server of the demo answers to a text that each is given, once it isn't refused, as a lease may end."""
 
@@ -86,6 +134,7 @@ def passed(room):
         yield Verdict("the server is built", str(missing))
         return
     yield from demo(room, program)
+    yield from service(room)
     yield tool("trial", "--cluster", "--nemesis", "kill-server,moves", "--minutes", 0.25, program)
     for bug, minutes in PLANTED.items():
         yield found(bug, minutes, program)

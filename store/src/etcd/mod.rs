@@ -22,6 +22,7 @@ use gateway::{Gateway, RANGE};
 use member_caller::MemberCaller;
 use serde::de::IgnoredAny;
 use std::fmt;
+use std::sync::Arc;
 use std::time::Duration;
 use watch_loop::watch;
 use wire::{
@@ -42,7 +43,8 @@ const KEYS: usize = 8_192;
 /// A member that can't be reached, or refuses a call for itself, is passed over for the next one. A transaction that a
 /// member may have got is never sent again: its outcome is then [`WriteError::Unknown`](crate::WriteError::Unknown).
 pub struct Etcd {
-    caller: MemberCaller,
+    /// Watches have it too, so that they go on without the store.
+    caller: Arc<MemberCaller>,
     /// Who grants, keeps and ends leases: whoever is told of something by the other one may hold that one up for longer
     /// than a lease.
     keeper: MemberCaller,
@@ -56,7 +58,7 @@ impl Etcd {
     /// Where an address can't be read, a file of certificates can't be used, or the system gives no thread.
     pub fn new(access: Access) -> Result<Etcd, StartError> {
         let keeper = MemberCaller::new("leases", access.clone())?;
-        let caller = MemberCaller::new("etcd", access)?;
+        let caller = Arc::new(MemberCaller::new("etcd", access)?);
         Ok(Etcd { caller, keeper })
     }
 }
@@ -114,8 +116,12 @@ impl Store for Etcd {
     fn watch(&self, prefix: &[u8], watcher: Watcher) -> Result<Watch, ReadError> {
         let (gateway, prefix) = (self.caller.gateway(), prefix.to_vec());
         let reading = self.read_all(&prefix)?;
-        let task = self.caller.spawn(watch(gateway, prefix, reading, watcher));
-        Ok(Watch::ended_by(move || task.abort()))
+        let caller = self.caller.clone();
+        let task = caller.spawn(watch(gateway, prefix, reading, watcher));
+        Ok(Watch::ended_by(move || {
+            task.abort();
+            drop(caller);
+        }))
     }
 
     fn grant(&self, length: Duration) -> Result<LeaseId, LeaseError> {
