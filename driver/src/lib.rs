@@ -20,7 +20,6 @@ mod decision;
 // Shards are told the time, so that they can be simulated: clippy.toml names what they don't call.
 #[deny(clippy::disallowed_methods)]
 mod durable;
-mod durable_threads;
 mod elsewhere;
 mod intent;
 mod join_fault;

@@ -61,11 +61,15 @@ pub enum Fault {
     ConnectionBreaks,
     /// With a process its machine is gone, so that nobody is told.
     MachineGone,
+    /// An answer of a member is cut.
+    AnswerCut,
+    /// The store says that it had no room for what it made.
+    FullThoughMade,
 }
 
 impl Fault {
     /// All of them, in their order.
-    pub const ALL: [Fault; 29] = [
+    pub const ALL: [Fault; 31] = [
         Fault::MemberHangs,
         Fault::MemberGone,
         Fault::MemberLags,
@@ -95,6 +99,8 @@ impl Fault {
         Fault::ConnectionCut,
         Fault::ConnectionBreaks,
         Fault::MachineGone,
+        Fault::AnswerCut,
+        Fault::FullThoughMade,
     ];
 
     /// Returns its name, as timelines and counts have it.
@@ -129,6 +135,8 @@ impl Fault {
             Fault::ConnectionCut => "connection-cut",
             Fault::ConnectionBreaks => "connection-breaks",
             Fault::MachineGone => "machine-gone",
+            Fault::AnswerCut => "answer-cut",
+            Fault::FullThoughMade => "full-though-made",
         }
     }
 }

@@ -4,8 +4,8 @@
 //! schedules they talk by the links of `durkenzo_control` over a network of chance. They crash and forget, learn late
 //! of records, lose their leases and go on. The store is an etcd whose members hang, lag, are gone, or have no room.
 //! Transactions come late, twice or never, and nobody may learn what became of them. What lies in the store and what
-//! clients were told is checked by a reading of its own. One seed is one run, and each fault has a name: what breaks a
-//! law is shrunk to the fewest faults that do.
+//! clients were told is checked by a reading of its own. Another part of each seed runs the client of etcd that ships.
+//! One seed is one run, and each fault has a name: what breaks a law is shrunk to the fewest faults that do.
 #![forbid(unsafe_code)]
 
 mod beginning;
@@ -17,6 +17,7 @@ mod command;
 mod command_mail;
 mod control_shape;
 pub mod etcd;
+pub mod etcd_client;
 pub mod fault;
 pub mod faults;
 mod flight;
@@ -31,6 +32,7 @@ mod network;
 mod operator;
 mod operator_command;
 mod operator_reply;
+pub mod part;
 pub mod plan;
 mod process;
 pub mod reading;

@@ -9,15 +9,17 @@ use rustix::time::{clock_gettime, ClockId};
 use simulation::bug::{Bug, BUGS};
 use simulation::fault::{Fault, NumberedFault};
 use simulation::faults::Kept;
+use simulation::part::Part;
 use simulation::plan::Plan;
 use simulation::shrink::shrunk;
 use simulation::tally::Tally;
-use simulation::world::{run, run_by, transcript};
+use simulation::world::{run_by, transcript};
 use std::process::ExitCode;
 use std::time::{Duration, Instant};
 
-const USAGE: &str = "usage: simulation [--schedules N] [--seed S] [--seconds T] [--processor-seconds T] [--bug NAME]
-       simulation --show S [--bug NAME] [--keep FAULTS]
+const USAGE: &str = "usage: simulation [--schedules N] [--seed S] [--seconds T] [--processor-seconds T] [--part PART]
+                  [--bug NAME]
+       simulation --show S [--part PART] [--bug NAME] [--keep FAULTS]
        simulation --transcript S";
 
 struct Options {
@@ -25,6 +27,8 @@ struct Options {
     seed: u64,
     seconds: u64,
     processor_seconds: u64,
+    /// The only part that is run; all are if none is named.
+    part: Option<Part>,
     bug: Option<Bug>,
     kept: Kept,
     /// The seed of the schedule whose timeline is shown.
@@ -33,12 +37,24 @@ struct Options {
     transcript: Option<u64>,
 }
 
+impl Options {
+    /// The parts of each seed that are run: bugs are of processes.
+    fn parts(&self) -> Vec<Part> {
+        match (self.part, self.bug) {
+            (Some(part), _) => vec![part],
+            (None, Some(_)) => vec![Part::Processes],
+            (None, None) => Part::ALL.to_vec(),
+        }
+    }
+}
+
 fn wanted() -> Option<Options> {
     let mut wanted = Options {
         schedules: 10_000,
         seed: 1,
         seconds: u64::MAX,
         processor_seconds: u64::MAX,
+        part: None,
         bug: None,
         kept: Kept::All,
         show: None,
@@ -53,6 +69,7 @@ fn wanted() -> Option<Options> {
             "--seconds" => wanted.seconds = value.parse().ok()?,
             "--processor-seconds" => wanted.processor_seconds = value.parse().ok()?,
             "--bug" => wanted.bug = Some(*BUGS.iter().find(|it| format!("{it:?}") == value)?),
+            "--part" => wanted.part = Some(value.parse().ok()?),
             "--keep" => {
                 wanted.kept = Kept::Only(value.split(',').map(numbered).collect::<Option<_>>()?)
             }
@@ -82,7 +99,11 @@ fn processor_time() -> Duration {
 
 fn main() -> ExitCode {
     let Some(wanted) = wanted() else {
-        eprintln!("{USAGE}\nbugs: {BUGS:?}");
+        eprintln!(
+            "{USAGE}\nparts: {}, {}\nbugs: {BUGS:?}",
+            Part::ALL[0],
+            Part::ALL[1]
+        );
         return ExitCode::from(2);
     };
     if let Some(seed) = wanted.transcript {
@@ -93,6 +114,7 @@ fn main() -> ExitCode {
         Some(seed) => {
             let plan = Plan {
                 kept: wanted.kept,
+                part: wanted.part.unwrap_or(Part::Processes),
                 ..Plan::new(seed, wanted.bug)
             };
             show(&plan)
@@ -108,17 +130,25 @@ fn search(wanted: &Options) -> ExitCode {
     let of_processor = Duration::from_secs(wanted.processor_seconds.min(1 << 40));
     while count < wanted.schedules && begun.elapsed() < limit && processor_time() < of_processor {
         let seed = wanted.seed.wrapping_add(count);
-        let (tally, verdict) = run(seed, wanted.bug);
         count += 1;
-        all.add(&tally);
-        if let Err(broken) = verdict {
-            println!("broken by seed {seed}, schedule {count}: {}", broken.law);
-            let plan = Plan::new(seed, wanted.bug);
-            let faults = shrunk(&plan).unwrap_or_default();
-            return show(&Plan {
-                kept: Kept::Only(faults.into_iter().collect()),
-                ..plan
-            });
+        for part in wanted.parts() {
+            let plan = Plan {
+                part,
+                ..Plan::new(seed, wanted.bug)
+            };
+            let ran = run_by(&plan);
+            all.add(&ran.tally);
+            if let Err(broken) = ran.verdict {
+                println!(
+                    "broken by seed {seed}, schedule {count}, {part}: {}",
+                    broken.law
+                );
+                let faults = shrunk(&plan).unwrap_or_default();
+                return show(&Plan {
+                    kept: Kept::Only(faults.into_iter().collect()),
+                    ..plan
+                });
+            }
         }
     }
     println!(

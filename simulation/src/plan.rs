@@ -3,12 +3,15 @@ use crate::bug::Bug;
 use crate::fault::NumberedFault;
 use crate::faults::Kept;
 use crate::law::Broken;
+use crate::part::Part;
 use crate::tally::Tally;
 
 /// What a schedule is run by. Two runs by one plan are the same, byte for byte.
 #[derive(Clone, Debug)]
 pub struct Plan {
     pub seed: u64,
+    /// What it runs.
+    pub part: Part,
     pub bug: Option<Bug>,
     /// Which of the faults strike that the seed draws.
     pub kept: Kept,
@@ -17,10 +20,11 @@ pub struct Plan {
 }
 
 impl Plan {
-    /// Returns a plan of all faults of this seed, whose timeline isn't kept.
+    /// Returns a plan for processes, of all faults of this seed, whose timeline isn't kept.
     pub fn new(seed: u64, bug: Option<Bug>) -> Plan {
         Plan {
             seed,
+            part: Part::Processes,
             bug,
             kept: Kept::All,
             is_shown: false,

@@ -10,6 +10,7 @@ use crate::chance::Chance;
 use crate::client::{Asking, Claims, Client};
 use crate::command::{command, settings};
 use crate::control_shape::ControlShape;
+use crate::etcd_client::run_clients_by;
 use crate::fault::Fault;
 use crate::faults::{counts_of, Faults};
 use crate::key::Written;
@@ -18,6 +19,7 @@ use crate::ledger::SharedLedger;
 use crate::links::{LinkShape, Parcels};
 use crate::mail::{broken, visiting, Mails, Message, Sender, StepAnswer};
 use crate::network::SimulatedNetwork;
+use crate::part::Part;
 use crate::plan::{Plan, Ran};
 use crate::process::{Process, LEASE};
 use crate::simulated_store::{locked, SharedStore, SimulatedStore};
@@ -144,6 +146,13 @@ pub fn run(seed: u64, bug: Option<Bug>) -> (Tally, Result<(), Broken>) {
 
 /// Runs one schedule by a plan, checks it, and tells what struck and happened.
 pub fn run_by(plan: &Plan) -> Ran {
+    match plan.part {
+        Part::Processes => run_processes_by(plan),
+        Part::EtcdClient => run_clients_by(plan),
+    }
+}
+
+fn run_processes_by(plan: &Plan) -> Ran {
     let mut world = World::new(plan);
     world.pass();
     let (faults, timeline) = (world.faults.clone(), world.timeline.clone());

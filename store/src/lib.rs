@@ -33,7 +33,9 @@
 
 mod embedded;
 mod error;
-#[cfg(feature = "etcd")]
+// It is told the time, so that it can be simulated: clippy.toml names what it doesn't call.
+#[cfg(feature = "etcd-client")]
+#[deny(clippy::disallowed_methods)]
 mod etcd;
 mod lease;
 mod pair;
@@ -47,6 +49,8 @@ pub use embedded::{Embedded, OpenError, Sync};
 pub use error::{CompactError, ReadError, WriteError};
 #[cfg(feature = "etcd")]
 pub use etcd::{Access, Etcd, StartError};
+#[cfg(feature = "etcd-client")]
+pub use etcd::{AnswerBody, Environment, EtcdClient, Later, MemberAnswer, MemberCall, NoAnswer};
 pub use lease::{LeaseError, LeaseId};
 pub use pair::{Pair, Reading};
 pub use revision::Revision;

@@ -1,19 +1,15 @@
 use super::call_error::{CallError, GrpcStatus};
-use super::connector::Connector;
+use super::environment::{Environment, MemberAnswer, MemberCall, NoAnswer};
 use super::line_stream::{LineStream, LONGEST};
 use super::pulse::Pulse;
+use super::race::{before, Calls};
 use super::wire::{RangeRequest, Streamed};
-use super::{Access, StartError};
-use hyper::body::HttpBody;
-use hyper::{header, Body, Client, Request, Response};
 use serde::de::{DeserializeOwned, IgnoredAny};
 use serde::{Deserialize, Serialize};
 use std::future::Future;
 use std::sync::atomic::{AtomicUsize, Ordering};
-use std::sync::{Arc, Mutex};
-use std::time::Duration;
-use tokio::task::JoinSet;
-use tokio::time::{timeout, timeout_at, Instant};
+use std::sync::{Arc, Mutex, MutexGuard, PoisonError};
+use std::time::{Duration, Instant};
 
 /// Where keys are read.
 pub(super) const RANGE: &str = "/v3/kv/range";
@@ -28,18 +24,16 @@ const SHORT: Duration = Duration::from_secs(2);
 const BRIEF: Duration = Duration::from_secs(1);
 /// How many calls of a member may be under way at once, and how often it is asked at once where all fail.
 const BESIDE: usize = 2;
-/// How long a member may take to be reached, and then for the handshake of TLS.
-const REACH: Duration = Duration::from_secs(1);
-/// What has a member end a stream once it reaches none that leads.
-const HAS_LEADER: (&str, &str) = ("Grpc-Metadata-hasleader", "true");
-
 /// The gateways of the members: a call goes to the member that answered last, and to the next where it can't be
 /// reached.
 pub(super) struct Gateway {
-    client: Client<Connector>,
-    members: Vec<String>,
+    environment: Arc<dyn Environment>,
+    members: usize,
+    /// How long an answer is waited for.
+    patience: Duration,
+    /// The user's name and password, if etcd asks for them.
+    user: Option<(String, String)>,
     current: AtomicUsize,
-    access: Access,
     token: Mutex<Option<String>>,
     /// One of each member.
     pulses: Vec<Pulse>,
@@ -57,49 +51,83 @@ struct Authenticated {
 }
 
 impl Gateway {
-    pub(super) fn new(access: Access) -> Result<Gateway, StartError> {
-        let connector = Connector::new(access.tls()?, access.patience.min(REACH));
-        let (client, members) = (Client::builder().build(connector), access.members()?);
-        Ok(Gateway {
-            client,
-            pulses: members.iter().map(|_| Pulse::default()).collect(),
+    /// Calls so many members, of which there is one at least.
+    pub(super) fn new(
+        environment: Arc<dyn Environment>,
+        members: usize,
+        patience: Duration,
+        user: Option<(String, String)>,
+    ) -> Gateway {
+        Gateway {
+            environment,
             members,
+            patience,
+            user,
             current: AtomicUsize::new(0),
-            access,
             token: Mutex::new(None),
-        })
+            pulses: (0..members).map(|_| Pulse::default()).collect(),
+        }
+    }
+
+    /// This moment.
+    fn now(&self) -> Instant {
+        self.environment.now()
+    }
+
+    /// Waits for so long.
+    pub(super) async fn wait(&self, time: Duration) {
+        self.environment.wait_until(self.now() + time).await;
+    }
+
+    /// What the call gives, if it does so in that time.
+    async fn within<T>(
+        &self,
+        patience: Duration,
+        call: impl Future<Output = Result<T, CallError>>,
+    ) -> Result<T, CallError> {
+        self.until(self.now() + patience, call).await
+    }
+
+    /// What the call gives, if it does so until then.
+    async fn until<T>(
+        &self,
+        end: Instant,
+        call: impl Future<Output = Result<T, CallError>>,
+    ) -> Result<T, CallError> {
+        let found = before(call, self.environment.wait_until(end)).await;
+        found.unwrap_or_else(|| Err(CallError::late()))
     }
 
     /// Calls a member, and no other where the first may have got the call.
     pub(super) async fn once<T: DeserializeOwned>(
         &self,
-        path: &str,
+        path: &'static str,
         asked: &impl Serialize,
     ) -> Result<T, CallError> {
         let call = |member| self.ask(member, path, asked);
-        self.reach(self.access.patience, &call).await
+        self.reach(self.patience, &call).await
     }
 
     /// Calls a member, and where it doesn't answer, or refuses for itself, the others in turn: for what may be done
     /// twice.
     pub(super) async fn again<T: DeserializeOwned>(
         &self,
-        path: &str,
+        path: &'static str,
         asked: &impl Serialize,
     ) -> Result<T, CallError> {
         let call = |member| self.ask(member, path, asked);
-        self.in_turn(self.access.patience, &call).await
+        self.in_turn(self.patience, &call).await
     }
 
     /// Calls each member that can be reached, one after another, for what may take minutes; where one fails, none after
     /// it.
     pub(super) async fn each<T: DeserializeOwned>(
         &self,
-        path: &str,
+        path: &'static str,
         asked: &impl Serialize,
     ) -> Result<(), CallError> {
-        for member in 0..self.members.len() {
-            match within(LONG, self.ask::<T>(member, path, asked)).await {
+        for member in 0..self.members {
+            match self.within(LONG, self.ask::<T>(member, path, asked)).await {
                 Ok(_) | Err(CallError::Unreachable(_)) => {}
                 Err(error) => return Err(error),
             }
@@ -109,16 +137,13 @@ impl Gateway {
 
     /// Calls a member that answers by a stream, and takes the first that it gives; where it gives none soon, others
     /// beside it too: for what may be done twice.
-    pub(super) async fn first<T: DeserializeOwned + Send + 'static>(
-        self: &Arc<Gateway>,
+    pub(super) async fn first<T: DeserializeOwned>(
+        &self,
         path: &'static str,
-        asked: &(impl Serialize + Clone + Send + Sync + 'static),
+        asked: &impl Serialize,
     ) -> Result<T, CallError> {
-        let call = |member| {
-            let (gateway, asked) = (self.clone(), asked.clone());
-            async move { gateway.first_of(member, path, &asked).await }
-        };
-        within(self.access.patience, self.beside(call)).await
+        let call = |member| self.first_of(member, path, asked);
+        self.within(self.patience, self.beside(call)).await
     }
 
     /// Has this member, and no other, tell changes by a stream, which it begins soon or not at all.
@@ -127,8 +152,8 @@ impl Gateway {
         member: usize,
         asked: &impl Serialize,
     ) -> Result<LineStream, CallError> {
-        let found = within(SHORT, self.send(member, WATCH, asked)).await?;
-        Ok(LineStream::new(found.into_body()))
+        let found = self.within(SHORT, self.send(member, WATCH, asked)).await?;
+        Ok(LineStream::new(found.body))
     }
 
     /// Whether this member, and no other for it, answers the next question after a key: it has to ask most members, so
@@ -136,14 +161,17 @@ impl Gateway {
     pub(super) async fn is_well(&self, member: usize, key: &[u8]) -> bool {
         let question = async {
             let asked = RangeRequest::counting(key);
-            match within(SHORT, self.ask::<IgnoredAny>(member, RANGE, &asked)).await {
+            let found = self.ask::<IgnoredAny>(member, RANGE, &asked);
+            match self.within(SHORT, found).await {
                 Ok(_) => true,
                 // To whom it isn't shown it is refused after the others were asked.
                 Err(CallError::Refused(it)) => it.is_of_user(),
                 Err(_) => false,
             }
         };
-        self.pulses[member].is_felt(question).await
+        self.pulses[member]
+            .is_felt(&*self.environment, question)
+            .await
     }
 
     /// Has a member do this, and where it doesn't answer, or refuses for itself, the others in turn, with this patience
@@ -153,7 +181,7 @@ impl Gateway {
         patience: Duration,
         call: &impl Fn(usize) -> F,
     ) -> Result<T, CallError> {
-        let mut left = self.members.len();
+        let mut left = self.members;
         loop {
             left -= 1;
             match self.reach(patience, call).await {
@@ -170,34 +198,32 @@ impl Gateway {
     /// leader that hangs though the member knows another one by now.
     async fn beside<T, F>(&self, call: impl Fn(usize) -> F) -> Result<T, CallError>
     where
-        T: Send + 'static,
-        F: Future<Output = Result<T, CallError>> + Send + 'static,
+        F: Future<Output = Result<T, CallError>>,
     {
-        let (mut calls, mut under_way) = (JoinSet::new(), vec![0; self.members.len()]);
+        let (mut calls, mut under_way) = (Calls::new(), vec![0; self.members]);
         let (mut next, mut begun, mut last) = (self.current(), 0, CallError::late());
         let mut begins = true;
         loop {
             if let Some(member) = with_room(&under_way, next).filter(|_| begins) {
-                let call = call(member);
-                calls.spawn(async move { (member, call.await) });
+                calls.add(member, call(member));
                 self.pass_over(member);
                 under_way[member] += 1;
                 (next, begun) = (member + 1, begun + 1);
             }
-            begins = match timeout(BRIEF, calls.join_next()).await {
-                Err(_) => true,
-                Ok(None) => return Err(last),
-                Ok(Some(Err(error))) => return Err(CallError::Unknown(error.to_string())),
-                Ok(Some(Ok((member, Ok(found))))) => {
+            let brief = self.environment.wait_until(self.now() + BRIEF);
+            begins = match before(calls.next(), brief).await {
+                None => true,
+                Some(None) => return Err(last),
+                Some(Some((member, Ok(found)))) => {
                     self.current.store(member, Ordering::Relaxed);
                     return Ok(found);
                 }
-                Ok(Some(Ok((member, Err(error))))) if error.is_passed_over() => {
+                Some(Some((member, Err(error)))) if error.is_passed_over() => {
                     under_way[member] -= 1;
                     last = error;
-                    begun < BESIDE * self.members.len()
+                    begun < BESIDE * self.members
                 }
-                Ok(Some(Ok((_, Err(error))))) => return Err(error),
+                Some(Some((_, Err(error)))) => return Err(error),
             };
         }
     }
@@ -209,12 +235,11 @@ impl Gateway {
         patience: Duration,
         call: &impl Fn(usize) -> F,
     ) -> Result<T, CallError> {
-        let end = Instant::now() + patience;
+        let end = self.now() + patience;
         let mut last = String::new();
-        for _ in &self.members {
+        for _ in 0..self.members {
             let member = self.current();
-            let found = timeout_at(end, call(member)).await;
-            match found.unwrap_or_else(|_| Err(CallError::late())) {
+            match self.until(end, call(member)).await {
                 Err(CallError::Unreachable(why)) => last = why,
                 Err(error) if error.is_of_member() => {
                     self.pass_over(member);
@@ -231,11 +256,11 @@ impl Gateway {
     async fn first_of<T: DeserializeOwned>(
         &self,
         member: usize,
-        path: &str,
+        path: &'static str,
         asked: &impl Serialize,
     ) -> Result<T, CallError> {
         let found = self.send(member, path, asked).await?;
-        let told: Streamed<T> = LineStream::new(found.into_body()).next().await?;
+        let told: Streamed<T> = LineStream::new(found.body).next().await?;
         let error = || CallError::Unknown("a member's stream begins with an error".to_owned());
         told.result.ok_or_else(error)
     }
@@ -244,7 +269,7 @@ impl Gateway {
     async fn ask<T: DeserializeOwned>(
         &self,
         member: usize,
-        path: &str,
+        path: &'static str,
         asked: &impl Serialize,
     ) -> Result<T, CallError> {
         read(&whole(self.send(member, path, asked).await?).await?)
@@ -254,13 +279,13 @@ impl Gateway {
     async fn send(
         &self,
         member: usize,
-        path: &str,
+        path: &'static str,
         asked: &impl Serialize,
-    ) -> Result<Response<Body>, CallError> {
+    ) -> Result<MemberAnswer, CallError> {
         let bytes =
             serde_json::to_vec(asked).map_err(|error| CallError::Unreachable(error.to_string()))?;
         match self.post(member, path, bytes.clone()).await {
-            Err(CallError::Refused(it)) if it.is_of_token() && self.access.user.is_some() => {
+            Err(CallError::Refused(it)) if it.is_of_token() && self.user.is_some() => {
                 self.authenticate(member).await?;
                 self.post(member, path, bytes).await
             }
@@ -269,7 +294,7 @@ impl Gateway {
     }
 
     async fn authenticate(&self, member: usize) -> Result<(), CallError> {
-        let Some((name, password)) = &self.access.user else {
+        let Some((name, password)) = &self.user else {
             return Ok(());
         };
         let asked = serde_json::to_vec(&Credentials { name, password })
@@ -280,10 +305,8 @@ impl Gateway {
         Ok(())
     }
 
-    fn token(&self) -> std::sync::MutexGuard<'_, Option<String>> {
-        self.token
-            .lock()
-            .unwrap_or_else(std::sync::PoisonError::into_inner)
+    fn token(&self) -> MutexGuard<'_, Option<String>> {
+        self.token.lock().unwrap_or_else(PoisonError::into_inner)
     }
 
     /// The member that the next call goes to.
@@ -293,7 +316,7 @@ impl Gateway {
 
     /// Has the next call go to another member than this one.
     pub(super) fn pass_over(&self, member: usize) {
-        let next = (member + 1) % self.members.len();
+        let next = (member + 1) % self.members;
         // Where another call has passed it over already, nothing is to do.
         let _ = self
             .current
@@ -304,35 +327,30 @@ impl Gateway {
     async fn post(
         &self,
         member: usize,
-        path: &str,
+        path: &'static str,
         asked: Vec<u8>,
-    ) -> Result<Response<Body>, CallError> {
-        let request = self.request(member, path, asked)?;
-        match self.client.request(request).await {
-            Ok(found) if found.status().is_success() => Ok(found),
+    ) -> Result<MemberAnswer, CallError> {
+        let call = MemberCall {
+            member,
+            path,
+            token: self.token().clone(),
+            needs_leader: path == WATCH,
+            asked,
+        };
+        match self.environment.call(call).await {
+            Ok(found) if found.is_success() => Ok(found),
             Ok(found) => Err(refusal(found).await),
-            Err(error) if error.is_connect() => Err(CallError::Unreachable(error.to_string())),
-            Err(error) => Err(CallError::Unknown(error.to_string())),
+            Err(error) => Err(error.into()),
         }
     }
+}
 
-    fn request(
-        &self,
-        member: usize,
-        path: &str,
-        asked: Vec<u8>,
-    ) -> Result<Request<Body>, CallError> {
-        let mut request = Request::post(format!("{}{path}", self.members[member]))
-            .header(header::CONTENT_TYPE, "application/json");
-        if path == WATCH {
-            request = request.header(HAS_LEADER.0, HAS_LEADER.1);
+impl From<NoAnswer> for CallError {
+    fn from(error: NoAnswer) -> CallError {
+        match error {
+            NoAnswer::Unreachable(why) => CallError::Unreachable(why),
+            NoAnswer::Broken(why) => CallError::Unknown(why),
         }
-        if let Some(token) = &*self.token() {
-            request = request.header(header::AUTHORIZATION, token);
-        }
-        request
-            .body(Body::from(asked))
-            .map_err(|error| CallError::Unreachable(error.to_string()))
     }
 }
 
@@ -343,25 +361,20 @@ fn with_room(under_way: &[usize], from: usize) -> Option<usize> {
     members.find(|it| under_way[*it] < BESIDE)
 }
 
-/// What the call gives, if it does so in that time.
-async fn within<T>(
-    patience: Duration,
-    call: impl Future<Output = Result<T, CallError>>,
-) -> Result<T, CallError> {
-    let found = timeout(patience, call).await;
-    found.unwrap_or_else(|_| Err(CallError::late()))
-}
-
 /// All that a member answers, which is no more than it may be.
-async fn whole(found: Response<Body>) -> Result<Vec<u8>, CallError> {
-    let (mut body, mut held) = (found.into_body(), Vec::new());
-    while let Some(bytes) = body.data().await {
-        held.extend_from_slice(&bytes.map_err(|error| CallError::Unknown(error.to_string()))?);
+async fn whole(found: MemberAnswer) -> Result<Vec<u8>, CallError> {
+    let (mut body, mut held) = (found.body, Vec::new());
+    while body.append_next(&mut held).await.map_err(broken)? {
         if held.len() > LONGEST {
             return Err(CallError::too_long());
         }
     }
     Ok(held)
+}
+
+/// What it means that an answer doesn't come to its end.
+fn broken(error: NoAnswer) -> CallError {
+    CallError::Unknown(error.to_string())
 }
 
 fn read<T: DeserializeOwned>(bytes: &[u8]) -> Result<T, CallError> {
@@ -370,8 +383,8 @@ fn read<T: DeserializeOwned>(bytes: &[u8]) -> Result<T, CallError> {
 }
 
 /// What a member says that refuses a call.
-async fn refusal(found: Response<Body>) -> CallError {
-    let status = found.status();
+async fn refusal(found: MemberAnswer) -> CallError {
+    let status = found.status;
     match whole(found)
         .await
         .ok()

@@ -1,6 +1,5 @@
 use super::call_error::CallError;
-use hyper::body::HttpBody;
-use hyper::Body;
+use super::environment::AnswerBody;
 use serde::de::DeserializeOwned;
 
 /// How many bytes of an answer are held, of a stream between two ends of lines: a gateway takes no more from its
@@ -9,14 +8,14 @@ pub(super) const LONGEST: usize = 1 << 31;
 
 /// What a member answers bit by bit, a line each.
 pub(super) struct LineStream {
-    body: Body,
+    body: Box<dyn AnswerBody>,
     held: Vec<u8>,
     /// How many of them are of no line's end.
     seen: usize,
 }
 
 impl LineStream {
-    pub(super) fn new(body: Body) -> LineStream {
+    pub(super) fn new(body: Box<dyn AnswerBody>) -> LineStream {
         LineStream {
             body,
             held: Vec::new(),
@@ -38,10 +37,10 @@ impl LineStream {
             if self.seen > LONGEST {
                 return Err(CallError::too_long());
             }
-            match self.body.data().await {
-                Some(Ok(bytes)) => self.held.extend_from_slice(&bytes),
-                Some(Err(error)) => return Err(unknown(error.to_string())),
-                None => return Err(unknown("the stream has ended".to_owned())),
+            match self.body.append_next(&mut self.held).await {
+                Ok(true) => {}
+                Ok(false) => return Err(unknown("the stream has ended".to_owned())),
+                Err(error) => return Err(unknown(error.to_string())),
             }
         }
     }

@@ -1,4 +1,5 @@
-use super::gateway::Gateway;
+use super::client::EtcdClient;
+use super::sockets::Sockets;
 use super::{Access, StartError};
 use std::future::Future;
 use std::sync::mpsc;
@@ -8,7 +9,7 @@ use tokio::task::JoinHandle;
 
 /// Who calls members: a thread, and connections that it has alone.
 pub(super) struct MemberCaller {
-    gateway: Arc<Gateway>,
+    client: EtcdClient,
     handle: Handle,
     /// There until the end.
     runtime: Option<Runtime>,
@@ -16,7 +17,9 @@ pub(super) struct MemberCaller {
 
 impl MemberCaller {
     pub(super) fn new(thread: &str, access: Access) -> Result<MemberCaller, StartError> {
-        let gateway = Arc::new(Gateway::new(access)?);
+        let sockets = Sockets::new(&access)?;
+        let members = sockets.members();
+        let client = EtcdClient::new(Arc::new(sockets), members, access.patience, access.user);
         // A second thread would be woken for each call, and find nothing to do.
         let runtime = Builder::new_multi_thread()
             .worker_threads(1)
@@ -24,14 +27,14 @@ impl MemberCaller {
             .enable_all()
             .build()?;
         Ok(MemberCaller {
-            gateway,
+            client,
             handle: runtime.handle().clone(),
             runtime: Some(runtime),
         })
     }
 
-    pub(super) fn gateway(&self) -> Arc<Gateway> {
-        Arc::clone(&self.gateway)
+    pub(super) fn client(&self) -> EtcdClient {
+        self.client.clone()
     }
 
     /// Runs this on the thread.

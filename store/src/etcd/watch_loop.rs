@@ -1,14 +1,11 @@
+use super::client::read_all;
 use super::gateway::Gateway;
 use super::pulse::QUIET;
-use super::read_all;
+use super::race::before;
 use super::wire::{Streamed, WatchRequest, WatchResult};
 use crate::{KeyChange, Reading, Revision, Seen, Watcher};
-use std::future::{poll_fn, Future};
-use std::pin::pin;
 use std::sync::Arc;
-use std::task::Poll;
 use std::time::Duration;
-use tokio::time::sleep;
 
 /// How long is waited before a watch that ended is asked for again.
 const PAUSE: Duration = Duration::from_millis(100);
@@ -40,7 +37,7 @@ pub(super) async fn watch(
             }
         }
         gateway.pass_over(member);
-        sleep(PAUSE).await;
+        gateway.wait(PAUSE).await;
     }
 }
 
@@ -79,16 +76,6 @@ async fn follow(
 
 /// Waits until a member whose stream is silent isn't well: one that hangs with its connection open ends no stream.
 async fn until_lost(gateway: &Gateway, member: usize, key: &[u8]) {
-    sleep(QUIET).await;
+    gateway.wait(QUIET).await;
     while gateway.is_well(member, key).await {}
-}
-
-/// What this gives, unless that has come to its end before.
-async fn before<T>(gives: impl Future<Output = T>, end: impl Future<Output = ()>) -> Option<T> {
-    let (mut gives, mut end) = (pin!(gives), pin!(end));
-    poll_fn(|context| match gives.as_mut().poll(context) {
-        Poll::Ready(found) => Poll::Ready(Some(found)),
-        Poll::Pending => end.as_mut().poll(context).map(|()| None),
-    })
-    .await
 }

@@ -1,5 +1,6 @@
 //! The threads of a process's shards. Only here do these wait for work, or for time to pass.
-use crate::durable::{DurableInner, ReaderJob};
+use super::durable_inner::DurableInner;
+use super::reader_job::ReaderJob;
 use crate::OpenFault;
 use std::sync::mpsc::Receiver;
 use std::sync::{Arc, Mutex, PoisonError};
@@ -64,6 +65,12 @@ pub(crate) fn threads(
     let ticking = inner.clone();
     threads.push(spawn("waits", move || ticking.tick_all())?);
     Ok(threads)
+}
+
+/// Waits until this is told: a control waits so, on its own thread.
+pub(super) fn wait_for(told: &Receiver<()>) {
+    // Where it is dropped the process ends.
+    let _ = told.recv();
 }
 
 fn spawn(name: &str, work: impl FnOnce() + Send + 'static) -> Result<JoinHandle<()>, OpenFault> {

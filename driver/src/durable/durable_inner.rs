@@ -1,0 +1,248 @@
+use super::reader_job::ReaderJob;
+use super::watches::written;
+use super::{Tuning, STOP};
+use crate::clock::Clock;
+use crate::shard::{Action, Shard, Ticket};
+use crate::{keys, Acks, NotDone, Own, StoredRecord};
+use durkenzo_store::{Outcome, Room, Seen, Store, Transaction, WriteError};
+use std::collections::BTreeSet;
+use std::sync::atomic::{AtomicBool, AtomicU64, AtomicUsize, Ordering};
+use std::sync::mpsc::Sender;
+use std::sync::{Arc, Mutex, MutexGuard, OnceLock, PoisonError};
+use std::time::Instant;
+
+/// The shards of a process, for all who do something with them.
+pub(crate) struct DurableInner {
+    pub(super) store: Arc<dyn Store>,
+    pub(super) clock: Clock,
+    pub(super) shards: Box<[Mutex<Shard>]>,
+    /// Of which shards something may wait, or become due.
+    pub(super) stirred: Box<[AtomicBool]>,
+    pub(super) process: u64,
+    /// The number of a process that was taken last for all shards.
+    pub(super) number: AtomicU64,
+    /// Whether another one is being taken for all of them.
+    pub(super) is_numbering: AtomicBool,
+    /// The one server of this process, where it hasn't all.
+    pub(super) own: Option<Own>,
+    pub(super) tuning: Tuning,
+    /// Servers that no request reaches.
+    pub(super) away: Mutex<BTreeSet<u16>>,
+    pub(super) jobs: Mutex<Option<Sender<ReaderJob>>>,
+    pub(super) under_way: AtomicUsize,
+    /// Whether the store keeps room back for bases: where it doesn't, none can be made once it is full.
+    pub(super) keeps_room: bool,
+    /// Whether it had no room for what was written last, but for what makes some.
+    pub(super) is_full: AtomicBool,
+    /// How many bytes the bases have that are being written.
+    pub(super) basing: AtomicU64,
+    pub(super) is_stopping: AtomicBool,
+    /// Why the store ended, if it did.
+    pub(super) ended: OnceLock<String>,
+    /// Who is told of each record that changes.
+    pub(super) on_change: Box<dyn Fn() + Send + Sync>,
+}
+
+impl DurableInner {
+    /// This moment, by the clock of the process.
+    pub(crate) fn now(&self) -> Instant {
+        self.clock.now()
+    }
+
+    /// Whether the process ends.
+    pub(crate) fn is_stopping(&self) -> bool {
+        self.is_stopping.load(Ordering::Acquire)
+    }
+
+    /// Does something with the shard, and then what comes of it, with no lock.
+    pub(super) fn with(
+        self: &Arc<DurableInner>,
+        shard: u16,
+        work: impl FnOnce(&mut Shard, &mut Vec<Action>),
+    ) {
+        let Some(place) = self.shards.get(usize::from(shard)) else {
+            return;
+        };
+        let (mut actions, mut held) = (Vec::new(), locked(place));
+        work(&mut held, &mut actions);
+        self.stirred[usize::from(shard)].store(true, Ordering::Release);
+        drop(held);
+        // What the store is to make is on its way before those are told who waited for what it has made.
+        actions.sort_by_key(|it| !matches!(it, Action::Submit(..)));
+        actions.into_iter().for_each(|it| self.perform(shard, it));
+    }
+
+    pub(super) fn perform(self: &Arc<DurableInner>, shard: u16, action: Action) {
+        match action {
+            Action::Submit(ticket, transaction) => self.send(shard, ticket, transaction),
+            Action::Read(ticket, kept) => {
+                self.hand_to_reader(ReaderJob::Shard(shard, ticket, kept))
+            }
+            Action::Sweep(server) => self.hand_to_reader(ReaderJob::Passing(shard, server)),
+            Action::WriteBase(ticket, parts) => {
+                self.hand_to_reader(ReaderJob::Room(shard, ticket, parts))
+            }
+            Action::Delete(keys) => self.delete(&keys),
+            Action::Tell(work, outcome) => work.end(outcome),
+            Action::HandOver(elsewhere, steps) => match &self.own {
+                Some(own) => (own.elsewhere)(elsewhere, steps),
+                None => steps
+                    .into_iter()
+                    .for_each(|it| it.work.end(Err(NotDone::Busy))),
+            },
+            Action::Look => self.hand_to_reader(ReaderJob::Record(shard)),
+            Action::Renew => self.hand_to_reader(ReaderJob::Process(shard)),
+            Action::Hold(holder) => holder(),
+            Action::StoreEnded(why) => {
+                let _ = self.ended.set(why);
+                (self.on_change)();
+            }
+        }
+    }
+
+    pub(super) fn hand_to_reader(&self, job: ReaderJob) {
+        let jobs = self.jobs.lock().unwrap_or_else(PoisonError::into_inner);
+        // Where there is none the process ends.
+        let _ = jobs.as_ref().map(|it| it.send(job));
+    }
+
+    pub(super) fn send(
+        self: &Arc<DurableInner>,
+        shard: u16,
+        ticket: Ticket,
+        transaction: Transaction,
+    ) {
+        self.under_way.fetch_add(1, Ordering::AcqRel);
+        let inner = Arc::downgrade(self);
+        let grows = transaction.writes() && transaction.room() == Room::Free;
+        let done = move |outcome| {
+            if let Some(inner) = inner.upgrade() {
+                if grows {
+                    inner.note_room(&outcome);
+                }
+                inner.with(shard, |it, actions| {
+                    it.on_outcome(ticket, outcome, inner.now(), actions)
+                });
+                inner.under_way.fetch_sub(1, Ordering::AcqRel);
+            }
+        };
+        self.store.submit(transaction, Box::new(done));
+    }
+
+    /// Notes whether the store had room for what was written. If it hadn't, shards of which keys were deleted get a
+    /// base.
+    pub(super) fn note_room(&self, outcome: &Result<Outcome, WriteError>) {
+        let is_full = match outcome {
+            Ok(Outcome::Made(_)) => false,
+            Err(WriteError::Full(_)) => self.keeps_room,
+            Ok(Outcome::Lost(_)) => return,
+            Err(
+                WriteError::Unknown(_)
+                | WriteError::Unreachable(_)
+                | WriteError::Unavailable(_)
+                | WriteError::TooLarge(_)
+                | WriteError::LeaseEnded
+                | WriteError::Damaged(_)
+                | WriteError::Denied(_)
+                | WriteError::Stopped,
+            ) => return,
+        };
+        let was_full = self.is_full.swap(is_full, Ordering::AcqRel);
+        if is_full && !was_full {
+            let stirred = self.stirred.iter();
+            stirred.for_each(|it| it.store(true, Ordering::Release));
+        }
+    }
+
+    pub(super) fn away(&self) -> MutexGuard<'_, BTreeSet<u16>> {
+        self.away.lock().unwrap_or_else(PoisonError::into_inner)
+    }
+
+    pub(super) fn set_away(self: &Arc<DurableInner>, server: u16, is_away: bool) {
+        let is_new = match is_away {
+            true => self.away().insert(server),
+            false => self.away().remove(&server),
+        };
+        if !is_new {
+            return;
+        }
+        for shard in 0..self.shards.len() as u16 {
+            self.with(shard, |it, actions| {
+                it.set_away(server, is_away, self.now(), actions);
+            });
+        }
+    }
+
+    /// Sees what the watch tells of records.
+    pub(super) fn see(self: &Arc<DurableInner>, seen: Seen) {
+        let (moment, records) = written(seen);
+        let (is_change, mut is_awaited) = (!records.is_empty(), false);
+        for it in records {
+            if let Some(shard) = keys::shard_of_record(&it.key) {
+                let stored = StoredRecord::new(it.value, it.revision);
+                is_awaited |= stored.is_awaited();
+                let own = self.own.as_ref().filter(|it| it.acks == Acks::AsRead);
+                let member = own.map(|it| &it.member);
+                let acked = member.and_then(|it| Some((it, stored.acked_by(it.server())?)));
+                self.with(shard, |it, actions| it.see(stored, self.now(), actions));
+                // From here on the shard goes by this record.
+                if let Some((member, generation)) = acked {
+                    member.ack(shard, generation);
+                }
+            }
+        }
+        if let Some(own) = self.own.as_ref().filter(|_| is_change) {
+            own.member.follow(moment, is_awaited);
+        }
+        (self.on_change)();
+    }
+
+    /// Sees what the watch tells of states.
+    pub(super) fn see_states(self: &Arc<DurableInner>, seen: Seen) {
+        for it in written(seen).1 {
+            if let Some(server) = keys::server_of_state(&it.key) {
+                self.set_away(server, !keys::is_reached(&it.value));
+            }
+        }
+        (self.on_change)();
+    }
+
+    /// Has each shard drop what nobody waits for, and refuse what has waited in vain.
+    pub(crate) fn tick_shards(self: &Arc<DurableInner>) {
+        let now = self.now();
+        (0..self.shards.len() as u16).for_each(|it| self.tick(it, now));
+    }
+
+    /// Has the shard drop what nobody waits for, and refuse what has waited in vain. One of which nothing waits is left
+    /// alone until something is done with it again.
+    pub(super) fn tick(self: &Arc<DurableInner>, shard: u16, now: Instant) {
+        let place = usize::from(shard);
+        if !self.stirred[place].load(Ordering::Acquire) {
+            return;
+        }
+        let is_full = self.is_full.load(Ordering::Acquire);
+        self.with(shard, |it, actions| {
+            it.drop_unwanted(actions);
+            it.tick(now, self.tuning.wait, actions);
+            it.begin_base(is_full, now, actions);
+        });
+        let held = locked(&self.shards[place]);
+        self.stirred[place].store(held.has_waiting(is_full), Ordering::Release);
+    }
+
+    pub(super) fn stop(self: &Arc<DurableInner>) {
+        if self.is_stopping.swap(true, Ordering::AcqRel) {
+            return;
+        }
+        let is_idle = || self.under_way.load(Ordering::Acquire) == 0;
+        self.block_until(self.now() + STOP, is_idle);
+        *self.jobs.lock().unwrap_or_else(PoisonError::into_inner) = None;
+        for shard in 0..self.shards.len() as u16 {
+            self.with(shard, |it, actions| it.give_up(&NotDone::Stopped, actions));
+        }
+    }
+}
+
+pub(super) fn locked<T>(it: &Mutex<T>) -> MutexGuard<'_, T> {
+    it.lock().unwrap_or_else(PoisonError::into_inner)
+}

@@ -1,0 +1,231 @@
+//! What clients may tell, judged by all that the members have agreed on.
+use super::record::{Asked, Record, Told, WatchRecord};
+use crate::etcd::Keyspace;
+use crate::law::Broken;
+use durkenzo_store::{
+    KeyChange, LeaseError, Outcome, Pair, Reading, Revision, Seen, Transaction, WriteError,
+};
+
+/// A law, and whether it is kept.
+type Verdict = Result<(), &'static str>;
+
+/// Judges what a client told of a call that it was asked for.
+pub fn judge(keyspace: &Keyspace, keys: &[Vec<u8>], record: &Record) -> Result<(), Broken> {
+    let Some((told, ended)) = &record.told else {
+        return Err(broken("what is asked is answered or refused", record));
+    };
+    let span = (record.begun, *ended);
+    let verdict = match (&record.asked, told) {
+        (Asked::Make(transaction), Told::Became(became)) => {
+            is_true_outcome(keyspace, transaction, became, span)
+        }
+        (Asked::Read(of), Told::Read(Ok(reading))) => {
+            is_true_reading(keyspace, of.iter(), usize::MAX, reading, span)
+        }
+        (Asked::ReadAll(prefix), Told::Read(Ok(reading))) => {
+            let of = keys.iter().filter(|it| it.starts_with(prefix));
+            is_true_reading(keyspace, of, usize::MAX, reading, span)
+        }
+        (Asked::ReadRange(from, end, most), Told::Read(Ok(reading))) => {
+            let of = keys.iter().filter(|it| *it >= from && *it < end);
+            is_true_reading(keyspace, of, *most, reading, span)
+        }
+        (Asked::ReadKeys(from, end), Told::Keys(Ok(found))) => {
+            let of = keys.iter().filter(|it| *it >= from && *it < end);
+            are_true_keys(keyspace, of, found, span)
+        }
+        (_, Told::Kept(kept)) => is_true_of_lease(kept, record),
+        (_, Told::Revoked(Err(LeaseError::Ended(_)))) if record.is_there => {
+            Err("a lease that goes on isn't told as ended")
+        }
+        _ => Ok(()),
+    };
+    verdict.map_err(|law| broken(law, record))
+}
+
+fn broken(law: &'static str, record: &Record) -> Broken {
+    let by = format!("{record:?}");
+    Broken { law, by }
+}
+
+/// Returns the revisions at which something of the transaction was written: each value is written by one alone.
+fn revisions_of(keyspace: &Keyspace, transaction: &Transaction) -> Vec<u64> {
+    let Some(put) = transaction.puts.first() else {
+        return Vec::new();
+    };
+    let writes = |it: &u64| {
+        let mut changes = keyspace.changes_of(*it).iter();
+        changes.any(|it| it.key == put.key && it.value.as_ref() == Some(&put.value))
+    };
+    (1..=keyspace.revision()).filter(writes).collect()
+}
+
+fn revision_at(keyspace: &Keyspace, key: &[u8], revision: u64) -> Revision {
+    let pair = keyspace.pair_at(key, revision);
+    pair.map_or(Revision::NEVER, |it| it.revision)
+}
+
+fn holds_at(keyspace: &Keyspace, transaction: &Transaction, revision: u64) -> bool {
+    let mut compares = transaction.compares.iter();
+    compares.all(|it| revision_at(keyspace, &it.key, revision) == it.revision)
+}
+
+fn is_true_outcome(
+    keyspace: &Keyspace,
+    transaction: &Transaction,
+    became: &Result<Outcome, WriteError>,
+    span: (u64, u64),
+) -> Verdict {
+    let made = revisions_of(keyspace, transaction);
+    let is_within = |it: Revision| span.0 <= it.0 && it.0 <= span.1;
+    match became {
+        Ok(Outcome::Made(revision)) if transaction.writes() => {
+            match made == [revision.0] && holds_at(keyspace, transaction, revision.0 - 1) {
+                true if is_within(*revision) => Ok(()),
+                _ => Err("what is told as made was made once, as its compares held"),
+            }
+        }
+        Ok(Outcome::Made(revision)) => {
+            match is_within(*revision) && holds_at(keyspace, transaction, revision.0) {
+                true => Ok(()),
+                false => Err("compares that are told to hold held after they were asked"),
+            }
+        }
+        Ok(Outcome::Lost(reading)) => {
+            let held = holds_at(keyspace, transaction, reading.revision.0);
+            match made.is_empty() && is_within(reading.revision) && !held {
+                true => {
+                    let of = transaction.reads.iter();
+                    is_true_reading(keyspace, of, usize::MAX, reading, span)
+                }
+                false => Err("what is told as lost wasn't made, as its compares didn't hold"),
+            }
+        }
+        Err(WriteError::Unknown(_)) if made.len() <= 1 => Ok(()),
+        Err(WriteError::Full(_)) if was_deleted(keyspace, transaction, &made, span.1) => Ok(()),
+        Err(WriteError::Unknown(_)) => Err("nothing is made twice"),
+        Err(
+            WriteError::Unreachable(_)
+            | WriteError::Unavailable(_)
+            | WriteError::Full(_)
+            | WriteError::TooLarge(_)
+            | WriteError::LeaseEnded
+            | WriteError::Damaged(_)
+            | WriteError::Denied(_)
+            | WriteError::Stopped,
+        ) => match made.is_empty() {
+            true => Ok(()),
+            false => Err("what is told as not made is never made"),
+        },
+    }
+}
+
+/// Whether a key that the transaction made was deleted until then. Of a full store the client looks whether the key lies
+/// as it was compared: if it was to be new, it doesn't see that it was made and deleted meanwhile.
+fn was_deleted(keyspace: &Keyspace, transaction: &Transaction, made: &[u64], until: u64) -> bool {
+    let mut compares = transaction.compares.iter();
+    let is_gone = |key: &[u8]| match made {
+        [revision] => keyspace.between(key, *revision, until).contains(&None),
+        _ => false,
+    };
+    compares.any(|it| it.revision == Revision::NEVER && is_gone(&it.key))
+}
+
+fn is_true_reading<'a>(
+    keyspace: &Keyspace,
+    keys: impl Iterator<Item = &'a Vec<u8>>,
+    most: usize,
+    reading: &Reading,
+    span: (u64, u64),
+) -> Verdict {
+    let revision = reading.revision.0;
+    let there = keys.filter_map(|it| keyspace.pair_at(it, revision));
+    let there: Vec<Pair> = there.take(most).collect();
+    match span.0 <= revision && revision <= span.1 && there == reading.pairs {
+        true => Ok(()),
+        false => Err("a reading is what lay there at a moment after it was asked"),
+    }
+}
+
+/// Keys that were there all the time are told, and keys that weren't there at any time aren't.
+fn are_true_keys<'a>(
+    keyspace: &Keyspace,
+    keys: impl Iterator<Item = &'a Vec<u8>>,
+    found: &[Vec<u8>],
+    (begun, ended): (u64, u64),
+) -> Verdict {
+    for key in keys {
+        let values = keyspace.between(key, begun, ended);
+        let is_told = found.contains(key);
+        let is_true = match is_told {
+            true => values.iter().any(Option::is_some),
+            false => values.iter().any(Option::is_none),
+        };
+        if !is_true {
+            return Err("keys that are told were there, and all that were there are told");
+        }
+    }
+    Ok(())
+}
+
+fn is_true_of_lease(kept: &Result<(), LeaseError>, record: &Record) -> Verdict {
+    match kept {
+        Ok(()) if !record.was_there => Err("a lease that had ended isn't told as kept"),
+        Err(LeaseError::Ended(_)) if record.is_there => {
+            Err("a lease that goes on isn't told as ended")
+        }
+        Err(LeaseError::Unavailable(_)) if record.is_due => {
+            Err("a lease is kept if all members have answered for a while")
+        }
+        Ok(()) | Err(LeaseError::Ended(_) | LeaseError::Unavailable(_) | LeaseError::Stopped) => {
+            Ok(())
+        }
+    }
+}
+
+/// Judges what a watch told: all that lay there, and then each change once, in its order.
+pub fn judge_watch(
+    keyspace: &Keyspace,
+    keys: &[Vec<u8>],
+    watch: &WatchRecord,
+) -> Result<(), Broken> {
+    let mut moment = 0;
+    for seen in &watch.seen {
+        let is_true = match seen {
+            Seen::All(reading) => {
+                let of = keys.iter().filter(|it| it.starts_with(&watch.prefix));
+                let span = (moment, keyspace.revision());
+                is_true_reading(keyspace, of, usize::MAX, reading, span).is_ok()
+            }
+            Seen::Changes(until, changes) => {
+                *changes == changes_after(keyspace, &watch.prefix, moment, until.0)
+            }
+        };
+        if !is_true {
+            return Err(broken_watch(
+                "a watch tells each change once, in its order",
+                watch,
+                moment,
+            ));
+        }
+        moment = match seen {
+            Seen::All(reading) => reading.revision.0,
+            Seen::Changes(until, _) => until.0,
+        };
+    }
+    match changes_after(keyspace, &watch.prefix, moment, keyspace.revision()) {
+        left if left.is_empty() => Ok(()),
+        _ => Err(broken_watch("a watch tells all in the end", watch, moment)),
+    }
+}
+
+fn changes_after(keyspace: &Keyspace, prefix: &[u8], after: u64, until: u64) -> Vec<KeyChange> {
+    let changes = (after + 1..=until).flat_map(|it| keyspace.changes_of(it));
+    let changes = changes.filter(|it| it.key.starts_with(prefix));
+    changes.cloned().collect()
+}
+
+fn broken_watch(law: &'static str, watch: &WatchRecord, moment: u64) -> Broken {
+    let by = format!("after {moment}: {:?}", watch);
+    Broken { law, by }
+}

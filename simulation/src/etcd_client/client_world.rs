@@ -1,0 +1,625 @@
+//! Clients of etcd as they ship, which ask members that are in trouble by chance.
+use super::calls::{locked as locked_calls, SharedCalls};
+use super::client_environment::ClientEnvironment;
+use super::client_law::{judge, judge_watch};
+use super::gateway::{GatewayAnswer, DONE, REFUSED};
+use super::gateway_json as json;
+use super::record::{Asked, Record, Told, WatchRecord};
+use super::tasks::Tasks;
+use crate::chance::Chance;
+use crate::etcd::{EtcdRefusal, Heard, Keyspace, RangeQuery, Reached, MEMBERS};
+use crate::fault::Fault;
+use crate::faults::{counts_of, Faults};
+use crate::law::Broken;
+use crate::plan::{Plan, Ran};
+use crate::simulated_store::{locked, SharedStore, SimulatedStore};
+use crate::tally::Tally;
+use crate::time::Time;
+use crate::timeline::{Column, Timeline};
+use durkenzo_store::{EtcdClient, KeyChange, LeaseId, NoAnswer, Revision, Seen, Transaction};
+use std::collections::VecDeque;
+use std::sync::{Arc, Mutex};
+use std::time::Duration;
+
+const CLIENTS: usize = 2;
+const EVENTS: u64 = 1_200;
+/// How long a client waits for an answer.
+const PATIENCE: Duration = Duration::from_secs(5);
+/// How long a call is on its way to a member that answers, at most, and so its answer.
+const DELAY: Duration = Duration::from_millis(300);
+/// How long all members have to have answered until a lease has to be kept.
+const STEADY: Duration = Duration::from_millis(2_500);
+/// For how many milliseconds nobody leads at most.
+const ELECTION: u64 = 3_500;
+/// How many rounds of so many milliseconds all is over within, once nothing fails.
+const SETTLING: u64 = 4_000;
+const ROUND: u64 = 50;
+const PREFIXES: [&[u8]; 2] = [b"k/", b"l/"];
+
+/// The keys of a schedule.
+fn keys() -> Vec<Vec<u8>> {
+    let keys = |it: &str| (0..5).map(|at| format!("{it}/{at}").into_bytes()).collect();
+    ["k", "l"]
+        .iter()
+        .flat_map(|it| -> Vec<Vec<u8>> { keys(it) })
+        .collect()
+}
+
+/// What may happen next.
+type Happening = fn(&mut ClientWorld);
+
+const HAPPENINGS: [(Happening, u64); 7] = [
+    (ClientWorld::ask, 10),
+    (ClientWorld::deliver, 40),
+    (ClientWorld::tell_watches, 15),
+    (ClientWorld::break_watch, 1),
+    (ClientWorld::trouble, 4),
+    (ClientWorld::lapse, 2),
+    (ClientWorld::pass_time, 25),
+];
+
+/// A watch that a member tells what changes.
+struct Stream {
+    call: u64,
+    member: usize,
+    range: RangeQuery,
+    /// What it isn't told yet, by revisions, of all up to this one: what is let go later it is told all the same.
+    untold: VecDeque<(u64, Vec<KeyChange>)>,
+    noted: u64,
+}
+
+impl Stream {
+    /// Notes what has changed by now.
+    fn note(&mut self, keyspace: &Keyspace) {
+        for revision in self.noted + 1..=keyspace.revision() {
+            let changes = keyspace.changes_of(revision).iter();
+            let changes = changes.filter(|it| self.range.has(&it.key)).cloned();
+            self.untold.push_back((revision, changes.collect()));
+        }
+        self.noted = keyspace.revision();
+    }
+
+    /// Takes what changed up to this revision.
+    fn taken(&mut self, until: u64) -> Vec<KeyChange> {
+        let count = self.untold.partition_point(|it| it.0 <= until);
+        self.untold.drain(..count).flat_map(|it| it.1).collect()
+    }
+}
+
+/// A watch of a client, and its task.
+struct Watching {
+    task: usize,
+    record: Arc<Mutex<WatchRecord>>,
+}
+
+struct ClientWorld {
+    chance: Chance,
+    time: Time,
+    faults: Faults,
+    timeline: Timeline,
+    store: SharedStore,
+    calls: SharedCalls,
+    /// Calls that came to a member while it didn't answer, and wait there for good.
+    stuck: Vec<u64>,
+    clients: Vec<EtcdClient>,
+    tasks: Tasks,
+    streams: Vec<Stream>,
+    records: Arc<Mutex<Vec<Record>>>,
+    watches: Vec<Watching>,
+    leases: Vec<LeaseId>,
+    values: u64,
+    /// Since when all members answer, and each client's calls aren't harmed.
+    steady_since: Arc<Mutex<[Duration; CLIENTS]>>,
+}
+
+/// Runs one schedule of clients by a plan, and checks what they told.
+pub fn run_clients_by(plan: &Plan) -> Ran {
+    let mut world = ClientWorld::new(plan);
+    world.pass();
+    let tally = Tally {
+        events: EVENTS,
+        passed_time: world.time.passed().as_millis() as u64,
+        faults: counts_of(&world.faults.struck()),
+        ..Tally::default()
+    };
+    let names: Vec<String> = (0..CLIENTS).map(|it| format!("client {it}")).collect();
+    let timeline = plan.is_shown.then(|| world.timeline.drawn(&names));
+    let struck = world.faults.struck();
+    Ran {
+        tally,
+        verdict: world.judge(),
+        struck,
+        timeline,
+    }
+}
+
+impl ClientWorld {
+    fn new(plan: &Plan) -> ClientWorld {
+        let mut chance = Chance::new(plan.seed ^ 0x6574_6364);
+        let time = Time::new();
+        let timeline = Timeline::new(time.clone(), plan.is_shown);
+        let faults = Faults::new(plan.seed, plan.kept.clone(), timeline.clone());
+        let noted = (faults.clone(), timeline.clone());
+        let of_store = Chance::new(chance.drawn());
+        let store = SimulatedStore::new(of_store, None, time.clone(), noted);
+        let calls = SharedCalls::default();
+        let mut client = |place: usize| {
+            let first = chance.below(MEMBERS as u64) as usize;
+            let environment = ClientEnvironment {
+                calls: calls.clone(),
+                time: time.clone(),
+                place,
+                members: (first..first + MEMBERS).map(|it| it % MEMBERS).collect(),
+            };
+            EtcdClient::new(Arc::new(environment), MEMBERS, PATIENCE, None)
+        };
+        let clients = (0..CLIENTS).map(&mut client).collect();
+        ClientWorld {
+            chance,
+            time,
+            faults,
+            timeline,
+            store: Arc::new(Mutex::new(store)),
+            calls,
+            stuck: Vec::new(),
+            clients,
+            tasks: Tasks::default(),
+            streams: Vec::new(),
+            records: Arc::default(),
+            watches: Vec::new(),
+            leases: Vec::new(),
+            values: 0,
+            steady_since: Arc::default(),
+        }
+    }
+
+    fn pass(&mut self) {
+        for place in 0..CLIENTS {
+            PREFIXES.iter().for_each(|it| self.watch(place, it));
+        }
+        locked(&self.store).is_calm = false;
+        for _ in 0..EVENTS {
+            self.happen();
+            self.tasks.run();
+        }
+        self.settle();
+    }
+
+    fn happen(&mut self) {
+        let all: u64 = HAPPENINGS.iter().map(|it| it.1).sum();
+        let mut at = self.chance.below(all);
+        for (happens, weight) in HAPPENINGS {
+            match at.checked_sub(weight) {
+                Some(rest) => at = rest,
+                None => return happens(self),
+            }
+        }
+    }
+
+    /// A client watches these keys, once it has read them.
+    fn watch(&mut self, place: usize, prefix: &'static [u8]) {
+        let client = self.clients[place].clone();
+        let record = Arc::new(Mutex::new(WatchRecord {
+            prefix: prefix.to_vec(),
+            seen: Vec::new(),
+        }));
+        let seeing = record.clone();
+        let task = self.tasks.add(async move {
+            let reading = loop {
+                if let Ok(reading) = client.read_all(prefix).await {
+                    break reading;
+                }
+            };
+            let see = move |seen: Seen| seeing.lock().expect("no panic").seen.push(seen);
+            client.watch(prefix.to_vec(), reading, Box::new(see)).await;
+        });
+        self.watches.push(Watching { task, record });
+    }
+
+    /// A client is asked for something.
+    fn ask(&mut self) {
+        let asked = self.asked();
+        let place = self.chance.below(CLIENTS as u64) as usize;
+        let lease = match &asked {
+            Asked::Keep(lease) | Asked::Revoke(lease) => Some(*lease),
+            _ => None,
+        };
+        let (store, time) = (self.store.clone(), self.time.clone());
+        let is_there = move |store: &SharedStore| {
+            lease.is_some_and(|it| locked(store).keyspace.keys_of(it).is_some())
+        };
+        let begun = locked(&store).revision();
+        let was_there = is_there(&store);
+        let mut records = self.records.lock().expect("no panic");
+        records.push(Record {
+            asked: asked.clone(),
+            begun,
+            begun_at: time.passed(),
+            was_there,
+            told: None,
+            is_there: false,
+            is_due: false,
+        });
+        let at = records.len() - 1;
+        drop(records);
+        self.timeline.note(Column::Process(place), || {
+            format!("{at} asks {}", asked.shown())
+        });
+        let (client, records) = (self.clients[place].clone(), self.records.clone());
+        let (steady, timeline) = (self.steady_since.clone(), self.timeline.clone());
+        self.tasks.add(async move {
+            let told = asked.told_by(&client).await;
+            timeline.note(Column::Process(place), || format!("{at} {}", told.shown()));
+            let record = &mut records.lock().expect("no panic")[at];
+            let revision = locked(&store).revision();
+            record.told = Some((told, revision));
+            record.is_there = is_there(&store);
+            let since = steady.lock().expect("no panic")[place];
+            record.is_due = time.passed().saturating_sub(since.max(record.begun_at)) >= STEADY;
+        });
+    }
+
+    fn asked(&mut self) -> Asked {
+        self.learn_leases();
+        let lease = self.chance.below(self.leases.len().max(1) as u64) as usize;
+        let lease = self.leases.get(lease).copied();
+        match (self.chance.below(20), lease) {
+            (0..=8, lease) => Asked::Make(self.transaction(lease)),
+            (9, _) => Asked::Read(vec![self.key(), b"none".to_vec()]),
+            (10, _) => Asked::ReadAll(b"k/".to_vec()),
+            (11, _) => Asked::ReadRange(b"k/1".to_vec(), b"l/3".to_vec(), 3),
+            (12, _) => Asked::ReadKeys(b"k/1".to_vec(), b"l/9".to_vec()),
+            (13, Some(lease)) => Asked::Revoke(lease),
+            (14..=17, Some(lease)) => Asked::Keep(lease),
+            (18, _) => Asked::Compact,
+            (13..=19, _) => Asked::Grant,
+            (20.., _) => Asked::Grant,
+        }
+    }
+
+    /// Notes the leases that were granted.
+    fn learn_leases(&mut self) {
+        let records = self.records.lock().expect("no panic");
+        let granted = records.iter().filter_map(|it| match &it.told {
+            Some((Told::Granted(Ok(lease)), _)) => Some(*lease),
+            _ => None,
+        });
+        self.leases = granted.collect();
+        let old = self.leases.len().saturating_sub(3);
+        self.leases.drain(..old);
+    }
+
+    fn key(&mut self) -> Vec<u8> {
+        let keys = keys();
+        keys[self.chance.below(keys.len() as u64) as usize].clone()
+    }
+
+    /// A transaction that compares the first key that it writes, so that it isn't made twice: with what lies there, or
+    /// with what lay there before.
+    fn transaction(&mut self, lease: Option<LeaseId>) -> Transaction {
+        let (key, other) = (self.key(), self.key());
+        let revision = locked(&self.store).keyspace.revision_of(&key);
+        let before = self.chance.below(6).saturating_sub(4);
+        let compared = Revision(revision.saturating_sub(before));
+        let compares = Transaction::new().compare(key.clone(), compared);
+        self.values += 1;
+        let value = self.values.to_be_bytes().to_vec();
+        let reads = compares.clone().or_read(key.clone());
+        match self.chance.below(8) {
+            0 => compares,
+            1 => reads,
+            2 if other != key => reads.put(key, value).delete(other),
+            3 if other != key => reads.put(key, value.clone()).put(other, value),
+            4 | 5 => reads.put_under(key, value, lease),
+            _ => reads.put(key, value),
+        }
+    }
+
+    /// A call comes to a member, or is answered.
+    fn deliver(&mut self) {
+        let calls = locked_calls(&self.calls).unanswered();
+        let at = self.chance.below(calls.len().max(1) as u64) as usize;
+        if let Some(call) = calls.get(at) {
+            self.deliver_call(*call);
+        }
+    }
+
+    fn deliver_call(&mut self, number: u64) {
+        let Some((member, place)) = self.way(number) else {
+            return;
+        };
+        let is_calm = locked(&self.store).is_calm;
+        let reached = match is_calm {
+            true => Reached::Answers,
+            false => locked(&self.store)
+                .members
+                .reached(member, self.time.passed()),
+        };
+        let column = Column::Process(place);
+        let is_there = locked_calls(&self.calls).is_awaited(number);
+        match reached {
+            Reached::IsGone if is_there => {
+                let why = NoAnswer::Unreachable("the member is gone".to_owned());
+                locked_calls(&self.calls).begin(number, Err(why));
+            }
+            // One that nobody waits for is sent by nobody again.
+            Reached::IsGone => locked_calls(&self.calls).forget(number),
+            Reached::Hangs => self.be_stuck(number, place),
+            Reached::Answers if self.stuck.contains(&number) && is_there => {}
+            Reached::Answers => {
+                if self.fails(Fault::SentInVain, 20, column) {
+                    return self.break_call(number, place);
+                }
+                self.answer(number, member, place);
+            }
+        }
+    }
+
+    /// A call waits at a member that doesn't answer: some for good, and some are refused in the end.
+    fn be_stuck(&mut self, number: u64, place: usize) {
+        match self.chance.below(8) {
+            0 => self.break_call(number, place),
+            1 => self.tell(number, REFUSED, &json::no_leader()),
+            2..=4 if !self.stuck.contains(&number) => self.stuck.push(number),
+            _ => {}
+        }
+    }
+
+    /// The member of a call, and the client that it is of.
+    fn way(&self, number: u64) -> Option<(usize, usize)> {
+        let calls = locked_calls(&self.calls);
+        calls.get(number).map(|it| (it.member, it.place))
+    }
+
+    /// The connection of a call breaks before anything comes back.
+    fn break_call(&mut self, number: u64, place: usize) {
+        self.harm(place);
+        let why = NoAnswer::Broken("the connection is broken".to_owned());
+        let mut calls = locked_calls(&self.calls);
+        match calls.is_awaited(number) {
+            true => calls.begin(number, Err(why)),
+            false => calls.forget(number),
+        }
+    }
+
+    fn harm(&mut self, place: usize) {
+        self.steady_since.lock().expect("no panic")[place] = self.time.passed();
+    }
+
+    /// A member does what it is asked, and answers, unless the answer is lost.
+    fn answer(&mut self, number: u64, member: usize, place: usize) {
+        let (path, asked) = {
+            let calls = locked_calls(&self.calls);
+            let Some(call) = calls.get(number) else {
+                return;
+            };
+            (call.path, call.asked.clone())
+        };
+        let mut answer = locked(&self.store).answer(member, path, &asked);
+        let column = Column::Process(place);
+        if path == "/v3/kv/txn" && self.fails(Fault::SentTwice, 12, column) {
+            // What comes of the copy nobody learns.
+            let _ = locked(&self.store).answer(member, path, &asked);
+        }
+        self.note_changes();
+        if self.fails(Fault::AnswerLost, 12, column) {
+            return self.break_call(number, place);
+        }
+        if path == "/v3/kv/txn" && self.fails(Fault::FullThoughMade, 30, column) {
+            answer = GatewayAnswer::Whole(REFUSED, json::refusal(EtcdRefusal::NoSpace));
+        }
+        match answer {
+            GatewayAnswer::Whole(status, told) => self.tell(number, status, &told),
+            GatewayAnswer::Line(told) => {
+                let mut calls = locked_calls(&self.calls);
+                calls.push(number, json::line(&told));
+                calls.begin(number, Ok(DONE));
+            }
+            GatewayAnswer::Watch(range, first) => self.begin_watch(number, member, range, first),
+        }
+    }
+
+    /// A member begins to tell what changes from this revision on, or says that some of that was let go.
+    fn begin_watch(&mut self, number: u64, member: usize, range: RangeQuery, first: u64) {
+        let (store, mut calls) = (locked(&self.store), locked_calls(&self.calls));
+        let revision = store.revision();
+        calls.push(number, json::line(&json::created(revision)));
+        calls.begin(number, Ok(DONE));
+        match store.keyspace.heard(&range, first) {
+            Heard::Compacted(compacted) => {
+                calls.push(number, json::line(&json::canceled(revision, compacted)));
+                calls.end(number, Ok(()));
+            }
+            Heard::Changes(changes) => {
+                let each = changes.into_iter().map(|it| (it.revision.0, vec![it]));
+                self.streams.push(Stream {
+                    call: number,
+                    member,
+                    range,
+                    untold: each.collect(),
+                    noted: revision,
+                });
+            }
+        }
+    }
+
+    /// Notes what has changed, for all watches.
+    fn note_changes(&mut self) {
+        let store = locked(&self.store);
+        self.streams
+            .iter_mut()
+            .for_each(|it| it.note(&store.keyspace));
+    }
+
+    /// A member's answer comes, in two pieces, unless it is cut between them.
+    fn tell(&mut self, number: u64, status: u16, told: &serde_json::Value) {
+        let Some((_, place)) = self.way(number) else {
+            return;
+        };
+        let bytes = told.to_string().into_bytes();
+        let cut = self.chance.below(bytes.len() as u64 + 1) as usize;
+        let is_cut = self.fails(Fault::AnswerCut, 30, Column::Process(place));
+        let mut calls = locked_calls(&self.calls);
+        calls.push(number, bytes[..cut].to_vec());
+        match is_cut {
+            true => {
+                let why = NoAnswer::Broken("the answer is cut".to_owned());
+                calls.end(number, Err(why));
+            }
+            false => {
+                calls.push(number, bytes[cut..].to_vec());
+                calls.end(number, Ok(()));
+            }
+        }
+        calls.begin(number, Ok(status));
+        drop(calls);
+        if is_cut {
+            self.harm(place);
+        }
+    }
+
+    fn fails(&mut self, fault: Fault, times: u64, column: Column) -> bool {
+        locked(&self.store).fails(fault, times, column)
+    }
+
+    /// Members tell watches what has changed, as far as they know it.
+    fn tell_watches(&mut self) {
+        let streams = std::mem::take(&mut self.streams);
+        for stream in streams {
+            self.tell_watch(stream);
+        }
+    }
+
+    fn tell_watch(&mut self, mut stream: Stream) {
+        let mut calls = locked_calls(&self.calls);
+        if !calls.is_awaited(stream.call) {
+            return;
+        }
+        let (store, now) = (locked(&self.store), self.time.passed());
+        let revision = store.revision();
+        let told = match store.is_calm {
+            true => Some(revision),
+            false => store.members.told(stream.member, now, revision),
+        };
+        let Some(told) = told else {
+            if store.members.reached(stream.member, now) == Reached::IsGone {
+                let why = NoAnswer::Broken("the member is gone".to_owned());
+                return calls.end(stream.call, Err(why));
+            }
+            return self.streams.push(stream);
+        };
+        let known = stream.taken(told);
+        if !known.is_empty() {
+            calls.push(stream.call, json::line(&json::events(told, &known)));
+        }
+        self.streams.push(stream);
+    }
+
+    /// The connection of a watch breaks.
+    fn break_watch(&mut self) {
+        let at = self.chance.below(self.streams.len().max(1) as u64) as usize;
+        if at < self.streams.len() && self.fails(Fault::WatchBreaks, 2, Column::Store) {
+            let stream = self.streams.swap_remove(at);
+            let why = NoAnswer::Broken("the connection is broken".to_owned());
+            locked_calls(&self.calls).end(stream.call, Err(why));
+        }
+    }
+
+    /// The members may come into trouble.
+    fn trouble(&mut self) {
+        let mut store = locked(&self.store);
+        store.come_into_trouble();
+        if let Some(mut chance) = store.struck(Fault::LeaderChange, 12) {
+            let now = self.time.passed();
+            let since = now + Duration::from_millis(1 + chance.below(ELECTION));
+            store.members.elect(now, since);
+            store.keyspace.extend_leases(since);
+        }
+    }
+
+    fn lapse(&mut self) {
+        locked(&self.store).lapse();
+        self.note_changes();
+    }
+
+    /// Time passes, and what is on its way for too long comes there.
+    fn pass_time(&mut self) {
+        let most = match self.chance.below(6) {
+            0 => 120,
+            _ => 30,
+        };
+        let time = self.chance.below(most);
+        self.pass_milliseconds(time);
+        let late: Vec<u64> = {
+            let (calls, now) = (locked_calls(&self.calls), self.time.passed());
+            let is_late = |it: &u64| calls.get(*it).is_some_and(|it| it.sent + DELAY <= now);
+            calls.unanswered().into_iter().filter(is_late).collect()
+        };
+        late.into_iter().for_each(|it| self.deliver_call(it));
+    }
+
+    fn pass_milliseconds(&mut self, milliseconds: u64) {
+        let (store, now) = (locked(&self.store), self.time.passed());
+        let answers = |it: usize| store.members.reached(it, now) == Reached::Answers;
+        let is_steady = (0..MEMBERS).all(answers) && !store.is_full();
+        drop(store);
+        if !is_steady {
+            (0..CLIENTS).for_each(|it| self.harm(it));
+        }
+        self.time.pass(milliseconds);
+        locked_calls(&self.calls).wake_until(self.time.now());
+    }
+
+    /// Nothing fails any more, so all that was asked is over within some time, and watches have told all.
+    fn settle(&mut self) {
+        locked(&self.store).is_calm = true;
+        for _ in 0..SETTLING {
+            self.pass_milliseconds(ROUND);
+            let calls = locked_calls(&self.calls).unanswered();
+            for call in calls {
+                self.stuck.retain(|it| *it != call);
+                self.deliver_call(call);
+            }
+            self.tell_watches();
+            self.lapse();
+            self.tasks.run();
+            if self.tasks.count() == self.watches.len() && self.have_watches_told() {
+                return;
+            }
+        }
+    }
+
+    fn have_watches_told(&self) -> bool {
+        let store = locked(&self.store);
+        let told = |it: &Watching| {
+            let record = it.record.lock().expect("no panic");
+            judge_watch(&store.keyspace, &keys(), &record).is_ok()
+        };
+        self.watches.iter().all(told)
+    }
+
+    /// Judges all that was told, and that nothing is left.
+    fn judge(mut self) -> Result<(), Broken> {
+        let (keys, store) = (keys(), self.store.clone());
+        {
+            let store = locked(&store);
+            let records = self.records.lock().expect("no panic");
+            let mut records = records.iter();
+            records.try_for_each(|it| judge(&store.keyspace, &keys, it))?;
+            self.watches.iter().try_for_each(|it| {
+                let record = it.record.lock().expect("no panic");
+                judge_watch(&store.keyspace, &keys, &record)
+            })?;
+        }
+        for watching in &self.watches {
+            self.tasks.drop_at(watching.task);
+        }
+        match locked_calls(&self.calls).awaited() + self.tasks.count() {
+            0 => Ok(()),
+            left => Err(Broken {
+                law: "a client that ends leaves no calls behind",
+                by: format!("{left} are left"),
+            }),
+        }
+    }
+}

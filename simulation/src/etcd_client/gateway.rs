@@ -1,0 +1,95 @@
+//! What a member answers by its gateway, of what all members agree on.
+use super::gateway_json as json;
+use crate::etcd::{EtcdRefusal, EtcdTransaction, TransactionReply};
+use crate::etcd::{RangeQuery, Response};
+use crate::simulated_store::SimulatedStore;
+use durkenzo_store::LeaseId;
+use serde_json::Value;
+use std::time::Duration;
+
+/// The statuses of HTTP by which a gateway answers.
+pub const DONE: u16 = 200;
+pub const REFUSED: u16 = 400;
+
+/// What a member answers.
+pub enum GatewayAnswer {
+    /// This, at once.
+    Whole(u16, Value),
+    /// A stream that says this.
+    Line(Value),
+    /// A stream that tells what changes in this range from this revision on.
+    Watch(RangeQuery, u64),
+}
+
+impl SimulatedStore {
+    /// Answers a call of this member.
+    pub fn answer(&mut self, member: usize, path: &str, asked: &[u8]) -> GatewayAnswer {
+        let asked: Value = serde_json::from_slice(asked).expect("JSON of the client");
+        match path {
+            "/v3/kv/txn" => self.answer_transaction(member, &json::transaction(&asked)),
+            "/v3/kv/range" => {
+                let found = self.keyspace.range(&json::range_query(&asked));
+                let revision = self.revision();
+                whole(found.map(|it| json::range_reply(revision, &it, &asked)))
+            }
+            "/v3/lease/grant" => {
+                let seconds = json::number(&asked["TTL"]);
+                let granted = self.grant(Duration::from_secs(seconds));
+                let granted = granted.ok_or(EtcdRefusal::NoSpace);
+                let revision = self.revision();
+                whole(granted.map(|it| json::lease(revision, it, seconds)))
+            }
+            "/v3/lease/keepalive" => {
+                let lease = LeaseId(json::number(&asked["ID"]) as i64);
+                let seconds = u64::from(self.keep(lease));
+                GatewayAnswer::Line(json::lease(self.revision(), lease, seconds))
+            }
+            "/v3/lease/revoke" => {
+                let is_ended = self.revoke(LeaseId(json::number(&asked["ID"]) as i64));
+                let ended = is_ended.then_some(()).ok_or(EtcdRefusal::NoLease);
+                let revision = self.revision();
+                whole(ended.map(|()| json::nothing(revision)))
+            }
+            "/v3/watch" => {
+                let asked = &asked["create_request"];
+                let revision = json::number(&asked["start_revision"]);
+                GatewayAnswer::Watch(json::range_query(asked), revision)
+            }
+            "/v3/kv/compaction" => {
+                let compacted = self.keyspace.compact(json::number(&asked["revision"]));
+                let revision = self.revision();
+                whole(compacted.map(|()| json::nothing(revision)))
+            }
+            // A member gives back its room, and has no alarm.
+            _ => GatewayAnswer::Whole(DONE, json::nothing(self.revision())),
+        }
+    }
+
+    /// Makes a transaction. One that only compares is answered by what the member has itself, which may be behind.
+    fn answer_transaction(&mut self, member: usize, asked: &EtcdTransaction) -> GatewayAnswer {
+        self.keyspace.set_full(self.is_full());
+        if asked.success.is_empty() && asked.failure.is_empty() {
+            let (now, revision) = (self.time.passed(), self.revision());
+            let own = self.members.told(member, now, revision).unwrap_or(revision);
+            let holds = |(key, of): &(Vec<u8>, u64)| {
+                let pair = self.keyspace.pair_at(key, own);
+                pair.map_or(0, |it| it.revision.0) == *of
+            };
+            let reply = TransactionReply {
+                revision: own,
+                succeeded: asked.compares.iter().all(holds),
+                responses: Vec::<Response>::new(),
+            };
+            return GatewayAnswer::Whole(DONE, json::transaction_reply(&reply));
+        }
+        let made = self.keyspace.make(asked);
+        whole(made.map(|it| json::transaction_reply(&it)))
+    }
+}
+
+fn whole(answer: Result<Value, EtcdRefusal>) -> GatewayAnswer {
+    match answer {
+        Ok(told) => GatewayAnswer::Whole(DONE, told),
+        Err(refusal) => GatewayAnswer::Whole(REFUSED, json::refusal(refusal)),
+    }
+}

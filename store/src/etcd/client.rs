@@ -1,0 +1,286 @@
+use super::call_error::CallError;
+use super::environment::Environment;
+use super::gateway::{Gateway, RANGE};
+use super::watch_loop;
+use super::wire::{
+    AlarmRequest, Alarms, Compaction, Granted, KeepAliveResponse, LeaseRequest, Nothing,
+    RangeRequest, RangeResult, TransactionRequest, TransactionResult,
+};
+use crate::{
+    CompactError, LeaseError, LeaseId, Outcome, Pair, ReadError, Reading, Revision, Transaction,
+    Watcher, WriteError,
+};
+use serde::de::IgnoredAny;
+use std::fmt;
+use std::sync::Arc;
+use std::time::Duration;
+
+/// How many keys etcd reads by one transaction.
+const MOST_OPERATIONS: usize = 128;
+
+/// How many pairs are asked for at a time.
+const PAGE: usize = 512;
+/// How many keys are, where what lies there isn't.
+const KEYS: usize = 8_192;
+
+/// The client of etcd by which a store on it asks its members. It decides which member is asked, how long, and how
+/// often; it has no threads, no sockets and no clock of its own, so whoever gives it an [`Environment`] and polls it can
+/// simulate it.
+///
+/// Each call is as the one of [`Store`](crate::Store) by its name.
+#[derive(Clone)]
+pub struct EtcdClient {
+    gateway: Arc<Gateway>,
+}
+
+impl EtcdClient {
+    /// Returns a client of so many members, one at least, which waits so long for an answer, and is known to etcd by this
+    /// name and password, if it asks for them.
+    pub fn new(
+        environment: Arc<dyn Environment>,
+        members: usize,
+        patience: Duration,
+        user: Option<(String, String)>,
+    ) -> EtcdClient {
+        let gateway = Gateway::new(environment, members, patience, user);
+        EtcdClient {
+            gateway: Arc::new(gateway),
+        }
+    }
+
+    /// Makes a transaction.
+    ///
+    /// # Errors
+    ///
+    /// As [`WriteError`] says. Only after [`WriteError::Unknown`] may it have been made.
+    pub async fn make(&self, transaction: &Transaction) -> Result<Outcome, WriteError> {
+        let request = TransactionRequest::of(transaction);
+        let found = self
+            .gateway
+            .once::<TransactionResult>("/v3/kv/txn", &request)
+            .await;
+        let outcome = found
+            .map(TransactionResult::outcome)
+            .map_err(CallError::of_write);
+        match outcome {
+            Err(WriteError::Full(why)) if !is_unmade(&self.gateway, transaction).await => {
+                Err(WriteError::Unknown(why))
+            }
+            outcome => outcome,
+        }
+    }
+
+    /// Reads these keys.
+    ///
+    /// # Errors
+    ///
+    /// As [`ReadError`] says.
+    pub async fn read(&self, keys: &[Vec<u8>]) -> Result<Reading, ReadError> {
+        read(&self.gateway, keys).await
+    }
+
+    /// Reads all keys that begin so.
+    ///
+    /// # Errors
+    ///
+    /// As [`ReadError`] says.
+    pub async fn read_all(&self, prefix: &[u8]) -> Result<Reading, ReadError> {
+        read_all(&self.gateway, prefix).await
+    }
+
+    /// Reads the first keys from this one on and before that end, so many at most.
+    ///
+    /// # Errors
+    ///
+    /// As [`ReadError`] says.
+    pub async fn read_range(
+        &self,
+        from: &[u8],
+        end: &[u8],
+        most: usize,
+    ) -> Result<Reading, ReadError> {
+        read_range(&self.gateway, &RangeRequest::part(from, end, most)).await
+    }
+
+    /// Reads which keys there are from this one on and before that end.
+    ///
+    /// # Errors
+    ///
+    /// As [`ReadError`] says.
+    pub async fn read_keys(&self, from: &[u8], end: &[u8]) -> Result<Vec<Vec<u8>>, ReadError> {
+        read_keys(&self.gateway, from.to_vec(), end).await
+    }
+
+    /// Tells this reading of all keys that begin so, and then each change after it. It goes on until it is dropped.
+    pub async fn watch(self, prefix: Vec<u8>, reading: Reading, watcher: Watcher) {
+        watch_loop::watch(self.gateway, prefix, reading, watcher).await;
+    }
+
+    /// Gives a lease of this length.
+    ///
+    /// # Errors
+    ///
+    /// As [`LeaseError`] says.
+    pub async fn grant(&self, length: Duration) -> Result<LeaseId, LeaseError> {
+        let asked = LeaseRequest::of_length(length);
+        let granted = self.gateway.again::<Granted>("/v3/lease/grant", &asked);
+        let granted = granted.await.map_err(|it| it.of_lease(LeaseId(0)))?;
+        Ok(LeaseId(granted.id))
+    }
+
+    /// Keeps a lease for its length from now on.
+    ///
+    /// # Errors
+    ///
+    /// As [`LeaseError`] says.
+    pub async fn keep(&self, lease: LeaseId) -> Result<(), LeaseError> {
+        let asked = LeaseRequest::of(lease);
+        let path = "/v3/lease/keepalive";
+        let found = self.gateway.first::<KeepAliveResponse>(path, &asked).await;
+        match found.map_err(|it| it.of_lease(lease))?.length > 0 {
+            true => Ok(()),
+            false => Err(LeaseError::Ended(lease)),
+        }
+    }
+
+    /// Ends a lease now.
+    ///
+    /// # Errors
+    ///
+    /// As [`LeaseError`] says.
+    pub async fn revoke(&self, lease: LeaseId) -> Result<(), LeaseError> {
+        let asked = LeaseRequest::of(lease);
+        let ended = self.gateway.again::<IgnoredAny>("/v3/lease/revoke", &asked);
+        ended.await.map(drop).map_err(|it| it.of_lease(lease))
+    }
+
+    /// Lets go what was deleted or written over.
+    ///
+    /// # Errors
+    ///
+    /// As [`CompactError`] says.
+    pub async fn compact(&self) -> Result<(), CompactError> {
+        compact(&self.gateway).await
+    }
+}
+
+impl fmt::Debug for EtcdClient {
+    fn fmt(&self, f: &mut fmt::Formatter<'_>) -> fmt::Result {
+        f.debug_struct("EtcdClient").finish_non_exhaustive()
+    }
+}
+
+/// Whether a transaction wasn't made that was refused for want of room: etcd may make one that takes the last of it,
+/// and says so all the same. Where a key that it compares and writes is as it was, it wasn't.
+async fn is_unmade(gateway: &Gateway, transaction: &Transaction) -> bool {
+    let is_written = |key: &[u8]| transaction.puts.iter().any(|it| it.key == key);
+    let Some(compared) = transaction.compares.iter().find(|it| is_written(&it.key)) else {
+        return false;
+    };
+    let found = read(gateway, std::slice::from_ref(&compared.key)).await;
+    found.is_ok_and(|it| {
+        let pair = it.get(&compared.key);
+        pair.map_or(Revision::NEVER, |it| it.revision) == compared.revision
+    })
+}
+
+/// Reads these keys at one moment: that of the first transaction, at which later ones read too.
+async fn read(gateway: &Gateway, keys: &[Vec<u8>]) -> Result<Reading, ReadError> {
+    let mut found = Reading::default();
+    let none: &[Vec<u8>] = &[];
+    for part in keys
+        .chunks(MOST_OPERATIONS)
+        .chain(keys.is_empty().then_some(none))
+    {
+        let request = TransactionRequest::reading(part, found.revision);
+        let result = gateway
+            .again::<TransactionResult>("/v3/kv/txn", &request)
+            .await
+            .map_err(CallError::of_read)?;
+        if found.revision == Revision::NEVER {
+            found.revision = result.revision();
+        }
+        found.pairs.extend(result.pairs());
+    }
+    Ok(found)
+}
+
+/// Reads all keys that begin so, page by page, at the moment of the first page.
+pub(super) async fn read_all(gateway: &Gateway, prefix: &[u8]) -> Result<Reading, ReadError> {
+    let mut found = Reading::default();
+    let mut from = prefix.to_vec();
+    loop {
+        let asked = RangeRequest::page(&from, prefix, PAGE, found.revision);
+        let page = gateway
+            .again::<RangeResult>(RANGE, &asked)
+            .await
+            .map_err(CallError::of_read)?;
+        if found.revision == Revision::NEVER {
+            found.revision = page.revision();
+        }
+        let has_more = page.more;
+        found.pairs.extend(page.pairs.into_iter().map(Pair::from));
+        match found.pairs.last().filter(|_| has_more) {
+            Some(last) => from = [&last.key[..], b"\0"].concat(),
+            None => return Ok(found),
+        }
+    }
+}
+
+/// Reads this range at the present.
+async fn read_range(gateway: &Gateway, asked: &RangeRequest) -> Result<Reading, ReadError> {
+    let found = gateway.again::<RangeResult>(RANGE, asked).await;
+    let found = found.map_err(CallError::of_read)?;
+    Ok(Reading {
+        revision: found.revision(),
+        pairs: found.pairs.into_iter().map(Pair::from).collect(),
+    })
+}
+
+/// Reads which keys there are in this range, page by page.
+async fn read_keys(
+    gateway: &Gateway,
+    mut from: Vec<u8>,
+    end: &[u8],
+) -> Result<Vec<Vec<u8>>, ReadError> {
+    let mut keys = Vec::new();
+    loop {
+        let asked = RangeRequest::keys(&from, end, KEYS);
+        let page = gateway
+            .again::<RangeResult>(RANGE, &asked)
+            .await
+            .map_err(CallError::of_read)?;
+        let has_more = page.more;
+        keys.extend(page.pairs.into_iter().map(|it| Pair::from(it).key));
+        match keys.last().filter(|_| has_more) {
+            Some(last) => from = [last, &b"\0"[..]].concat(),
+            None => return Ok(keys),
+        }
+    }
+}
+
+/// Lets go what isn't there any more, has each member give its room back, and ends the alarms of a quota that was
+/// reached.
+async fn compact(gateway: &Gateway) -> Result<(), CompactError> {
+    let moment = read(gateway, &[]).await.map_err(CompactError::from)?;
+    let asked = Compaction::up_to(moment.revision);
+    let found = gateway
+        .once::<IgnoredAny>("/v3/kv/compaction", &asked)
+        .await;
+    match found {
+        // Somebody else has done it.
+        Err(CallError::Refused(it)) if it.is_of_compacted() => {}
+        found => drop(found.map_err(CallError::of_compaction)?),
+    }
+    let given_back = gateway
+        .each::<IgnoredAny>("/v3/maintenance/defragment", &Nothing {})
+        .await;
+    let path = "/v3/maintenance/alarm";
+    let found = gateway.again::<Alarms>(path, &AlarmRequest::all()).await;
+    for alarm in found.map_err(CallError::of_compaction)?.alarms {
+        let ended = AlarmRequest::end(alarm);
+        let found = gateway.again::<IgnoredAny>(path, &ended).await;
+        found.map_err(CallError::of_compaction)?;
+    }
+    given_back.map_err(CallError::of_compaction)
+}

@@ -1,0 +1,67 @@
+//! What the client of etcd needs around it: members that answer calls, and time.
+use std::future::Future;
+use std::pin::Pin;
+use std::time::Instant;
+use thiserror::Error;
+
+/// What comes later.
+pub type Later<'a, T> = Pin<Box<dyn Future<Output = T> + Send + 'a>>;
+
+/// Calls members of etcd, and tells the time. A program calls them by sockets; a simulation by what it has.
+pub trait Environment: Send + Sync + 'static {
+    /// Posts a call to a member. The call may be dropped before it is answered; the member may have done it all the same.
+    fn call(&self, call: MemberCall) -> Later<'static, Result<MemberAnswer, NoAnswer>>;
+
+    /// Returns this moment.
+    fn now(&self) -> Instant;
+
+    /// Waits until this moment.
+    fn wait_until(&self, moment: Instant) -> Later<'static, ()>;
+}
+
+/// A call of a member's JSON gateway.
+#[derive(Clone, Debug)]
+pub struct MemberCall {
+    /// Which of the members is called, from 0 on.
+    pub member: usize,
+    /// The path of the call, as `/v3/kv/txn`.
+    pub path: &'static str,
+    /// The token of a user, if one is needed.
+    pub token: Option<String>,
+    /// Whether the member is to end the stream that it answers by once it reaches none that leads.
+    pub needs_leader: bool,
+    /// What is asked, in JSON.
+    pub asked: Vec<u8>,
+}
+
+/// What a member answers.
+pub struct MemberAnswer {
+    /// The status of HTTP.
+    pub status: u16,
+    /// The bytes of the answer, which may be a stream.
+    pub body: Box<dyn AnswerBody>,
+}
+
+impl MemberAnswer {
+    /// Returns whether the member did what was asked.
+    pub(super) fn is_success(&self) -> bool {
+        (200..300).contains(&self.status)
+    }
+}
+
+/// The bytes of an answer, as they come.
+pub trait AnswerBody: Send {
+    /// Waits for bytes, and appends them. Returns false at the end.
+    fn append_next<'a>(&'a mut self, held: &'a mut Vec<u8>) -> Later<'a, Result<bool, NoAnswer>>;
+}
+
+/// Why a member gives no answer.
+#[derive(Clone, Debug, Error)]
+pub enum NoAnswer {
+    /// It didn't get the call.
+    #[error("{0}")]
+    Unreachable(String),
+    /// It may have done it.
+    #[error("{0}")]
+    Broken(String),
+}

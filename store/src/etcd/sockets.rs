@@ -1,0 +1,86 @@
+//! The connections to members. Only here are they called, and does the client of a store wait for time to pass.
+use super::connector::Connector;
+use super::environment::{AnswerBody, Environment, Later, MemberAnswer, MemberCall, NoAnswer};
+use super::{Access, StartError};
+use hyper::body::HttpBody;
+use hyper::{header, Body, Client, Request};
+use std::time::{Duration, Instant};
+use tokio::time::sleep_until;
+
+/// How long a member may take to be reached, and then for the handshake of TLS.
+const REACH: Duration = Duration::from_secs(1);
+/// What has a member end a stream once it reaches none that leads.
+const HAS_LEADER: (&str, &str) = ("Grpc-Metadata-hasleader", "true");
+
+/// The connections to the members of an etcd.
+pub(super) struct Sockets {
+    client: Client<Connector>,
+    members: Vec<String>,
+}
+
+impl Sockets {
+    pub(super) fn new(access: &Access) -> Result<Sockets, StartError> {
+        let connector = Connector::new(access.tls()?, access.patience.min(REACH));
+        Ok(Sockets {
+            client: Client::builder().build(connector),
+            members: access.members()?,
+        })
+    }
+
+    /// Returns how many members there are.
+    pub(super) fn members(&self) -> usize {
+        self.members.len()
+    }
+
+    fn request(&self, call: MemberCall) -> Result<Request<Body>, NoAnswer> {
+        let mut request = Request::post(format!("{}{}", self.members[call.member], call.path))
+            .header(header::CONTENT_TYPE, "application/json");
+        if call.needs_leader {
+            request = request.header(HAS_LEADER.0, HAS_LEADER.1);
+        }
+        if let Some(token) = call.token {
+            request = request.header(header::AUTHORIZATION, token);
+        }
+        let request = request.body(Body::from(call.asked));
+        request.map_err(|error| NoAnswer::Unreachable(error.to_string()))
+    }
+}
+
+impl Environment for Sockets {
+    fn call(&self, call: MemberCall) -> Later<'static, Result<MemberAnswer, NoAnswer>> {
+        let asked = self.request(call).map(|it| self.client.request(it));
+        Box::pin(async move {
+            match asked?.await {
+                Ok(found) => Ok(MemberAnswer {
+                    status: found.status().as_u16(),
+                    body: Box::new(found.into_body()),
+                }),
+                Err(error) if error.is_connect() => Err(NoAnswer::Unreachable(error.to_string())),
+                Err(error) => Err(NoAnswer::Broken(error.to_string())),
+            }
+        })
+    }
+
+    fn now(&self) -> Instant {
+        Instant::now()
+    }
+
+    fn wait_until(&self, moment: Instant) -> Later<'static, ()> {
+        Box::pin(sleep_until(moment.into()))
+    }
+}
+
+impl AnswerBody for Body {
+    fn append_next<'a>(&'a mut self, held: &'a mut Vec<u8>) -> Later<'a, Result<bool, NoAnswer>> {
+        Box::pin(async move {
+            match self.data().await {
+                Some(Ok(bytes)) => {
+                    held.extend_from_slice(&bytes);
+                    Ok(true)
+                }
+                Some(Err(error)) => Err(NoAnswer::Broken(error.to_string())),
+                None => Ok(false),
+            }
+        })
+    }
+}
