@@ -2,11 +2,12 @@ use crate::bug::Bug;
 use crate::control_shape::ControlShape;
 use crate::line::Line;
 use crate::links::{Inbox, LinkShape, LinkedHost};
+use crate::machine_clock::MachineClock;
 use crate::mail::{Mails, Message, Sender};
+use crate::permit_holder::PermitHolder;
 use crate::simulated_host::SimulatedHost;
 use crate::simulated_peers::SimulatedPeers;
 use crate::simulated_store::{locked, SharedStore};
-use crate::time::Time;
 use crate::timeline::Column;
 use durkenzo_control::control::{Asked, Campaigner};
 use durkenzo_control::links::Links;
@@ -20,6 +21,18 @@ use std::time::Duration;
 
 /// How long leases are: as short as they can be.
 pub const LEASE: Duration = Duration::from_secs(1);
+
+/// What a process runs with.
+pub struct Surroundings<'a> {
+    pub store: &'a SharedStore,
+    pub mails: &'a Mails,
+    pub clock: &'a MachineClock,
+    /// How its links are, if it has those that ship.
+    pub links: Option<&'a LinkShape>,
+    /// Whether a service of it executes by permits, and acks.
+    pub has_permits: bool,
+    pub bug: Option<Bug>,
+}
 
 /// A process with one server, as it ships, but for its threads.
 pub struct Process {
@@ -35,8 +48,10 @@ pub struct Process {
     pub links: Option<Links<LinkedHost>>,
     /// When its control has its next turn, if nobody asks sooner.
     due: Duration,
-    time: Time,
+    clock: MachineClock,
     bug: Option<Bug>,
+    /// Who executes by permits, in schedules that have a service that does.
+    pub holder: Option<PermitHolder>,
     /// Whether it is to stop.
     pub is_stopping: Arc<AtomicBool>,
     /// Until when it does nothing.
@@ -50,13 +65,14 @@ pub struct Process {
 impl Process {
     /// Starts a process with this server, one of so many, of so many shards.
     pub fn start(
-        (shared, mails, time, shape): (&SharedStore, &Mails, &Time, Option<&LinkShape>),
+        around: &Surroundings<'_>,
         sender: Sender,
         (server, servers): (u16, u16),
         shards: u16,
         tuning: Tuning,
     ) -> Result<Process, JoinFault> {
-        let (leases, own) = (time.clone(), time.clone());
+        let (shared, shape, mails) = (around.store, around.links, around.mails);
+        let (leases, own) = (around.clock.clone(), around.clock.clone());
         let watches = locked(shared).watches();
         let mut addresses = Addresses::default();
         if shape.is_some() {
@@ -69,7 +85,7 @@ impl Process {
             LEASE,
             move || leases.passed(),
         )?);
-        let links = shape.map(|it| it.links(&member, time));
+        let links = shape.map(|it| it.links(&member, around.clock));
         let sends = links.as_ref().zip(shape);
         let elsewhere = sends.map(|(links, shape)| shape.hand_over(links, sender));
         let (durable, chores) = Durable::open_without_threads(
@@ -79,7 +95,10 @@ impl Process {
             Own {
                 member: member.clone(),
                 elsewhere: elsewhere.unwrap_or_else(|| posts(mails.clone(), sender)),
-                acks: Acks::AsRead,
+                acks: match around.has_permits && around.bug != Some(Bug::EarlyLetGo) {
+                    true => Acks::ByService,
+                    false => Acks::AsRead,
+                },
             },
             Clock::new(move || own.now()),
         )?;
@@ -87,8 +106,11 @@ impl Process {
         if let Some((links, shape)) = links.as_ref().zip(shape) {
             shape.begin(links, servers, &durable, &inbox);
         }
+        let clock = around.clock.clone();
+        let holder = PermitHolder::new(member.clone(), durable.clone(), clock.clone(), around.bug);
         Ok(Process {
             sender,
+            holder: around.has_permits.then_some(holder),
             member,
             durable,
             chores,
@@ -97,7 +119,7 @@ impl Process {
             inbox,
             links,
             due: Duration::ZERO,
-            time: time.clone(),
+            clock,
             bug: None,
             is_stopping: Arc::default(),
             paused_until: Duration::ZERO,
@@ -139,13 +161,13 @@ impl Process {
                 Some(Bug::EndlessWait) if !campaigner.is_idle() => Duration::MAX,
                 _ => campaigner.wait(),
             };
-            self.due = self.time.passed().saturating_add(wait);
+            self.due = self.clock.passed().saturating_add(wait);
         }
     }
 
     /// Its control has its turn if somebody asks or it is time for one, as on a thread of its own.
     pub fn take_turn_if_due(&mut self) {
-        if self.is_asked() || self.due <= self.time.passed() {
+        if self.is_asked() || self.due <= self.clock.passed() {
             self.take_turn();
         }
     }

@@ -318,6 +318,7 @@ impl World {
             }
             process.member.tell_followed();
         }
+        self.settle_permits();
         self.lapse();
     }
 

@@ -43,7 +43,7 @@ impl World {
     fn left(&self) -> Left {
         let (store, mails) = (self.store(), self.mails.lock().expect("no panic"));
         let running = || self.processes.iter().flatten();
-        let of_steps = mails.messages.len() + mails.answers.len();
+        let of_steps = mails.messages.len() + mails.answers.len() + self.handings.len();
         Left {
             flights: store.flights.len(),
             messages: of_steps + mails.commands.len() + mails.commands_back.len(),
