@@ -1,5 +1,5 @@
 //! A service whose processes execute by permits, each by the clock of its machine.
-use super::{World, PROCESSES, SERVERS};
+use super::{World, SERVERS};
 use crate::fault::Fault;
 use crate::machine_clock::Clocks;
 use crate::process::Process;
@@ -42,12 +42,7 @@ impl World {
             return;
         }
         for shard in 0..self.shards {
-            let holds = |it: &&Process| {
-                let holder = it.holder.as_ref();
-                holder.is_some_and(|it| it.holds(shard, SERVERS))
-            };
-            let running = self.processes.iter().flatten();
-            let holders: Vec<u64> = running.filter(holds).map(|it| it.sender.life).collect();
+            let holders = self.lives_that_hold(shard);
             let last = &mut self.holders[usize::from(shard)];
             match holders[..] {
                 [] => {}
@@ -56,10 +51,27 @@ impl World {
                     *last = Some(one);
                 }
                 _ => {
-                    let by = format!("shard {shard}: lives {holders:?} of {PROCESSES} places");
+                    let by = format!(
+                        "shard {shard} by processes {holders:?}, in the order in which all began"
+                    );
                     return self.find("one process at most holds a permit", by);
                 }
             }
         }
+    }
+
+    /// Whether a process may execute for each shard now, if a service executes by permits.
+    pub(super) fn are_held(&self) -> bool {
+        !self.has_permits || (0..self.shards).all(|it| !self.lives_that_hold(it).is_empty())
+    }
+
+    /// The processes that may execute for the shard now.
+    fn lives_that_hold(&self, shard: u16) -> Vec<u64> {
+        let holds = |it: &&Process| {
+            let holder = it.holder.as_ref();
+            holder.is_some_and(|it| it.holds(shard, SERVERS))
+        };
+        let running = self.processes.iter().flatten();
+        running.filter(holds).map(|it| it.sender.life).collect()
     }
 }
