@@ -223,7 +223,10 @@ impl World {
         let linked = of_links.as_ref().map_or(&[][..], |_| &LINKED);
         let mut of_clocks = Chance::new(plan.seed ^ OF_CLOCKS);
         let (clocks, has_permits) = drawn_clocks(&mut of_clocks, bug);
-        let permitted = has_permits.then_some(&PERMITTED[..]).unwrap_or_default();
+        let permitted: &[(Happening, u64)] = match has_permits {
+            true => &PERMITTED,
+            false => &[],
+        };
         let happenings = drawn(&mut chance, &[more, linked, permitted].concat());
         let noted = (faults.clone(), timeline.clone());
         let network = of_links.map(|it| SimulatedNetwork::new(it, time.clone(), bug, noted));
@@ -360,6 +363,7 @@ impl World {
         self.tally.passed_time = self.time.passed().as_millis() as u64;
         self.judge_operators();
         self.judge_links();
+        self.judge_late_commands();
         for place in 0..PROCESSES {
             self.crash_at(place);
         }
@@ -644,10 +648,21 @@ impl World {
         match command(&mut control, &mut self.chance, SHARDS) {
             Err(Refused::NotLeader) => return,
             Err(refused) => self.note_refused(&refused),
-            Ok(()) => {}
+            Ok(()) => {
+                let column = Column::Process(leading[at]);
+                self.store().give_up_commands(column);
+            }
         }
         if let Some(process) = leading.get(at).and_then(|it| self.processes[*it].as_mut()) {
             process.control = Some(control);
+        }
+    }
+
+    /// Checks that nothing was made that a control had given up.
+    fn judge_late_commands(&mut self) {
+        let made_late = self.store().made_late.clone();
+        if let Some(by) = made_late {
+            self.find("a command that was given up isn't made", by);
         }
     }
 
@@ -696,7 +711,12 @@ impl World {
         let asked = (shard, begin.clone(), Arc::downgrade(&is_wanted));
         self.asked.push(asked);
         self.texts += 1;
-        let since = match self.tuning.reads {
+        // What may write is never decided by a lease.
+        let reads = match begin.only_reads() {
+            true => self.tuning.reads,
+            false => Reads::Exact,
+        };
+        let since = match reads {
             Reads::Exact => self.store().revision(),
             Reads::Lease => {
                 let longest = self.clocks.longest(LEASE);
