@@ -95,7 +95,7 @@ mod tests {
             .map(|_| Clocks::Within.of_machine(&mut chance, &time))
             .collect();
         let began: Vec<_> = clocks.iter().map(MachineClock::passed).collect();
-        let counted = Duration::from_secs(9);
+        let counted = Duration::from_millis(u64::from(EXACT - DRIFT));
         time.pass(Clocks::Within.longest(counted).as_millis() as u64);
         let slowest = clocks
             .iter()
