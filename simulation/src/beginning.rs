@@ -1,9 +1,9 @@
 use crate::line::Line;
 use crate::links::LinkShape;
+use crate::machine_clock::MachineClock;
 use crate::mail::Sender;
 use crate::process::LEASE;
 use crate::simulated_store::SharedStore;
-use crate::time::Time;
 use durkenzo_driver::{Addresses, Clock, JoinFault, JoinStep, Joining, Member};
 use std::sync::Arc;
 
@@ -26,12 +26,12 @@ pub enum BeginningStep {
 impl Beginning {
     /// Has a process begin whose server this is to be.
     pub fn new(
-        (shared, time): (&SharedStore, &Time),
+        (shared, clock): (&SharedStore, &MachineClock),
         sender: Sender,
         server: u16,
         shape: Option<LinkShape>,
     ) -> Result<Beginning, JoinFault> {
-        let (leases, own) = (time.clone(), time.clone());
+        let (leases, own) = (clock.clone(), clock.clone());
         let mut addresses = Addresses::default();
         if shape.is_some() {
             addresses.servers = sender.place.to_string();

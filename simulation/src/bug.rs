@@ -65,6 +65,10 @@ pub enum Bug {
     TornFrame,
     /// A link never finds out that the other machine is gone: its system doesn't ask.
     NoKeepAlive,
+    /// A service goes by a lease for its whole length, however slow its clock may be.
+    WholeLease,
+    /// A process acks a record as it sees the next one, though its service may execute by it still.
+    EarlyLetGo,
 }
 
 impl Bug {
@@ -75,7 +79,12 @@ impl Bug {
 
     /// Returns whether it is one of the links that ship.
     pub fn is_of_links(self) -> bool {
-        BUGS[FIRST_OF_LINKS..].contains(&self)
+        BUGS[FIRST_OF_LINKS..FIRST_OF_PERMITS].contains(&self)
+    }
+
+    /// Returns whether it is one of a service that holds permits.
+    pub fn is_of_permits(self) -> bool {
+        BUGS[FIRST_OF_PERMITS..].contains(&self)
     }
 }
 
@@ -83,8 +92,10 @@ impl Bug {
 const FIRST_OF_CONTROL: usize = 20;
 /// The first of those of the links that ship.
 const FIRST_OF_LINKS: usize = 26;
+/// The first of those of a service that holds permits.
+const FIRST_OF_PERMITS: usize = 31;
 
-pub const BUGS: [Bug; 31] = [
+pub const BUGS: [Bug; 33] = [
     Bug::NoRecordCompare,
     Bug::NoHeadCompare,
     Bug::NoLeaderCompare,
@@ -116,4 +127,6 @@ pub const BUGS: [Bug; 31] = [
     Bug::DroppedReturn,
     Bug::TornFrame,
     Bug::NoKeepAlive,
+    Bug::WholeLease,
+    Bug::EarlyLetGo,
 ];

@@ -5,6 +5,8 @@ pub type Became = Result<Outcome, WriteError>;
 
 /// A transaction on its way, or what became of it on its way back.
 pub struct Flight {
+    /// How many were sent before, and with it.
+    pub number: u64,
     pub transaction: Transaction,
     /// The way by which it was sent, by its number.
     pub route: usize,

@@ -3,8 +3,9 @@ use crate::etcd::Reached;
 use crate::fault::Fault;
 use crate::flight::{Became, Flight};
 use crate::simulated_store::SimulatedStore;
+use crate::timeline::Column;
 use crate::told;
-use durkenzo_store::{Done, Room, Transaction, WriteError};
+use durkenzo_store::{Done, Outcome, Room, Transaction, WriteError};
 
 /// An outcome that isn't known.
 fn unknown() -> Became {
@@ -14,12 +15,39 @@ fn unknown() -> Became {
 impl SimulatedStore {
     /// Sends a transaction that nobody waits for.
     pub fn send_for_nobody(&mut self, transaction: Transaction, route: usize) {
+        self.send(transaction, route, None);
+    }
+
+    /// Sends a transaction. Whoever waits for it is told what became of it.
+    pub fn send(&mut self, transaction: Transaction, route: usize, done: Option<Done>) {
+        self.sent += 1;
         self.flights.push(Flight {
+            number: self.sent,
             transaction,
             route,
-            done: None,
+            done,
             became: None,
         });
+    }
+
+    /// The control of this column goes on: no command may be made from now on that it has sent so far.
+    pub fn give_up_commands(&mut self, column: Column) {
+        self.given_up.insert(column.number(), self.sent);
+    }
+
+    /// Makes what was sent, and notes if it is a command that its control has given up.
+    fn make_sent(&mut self, at: usize) -> Became {
+        let (number, route) = (self.flights[at].number, self.flights[at].route);
+        let transaction = self.flights[at].transaction.clone();
+        let became = self.make(&transaction);
+        let column = self.column_of(route).number();
+        let is_given_up = self.given_up.get(&column).is_some_and(|it| number <= *it);
+        let is_command = transaction.puts.iter().any(|it| it.key == b"commands");
+        if is_given_up && is_command && matches!(became, Ok(Outcome::Made(_))) {
+            self.made_late
+                .get_or_insert_with(|| told::summary(&transaction));
+        }
+        became
     }
 
     /// Makes a transaction whose sender waits for it, or loses it.
@@ -57,8 +85,7 @@ impl SimulatedStore {
         let at = self.chance.below(self.flights.len() as u64) as usize;
         let route = self.flights[at].route;
         if self.flights[at].became.is_none() && self.reached(route) == Reached::Answers {
-            let transaction = self.flights[at].transaction.clone();
-            self.flights[at].became = Some(self.make(&transaction));
+            self.flights[at].became = Some(self.make_sent(at));
         }
     }
 
@@ -139,7 +166,7 @@ impl SimulatedStore {
 
     /// The store makes what is on its way. A copy may come later.
     fn land(&mut self, at: usize, transaction: &Transaction) -> Option<(Done, Became)> {
-        let became = self.make(transaction);
+        let became = self.make_sent(at);
         let flight = &mut self.flights[at];
         let (done, route) = (flight.done.take(), flight.route);
         let column = self.column_of(route);
@@ -152,6 +179,7 @@ impl SimulatedStore {
         let done = done?;
         if is_late {
             self.flights.push(Flight {
+                number: self.sent,
                 transaction: transaction.clone(),
                 route,
                 done: Some(done),

@@ -3,6 +3,7 @@
 //! servers in them, and in some schedules the control of `durkenzo_control`, which operators ask. In half of the
 //! schedules they talk by the links of `durkenzo_control` over a network of chance. They crash and forget, learn late
 //! of records, lose their leases and go on. The store is an etcd whose members hang, lag, are gone, or have no room.
+//! Each machine has a clock of its own, and in some schedules a service holds permits by it.
 //! Transactions come late, twice or never, and nobody may learn what became of them. What lies in the store and what
 //! clients were told is checked by a reading of its own. Another part of each seed runs the client of etcd that ships.
 //! One seed is one run, and each fault has a name: what breaks a law is shrunk to the fewest faults that do.
@@ -27,12 +28,15 @@ pub mod law;
 mod ledger;
 mod line;
 mod links;
+mod machine_clock;
 mod mail;
 mod network;
 mod operator;
 mod operator_command;
 mod operator_reply;
 pub mod part;
+mod permit_holder;
+pub mod picture;
 pub mod plan;
 mod process;
 pub mod reading;

@@ -1,6 +1,5 @@
 use crate::bug::Bug;
 use crate::fault::Fault;
-use crate::flight::Flight;
 use crate::simulated_store::{locked, SharedStore, SimulatedStore};
 use crate::timeline::Column;
 use crate::told;
@@ -66,12 +65,7 @@ impl Store for Line {
         let column = store.column_of(self.route);
         let sends = || format!("sends {}", told::summary(&transaction));
         store.timeline.note(column, sends);
-        store.flights.push(Flight {
-            transaction,
-            route: self.route,
-            done: Some(done),
-            became: None,
-        });
+        store.send(transaction, self.route, Some(done));
     }
 
     fn make(&self, transaction: Transaction) -> Result<Outcome, WriteError> {

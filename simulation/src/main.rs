@@ -2,6 +2,7 @@
 //!
 //!     simulation [--schedules N] [--seed S] [--bug NAME] [--seconds T] [--processor-seconds T]
 //!     simulation --show S [--bug NAME] [--keep FAULTS]
+//!     simulation --picture S [--bug NAME] [--keep FAULTS]
 //!     simulation --transcript S
 //!
 //! FAULTS are numbered ones with commas between, as `crash 1, pause 2`; all strike if none are named.
@@ -20,6 +21,7 @@ use std::time::{Duration, Instant};
 const USAGE: &str = "usage: simulation [--schedules N] [--seed S] [--seconds T] [--processor-seconds T] [--part PART]
                   [--bug NAME]
        simulation --show S [--part PART] [--bug NAME] [--keep FAULTS]
+       simulation --picture S [--bug NAME] [--keep FAULTS]
        simulation --transcript S";
 
 struct Options {
@@ -33,6 +35,8 @@ struct Options {
     kept: Kept,
     /// The seed of the schedule whose timeline is shown.
     show: Option<u64>,
+    /// The seed of the schedule that is drawn as a picture.
+    picture: Option<u64>,
     /// The seed of the schedule of which all is shown that was made and told.
     transcript: Option<u64>,
 }
@@ -58,6 +62,7 @@ fn wanted() -> Option<Options> {
         bug: None,
         kept: Kept::All,
         show: None,
+        picture: None,
         transcript: None,
     };
     let mut words = std::env::args().skip(1);
@@ -73,6 +78,7 @@ fn wanted() -> Option<Options> {
             "--keep" => {
                 wanted.kept = Kept::Only(value.split(',').map(numbered).collect::<Option<_>>()?)
             }
+            "--picture" => wanted.picture = Some(value.parse().ok()?),
             "--show" => wanted.show = Some(value.parse().ok()?),
             "--transcript" => wanted.transcript = Some(value.parse().ok()?),
             _ => return None,
@@ -110,17 +116,26 @@ fn main() -> ExitCode {
         println!("{}", transcript(seed));
         return ExitCode::SUCCESS;
     }
-    match wanted.show {
-        Some(seed) => {
-            let plan = Plan {
-                kept: wanted.kept,
-                part: wanted.part.unwrap_or(Part::Processes),
-                ..Plan::new(seed, wanted.bug)
-            };
-            show(&plan)
-        }
-        None => search(&wanted),
+    let plan = |seed| Plan {
+        kept: wanted.kept.clone(),
+        part: wanted.part.unwrap_or(Part::Processes),
+        ..Plan::new(seed, wanted.bug)
+    };
+    match (wanted.show, wanted.picture) {
+        (Some(seed), _) => show(&plan(seed)),
+        (None, Some(seed)) => draw(plan(seed)),
+        (None, None) => search(&wanted),
     }
+}
+
+/// Runs one schedule, and draws it. A law that it breaks stands in the picture.
+fn draw(plan: Plan) -> ExitCode {
+    let ran = run_by(&Plan {
+        is_shown: true,
+        ..plan
+    });
+    print!("{}", ran.picture.unwrap_or_default());
+    ExitCode::SUCCESS
 }
 
 /// Runs schedules until one breaks a law, or time is over.

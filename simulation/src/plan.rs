@@ -40,4 +40,6 @@ pub struct Ran {
     pub struck: Vec<NumberedFault>,
     /// What happened, if it was to be shown.
     pub timeline: Option<String>,
+    /// The same as a picture, in SVG.
+    pub picture: Option<String>,
 }

@@ -2,11 +2,12 @@ use crate::bug::Bug;
 use crate::control_shape::ControlShape;
 use crate::line::Line;
 use crate::links::{Inbox, LinkShape, LinkedHost};
+use crate::machine_clock::MachineClock;
 use crate::mail::{Mails, Message, Sender};
+use crate::permit_holder::PermitHolder;
 use crate::simulated_host::SimulatedHost;
 use crate::simulated_peers::SimulatedPeers;
 use crate::simulated_store::SharedStore;
-use crate::time::Time;
 use crate::timeline::Column;
 use crate::world::SERVERS;
 use durkenzo_control::control::{Asked, Campaigner};
@@ -20,6 +21,18 @@ use std::time::Duration;
 
 /// How long leases are: as short as they can be.
 pub const LEASE: Duration = Duration::from_secs(1);
+
+/// What a process runs with.
+pub struct Surroundings<'a> {
+    pub store: &'a SharedStore,
+    pub mails: &'a Mails,
+    pub clock: &'a MachineClock,
+    /// How its links are, if it has those that ship.
+    pub links: Option<&'a LinkShape>,
+    /// Whether a service of it executes by permits, and acks.
+    pub has_permits: bool,
+    pub bug: Option<Bug>,
+}
 
 /// A process with one server, as it ships, but for its threads.
 pub struct Process {
@@ -35,8 +48,10 @@ pub struct Process {
     pub links: Option<Links<LinkedHost>>,
     /// When its control has its next turn, if nobody asks sooner.
     due: Duration,
-    time: Time,
+    clock: MachineClock,
     bug: Option<Bug>,
+    /// Who executes by permits, in schedules that have a service that does.
+    pub holder: Option<PermitHolder>,
     /// Whether it is to stop.
     pub is_stopping: Arc<AtomicBool>,
     /// Until when it does nothing.
@@ -50,14 +65,15 @@ pub struct Process {
 impl Process {
     /// Starts the shards of a process whose server is there, so many.
     pub fn start(
-        (shared, mails, time, shape): (&SharedStore, &Mails, &Time, Option<&LinkShape>),
+        around: &Surroundings<'_>,
         sender: Sender,
         member: Arc<Member>,
         shards: u16,
         tuning: Tuning,
     ) -> Result<Process, OpenFault> {
-        let own = time.clone();
-        let links = shape.map(|it| it.links(&member, time));
+        let (shared, shape, mails) = (around.store, around.links, around.mails);
+        let own = around.clock.clone();
+        let links = shape.map(|it| it.links(&member, around.clock));
         let sends = links.as_ref().zip(shape);
         let elsewhere = sends.map(|(links, shape)| shape.hand_over(links, sender));
         let (durable, chores) = Durable::open_without_threads(
@@ -67,7 +83,10 @@ impl Process {
             Own {
                 member: member.clone(),
                 elsewhere: elsewhere.unwrap_or_else(|| posts(mails.clone(), sender)),
-                acks: Acks::AsRead,
+                acks: match around.has_permits && around.bug != Some(Bug::EarlyLetGo) {
+                    true => Acks::ByService,
+                    false => Acks::AsRead,
+                },
             },
             Clock::new(move || own.now()),
         )?;
@@ -75,8 +94,11 @@ impl Process {
         if let Some((links, shape)) = links.as_ref().zip(shape) {
             shape.begin(links, SERVERS, &durable, &inbox);
         }
+        let clock = around.clock.clone();
+        let holder = PermitHolder::new(member.clone(), durable.clone(), clock.clone(), around.bug);
         Ok(Process {
             sender,
+            holder: around.has_permits.then_some(holder),
             member,
             durable,
             chores,
@@ -85,7 +107,7 @@ impl Process {
             inbox,
             links,
             due: Duration::ZERO,
-            time: time.clone(),
+            clock,
             bug: None,
             is_stopping: Arc::default(),
             paused_until: Duration::ZERO,
@@ -127,13 +149,13 @@ impl Process {
                 Some(Bug::EndlessWait) if !campaigner.is_idle() => Duration::MAX,
                 _ => campaigner.wait(),
             };
-            self.due = self.time.passed().saturating_add(wait);
+            self.due = self.clock.passed().saturating_add(wait);
         }
     }
 
     /// Its control has its turn if somebody asks or it is time for one, as on a thread of its own.
     pub fn take_turn_if_due(&mut self) {
-        if self.is_asked() || self.due <= self.time.passed() {
+        if self.is_asked() || self.due <= self.clock.passed() {
             self.take_turn();
         }
     }

@@ -12,6 +12,7 @@ use crate::timeline::{Column, Timeline};
 use crate::told::summary;
 use crate::watches::Watches;
 use durkenzo_store::{LeaseId, Outcome, Pair, Reading, Revision, Transaction, WriteError};
+use std::collections::BTreeMap;
 use std::sync::{Arc, Mutex, MutexGuard};
 use std::time::Duration;
 
@@ -44,6 +45,11 @@ pub struct SimulatedStore {
     pub made: Vec<(u64, Transaction)>,
     times: Vec<(Duration, u64)>,
     pub flights: Vec<Flight>,
+    /// How many were sent, and how many of them were when the control of a column went on last, by its number.
+    pub(crate) sent: u64,
+    pub(crate) given_up: BTreeMap<usize, u64>,
+    /// The first command that was made though its control had given it up.
+    pub made_late: Option<String>,
     pub(crate) watches: Watches,
     /// How many leases there were.
     leases: i64,
@@ -75,6 +81,9 @@ impl SimulatedStore {
             made: Vec::new(),
             times: Vec::new(),
             flights: Vec::new(),
+            sent: 0,
+            given_up: BTreeMap::new(),
+            made_late: None,
             watches: Watches::default(),
             leases: 0,
             lost: 0,

@@ -31,6 +31,8 @@ pub struct Tally {
     /// Connections that were made between processes, and that broke.
     pub reached: u64,
     pub broken: u64,
+    /// How often a permit came to another process.
+    pub permits: u64,
     /// The time that passed, in milliseconds.
     pub passed_time: u64,
     /// How many faults of each kind struck.
@@ -62,6 +64,7 @@ impl Tally {
         self.done += more.done;
         self.reached += more.reached;
         self.broken += more.broken;
+        self.permits += more.permits;
         self.passed_time += more.passed_time;
         let faults = self.faults.iter_mut().zip(more.faults);
         faults.for_each(|(all, more)| *all += more);
@@ -120,6 +123,7 @@ impl fmt::Display for Tally {
             ("done", self.done),
             ("reached", self.reached),
             ("broken", self.broken),
+            ("permits", self.permits),
         ];
         let faults = Fault::ALL
             .iter()

@@ -25,7 +25,12 @@ impl Time {
 
     /// Returns this moment. Only the time between two of them is of the schedule.
     pub fn now(&self) -> Instant {
-        self.beginning + self.passed()
+        self.moment(self.passed())
+    }
+
+    /// Returns the moment at this time.
+    pub fn moment(&self, passed: Duration) -> Instant {
+        self.beginning + passed
     }
 
     /// Moves the clock forward.

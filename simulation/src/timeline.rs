@@ -12,7 +12,8 @@ pub enum Column {
 }
 
 impl Column {
-    fn number(self) -> usize {
+    /// Returns its number, from the left.
+    pub fn number(self) -> usize {
         match self {
             Column::Store => 0,
             Column::Process(place) => place + 1,
@@ -20,10 +21,12 @@ impl Column {
     }
 }
 
-struct Event {
-    milliseconds: u128,
-    column: Column,
-    text: String,
+/// What happened, where and when.
+#[derive(Clone, Debug)]
+pub struct Event {
+    pub milliseconds: u128,
+    pub column: Column,
+    pub text: String,
 }
 
 /// The events of one schedule, for all who note them; none are kept unless somebody wants to see them.
@@ -57,6 +60,16 @@ impl Timeline {
             let mut events = events.lock().expect("no schedule goes on after a panic");
             events.push(event);
         }
+    }
+
+    /// Returns the events in their order; none if none were kept.
+    pub fn events(&self) -> Vec<Event> {
+        let events = self.events.as_ref();
+        events.map_or_else(Vec::new, |it| {
+            it.lock()
+                .expect("no schedule goes on after a panic")
+                .clone()
+        })
     }
 
     /// Returns the events, a line each: the time in virtual milliseconds, then what happened, in the column of where it

@@ -2,6 +2,7 @@
 mod controls;
 mod members;
 mod network;
+mod permits;
 mod rest;
 
 use crate::beginning::Beginning;
@@ -17,9 +18,12 @@ use crate::key::Written;
 use crate::law::{check, Broken};
 use crate::ledger::SharedLedger;
 use crate::links::{LinkShape, Parcels};
+use crate::machine_clock::{Clocks, MachineClock};
 use crate::mail::{broken, visiting, Mails, Message, Sender, StepAnswer};
 use crate::network::SimulatedNetwork;
 use crate::part::Part;
+use crate::permit_holder::Handing;
+use crate::picture::{Picture, GONE};
 use crate::plan::{Plan, Ran};
 use crate::process::{Process, LEASE};
 use crate::simulated_store::{locked, SharedStore, SimulatedStore};
@@ -56,6 +60,8 @@ const SETTLING: u64 = 60;
 const PERIOD: u64 = 50;
 /// So many times where processes have the links that ship: what a machine got that is gone is lost only then.
 const LINKED_SETTLING: u64 = 500;
+/// By this the numbers of chance of clocks differ from those of all else.
+const OF_CLOCKS: u64 = 0xc10c;
 /// How long work waits for a shard that nobody executes.
 const WAIT: Duration = Duration::from_millis(300);
 
@@ -104,6 +110,9 @@ const LINKED: [(Happening, u64); 4] = [
     (World::harm_network, 1),
 ];
 
+/// What happens beside that where a service executes by permits.
+const PERMITTED: [(Happening, u64); 2] = [(World::serve, 30), (World::hand_over, 6)];
+
 pub struct World {
     chance: Chance,
     /// What happens in this schedule, and how often.
@@ -114,6 +123,15 @@ pub struct World {
     ledger: SharedLedger,
     bug: Option<Bug>,
     time: Time,
+    /// How the machines' clocks are, and that of each process by its place.
+    clocks: Clocks,
+    machines: Vec<MachineClock>,
+    /// Whether a service executes by permits.
+    has_permits: bool,
+    /// What owners have let go, on its way to next owners.
+    handings: Vec<Handing>,
+    /// The process that held each shard last, if a service executes by permits.
+    holders: Vec<Option<u64>>,
     faults: Faults,
     timeline: Timeline,
     store: SharedStore,
@@ -157,11 +175,22 @@ fn run_processes_by(plan: &Plan) -> Ran {
     world.pass();
     let (faults, timeline) = (world.faults.clone(), world.timeline.clone());
     let (tally, verdict) = world.end();
+    let struck = faults.struck();
+    let draw = || {
+        let picture = Picture {
+            title: format!("seed {}, {} faults", plan.seed, struck.len()),
+            names: &names(),
+            events: &timeline.events(),
+            broken: verdict.as_ref().err(),
+        };
+        picture.drawn()
+    };
     Ran {
+        timeline: plan.is_shown.then(|| timeline.drawn(&names())),
+        picture: plan.is_shown.then(draw),
         tally,
         verdict,
-        struck: faults.struck(),
-        timeline: plan.is_shown.then(|| timeline.drawn(&names())),
+        struck,
     }
 }
 
@@ -195,7 +224,7 @@ impl World {
         );
         let store = SimulatedStore::new(of_store, bug, time.clone(), noted);
         let is_controlled = match bug {
-            Some(bug) => bug.is_of_control(),
+            Some(bug) => bug.is_of_control() || bug.is_of_permits(),
             None => chance.is_true(1, 4),
         };
         let (shards, more): (_, &[(Happening, u64)]) = match is_controlled {
@@ -204,7 +233,13 @@ impl World {
         };
         let of_links = chance_of_links(plan.seed, bug);
         let linked = of_links.as_ref().map_or(&[][..], |_| &LINKED);
-        let happenings = drawn(&mut chance, &[more, linked].concat());
+        let mut of_clocks = Chance::new(plan.seed ^ OF_CLOCKS);
+        let (clocks, has_permits) = drawn_clocks(&mut of_clocks, bug);
+        let permitted: &[(Happening, u64)] = match has_permits {
+            true => &PERMITTED,
+            false => &[],
+        };
+        let happenings = drawn(&mut chance, &[more, linked, permitted].concat());
         let noted = (faults.clone(), timeline.clone());
         let network = of_links.map(|it| SimulatedNetwork::new(it, time.clone(), bug, noted));
         let control = is_controlled.then(|| ControlShape::new(&mut chance, shards, bug));
@@ -216,6 +251,13 @@ impl World {
             control,
             ledger: SharedLedger::default(),
             bug,
+            machines: (0..PROCESSES)
+                .map(|_| clocks.of_machine(&mut of_clocks, &time))
+                .collect(),
+            clocks,
+            has_permits,
+            handings: Vec::new(),
+            holders: vec![None; usize::from(shards)],
             time,
             faults,
             timeline,
@@ -310,6 +352,7 @@ impl World {
             process.member.turn();
         }
         self.turn_beginnings();
+        self.settle_permits();
         // Processes that crashed are seen to be gone.
         self.lapse();
     }
@@ -337,6 +380,7 @@ impl World {
         self.tally.passed_time = self.time.passed().as_millis() as u64;
         self.judge_operators();
         self.judge_links();
+        self.judge_late_commands();
         for place in 0..PROCESSES {
             self.crash_at(place);
         }
@@ -377,6 +421,7 @@ impl World {
         if let Some((happens, _)) = happens.copied() {
             happens(self);
         }
+        self.judge_permits();
     }
 
     /// The place of a process that runs, and isn't paused, if there is one where chance looks.
@@ -521,6 +566,7 @@ impl World {
         let mut ledger = self.ledger.lock().expect("no panic");
         ledger.ended.insert(process.sender.life);
         drop(ledger);
+        self.timeline.note(process.column(), || GONE.to_owned());
         let life = process.sender.life;
         self.network.iter_mut().for_each(|it| it.forget(life));
         if let Some(links) = &process.links {
@@ -563,10 +609,21 @@ impl World {
         match command(&mut control, &mut self.chance, SHARDS) {
             Err(Refused::NotLeader) => return,
             Err(refused) => self.note_refused(&refused),
-            Ok(()) => {}
+            Ok(()) => {
+                let column = Column::Process(leading[at]);
+                self.store().give_up_commands(column);
+            }
         }
         if let Some(process) = leading.get(at).and_then(|it| self.processes[*it].as_mut()) {
             process.control = Some(control);
+        }
+    }
+
+    /// Checks that nothing was made that a control had given up.
+    fn judge_late_commands(&mut self) {
+        let made_late = self.store().made_late.clone();
+        if let Some(by) = made_late {
+            self.find("a command that was given up isn't made", by);
         }
     }
 
@@ -615,10 +672,16 @@ impl World {
         let asked = (shard, begin.clone(), Arc::downgrade(&is_wanted));
         self.asked.push(asked);
         self.texts += 1;
-        let since = match self.tuning.reads {
+        // What may write is never decided by a lease.
+        let reads = match begin.only_reads() {
+            true => self.tuning.reads,
+            false => Reads::Exact,
+        };
+        let since = match reads {
             Reads::Exact => self.store().revision(),
             Reads::Lease => {
-                let since = self.time.passed().saturating_sub(LEASE);
+                let longest = self.clocks.longest(LEASE);
+                let since = self.time.passed().saturating_sub(longest);
                 self.store().revision_at(since)
             }
         };
@@ -722,7 +785,9 @@ impl World {
             Some(target) => {
                 self.tally.forwarded += 1;
                 let elsewhere = message.elsewhere.clone();
-                let (came, since) = (elsewhere.came, elsewhere.since);
+                let (there, here) = (&self.machines[runs[at]], &self.machines[sender.place]);
+                let since = there.moment_of(here, elsewhere.since);
+                let came = elsewhere.came;
                 let steps = visiting(&self.mails, message);
                 target
                     .durable
@@ -791,6 +856,15 @@ fn chance_of_links(seed: u64, bug: Option<Bug>) -> Option<Chance> {
         None => chance.is_true(1, 2),
     };
     is_linked.then_some(chance)
+}
+
+/// Returns how the clocks of this schedule are, and whether a service executes by permits.
+fn drawn_clocks(chance: &mut Chance, bug: Option<Bug>) -> (Clocks, bool) {
+    let (clocks, has_permits) = (Clocks::drawn(chance), chance.is_true(1, 3));
+    match bug {
+        Some(bug) if bug.is_of_permits() => (Clocks::Within, true),
+        _ => (clocks, has_permits),
+    }
 }
 
 /// How the shards of this schedule are.

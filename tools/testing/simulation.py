@@ -1,18 +1,47 @@
 """What schedules of chance over the driver and the control of a shared store find, as they ship: nothing, and each
 planted bug."""
 import shutil
+import subprocess
+import time
+import xml.etree.ElementTree
 
 import other_crates
+import sources
 from testing import workspace
 from testing.library import is_there
+from testing.part import verdict
 from testing.program import tool
 
 BINDINGS = ("-p", "durkenzo-store-sys", "--features", "permits")
 SIMULATION = ("-p", "simulation", "--release")
 # The same schedules on each machine, so that none finds what another one doesn't. They take 25 s of a processor.
 LIMITS = ("--seed", "1", "--schedules", "10000", "--seconds", "900")
+# For how many seconds of a processor further ones are tried, and for how many of time at most.
+NEW_SECONDS, NEW_TIME = "180", "900"
+# More schedules than are tried in that time, so that no seed comes twice.
+APART = 1_000_000
 # A patch of simulation/plants that is found within seconds.
 PLANTS = ("batch-without-record",)
+# The schedule that is drawn.
+DRAWN = "37"
+
+
+def new_seed():
+    """Returns a seed that no earlier minute had. What it finds is repeated by it: the name of the verdict has it."""
+    return int(time.strftime("%Y%m%d%H%M", time.gmtime())) * APART
+
+
+def drawn():
+    """The verdict on the picture of a schedule: it is XML, and says what became of the law."""
+    command = [str(sources.TOP / "tools/picture"), "--schedule", DRAWN]
+    how = {"capture_output": True, "text": True, "stdin": subprocess.DEVNULL, "check": False}
+    ran = subprocess.run(command, env=other_crates.environment(), **how)
+    try:
+        texts = [it.text for it in xml.etree.ElementTree.fromstring(ran.stdout).iter() if it.tag.endswith("}text")]
+    except xml.etree.ElementTree.ParseError as wrong:
+        texts = [f"no picture: {wrong}"]
+    is_well = ran.returncode == 0 and "server 1" in texts and texts[-1] == "all laws are kept"
+    return verdict("a schedule is drawn", is_well, f"{texts[-1:]}{ran.stderr[-workspace.TOLD:]}")
 
 
 def passed(_room):
@@ -22,4 +51,8 @@ def passed(_room):
     yield workspace.ran("the bindings of a store's calls", "test", *BINDINGS)
     yield workspace.ran("planted bugs are found", "test", *SIMULATION)
     yield workspace.ran("schedules of chance keep the law", "run", "--quiet", *SIMULATION, "--", *LIMITS)
+    seed = str(new_seed())
+    limits = ("--seed", seed, "--schedules", str(APART), "--processor-seconds", NEW_SECONDS, "--seconds", NEW_TIME)
+    yield workspace.ran(f"new ones from seed {seed} on do", "run", "--quiet", *SIMULATION, "--", *limits)
+    yield drawn()
     yield tool("plants", *PLANTS)

@@ -2,8 +2,8 @@ use super::step::TABLE;
 use super::{Inbox, LinkedDestination, LinkedHost, LinkedStep, Parcels};
 use crate::bug::Bug;
 use crate::ledger::SharedLedger;
+use crate::machine_clock::MachineClock;
 use crate::mail::Sender;
-use crate::time::Time;
 use durkenzo_control::links::{Admission, Identity, Links, Secret, Terms, FIRST_TABLE};
 use durkenzo_driver::{Clock, Durable, HandOver, Member};
 use std::sync::Arc;
@@ -26,7 +26,7 @@ pub struct LinkShape {
 
 impl LinkShape {
     /// Returns the links of this member's process.
-    pub fn links(&self, member: &Arc<Member>, time: &Time) -> Links<LinkedHost> {
+    pub fn links(&self, member: &Arc<Member>, clock: &MachineClock) -> Links<LinkedHost> {
         let identity = Identity {
             server: member.server(),
             settings: SETTINGS,
@@ -39,8 +39,8 @@ impl LinkShape {
             tls: None,
             admits: Admission::Processes,
         };
-        let time = time.clone();
-        let clock = Clock::new(move || time.now());
+        let clock = clock.clone();
+        let clock = Clock::new(move || clock.now());
         Links::without_threads(terms, member.clone(), self.wait, clock)
     }
 

@@ -315,6 +315,7 @@ impl World {
             process.member.turn();
         }
         self.turn_beginnings();
+        self.settle_permits();
         self.lapse();
     }
 
@@ -343,7 +344,7 @@ impl World {
     fn is_over(&self) -> bool {
         let idle =
             |it: &Process| !it.is_asked() && it.campaigner.as_ref().is_none_or(|it| it.is_idle());
-        let is_idle = self.processes.iter().flatten().all(idle);
+        let is_idle = self.processes.iter().flatten().all(idle) && self.are_held();
         let are_up = (1..=SERVERS).all(|it| self.state_of(it) == UP);
         let is_told = self.ledger.lock().expect("no panic").open() == 0;
         let is_asked = self.asked.iter().any(|it| it.2.strong_count() > 0);

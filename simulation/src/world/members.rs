@@ -5,7 +5,7 @@ use crate::beginning::{Beginning, BeginningStep};
 use crate::fault::Fault;
 use crate::links::LinkShape;
 use crate::mail::Sender;
-use crate::process::Process;
+use crate::process::{Process, Surroundings};
 use crate::simulated_store::locked;
 use crate::timeline::Column;
 use durkenzo_driver::{JoinFault, Member};
@@ -25,7 +25,7 @@ impl World {
             self.store().begin_processes(others);
         }
         let shape = self.link_shape(sender);
-        let surroundings = (&self.store, &self.time);
+        let surroundings = (&self.store, &self.machines[place]);
         match Beginning::new(surroundings, sender, server_of(place), shape) {
             Ok(beginning) => {
                 self.beginnings[place] = Some(beginning);
@@ -75,8 +75,15 @@ impl World {
         shape: Option<LinkShape>,
         watches: usize,
     ) {
-        let surroundings = (&self.store, &self.mails, &self.time, shape.as_ref());
-        let started = Process::start(surroundings, sender, member, self.shards, self.tuning);
+        let around = Surroundings {
+            store: &self.store,
+            mails: &self.mails,
+            clock: &self.machines[sender.place],
+            links: shape.as_ref(),
+            has_permits: self.has_permits,
+            bug: self.bug,
+        };
+        let started = Process::start(&around, sender, member, self.shards, self.tuning);
         let mut process = match started {
             Ok(process) => process,
             Err(fault) => return self.note_unbegun(sender, &JoinFault::from(fault)),

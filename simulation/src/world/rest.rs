@@ -44,7 +44,7 @@ impl World {
         let (store, mails) = (self.store(), self.mails.lock().expect("no panic"));
         let running = || self.processes.iter().flatten();
         let beginning = self.beginnings.iter().flatten().count();
-        let of_steps = mails.messages.len() + mails.answers.len();
+        let of_steps = mails.messages.len() + mails.answers.len() + self.handings.len();
         Left {
             flights: store.flights.len(),
             messages: of_steps + mails.commands.len() + mails.commands_back.len(),
