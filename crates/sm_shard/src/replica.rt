@@ -1,4 +1,4 @@
-ghost use Rattle.std.specs.Prelude.{◌≡◌, ◌≤◌, ◌++◌, List, [], ◌∷◌, map, IfNone, IfOk, IfSome, OnOk};
+ghost use Rattle.std.specs.Prelude.{◌≡◌, ◌≤◌, ◌++◌, List, [], ◌∷◌, map, max, IfNone, IfOk, IfSome, OnOk};
 ghost use Rattle.std.specs.BTreeMap.{get, insert_entry};
 ghost use Rattle.std.specs.Ordering.{nat_cmp};
 ghost use Rattle.sm_store.specs.declared.item.Item.{Item as ItemValue};
@@ -167,6 +167,13 @@ fn note<R: Copy + Drop>(
     Ok(())
 }
 
+/// The greater of two numbers.
+pub fn greater(first: u64, second: u64) -> u64
+    ensures { result ≡ max first second }
+{
+    first.max(second)
+}
+
 /// Makes the next request, or says why it can't be followed; then nothing is said of the replica.
 pub fn make<Q: Drop, R: Copy + Drop, M: StoreMachine<Q, R>>(
     alloc: Global,
@@ -190,7 +197,7 @@ pub fn make<Q: Drop, R: Copy + Drop, M: StoreMachine<Q, R>>(
         reply,
     };
     note(&mut replica.lasts, item.client, next, item.forgets)?;
-    replica.floor = replica.floor.max(item.forgets);
+    replica.floor = greater(replica.floor, item.forgets);
     Ok(reply)
 }
 

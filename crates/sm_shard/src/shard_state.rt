@@ -18,7 +18,9 @@ ghost use Rattle.sm_shard.specs.ShardServers.{IsWorkTrue, StoreLog, named_now, n
 
 use crate::base::base_of;
 use crate::base_work::{BaseStage, BaseWork, NamedBase};
-use crate::replica::{LastRequest, MadeReply, ReplayFault, Replica, last_request, make_all};
+use crate::replica::{
+    LastRequest, MadeReply, ReplayFault, Replica, greater, last_request, make_all,
+};
 use crate::shard_limits::ShardLimits;
 use crate::store_machine::StoreMachine;
 use sm_envelope::envelope::MOST_HOPS;
@@ -164,7 +166,7 @@ fn floor_among<Q: Drop>(items: &[Item<Q>]) -> u64
 {
     let mut floor = 0;
     for item in items {
-        floor = floor.max(item.forgets);
+        floor = greater(floor, item.forgets);
     }
     floor
 }

@@ -8,8 +8,8 @@ returns g c = record {
   machine = search rules;
   replica = λ before replica.
       replica_next g.M.StoreMachine.service before c.args.item.now
-      c.args.replica.now c.answer.new.self c.note.new.lasts c.max-replica.result c.in_ok-reply.reply replica
+      c.args.replica.now c.answer.new.self c.note.new.lasts c.greater-replica.result c.in_ok-reply.reply replica
       (omega arith)
       (omega arith) c.in_ok-reply.ensures.reply c.in_ok-reply.ensures.after c.in_ok-note.ensures
-      c.max-replica.ensures;
+      c.greater-replica.ensures;
 }

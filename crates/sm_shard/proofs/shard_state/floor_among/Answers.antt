@@ -16,8 +16,8 @@ loop-item-preserved g c =
     ∙ ap (λ (x : Item g.row.Q.Denot). front ++ x ∷ []) (sym c.item-item.is) in
     let both = floor-append front (item ∷ []) in
     let so_far = c.loop-item.invariant in
-    let more = c.max-floor.ensures in
-    let whole : c.max-floor.result ≡ floor_of (front ++ item ∷ []) = omega arith in
+    let more = c.greater-floor.ensures in
+    let whole : c.greater-floor.result ≡ floor_of (front ++ item ∷ []) = omega arith in
     whole ∙ ap floor_of (sym grown)
 
 pub returns : goal.returns
