@@ -1,7 +1,7 @@
 use crate::connections::Connections;
 use crate::follower::{self, Notices};
-use crate::introduction::Introduction;
 use crate::host;
+use crate::introduction::Introduction;
 use crate::listener::Listener;
 use crate::permit::BodyGuard;
 use crate::place::{Known, Place};

@@ -60,7 +60,8 @@ pub struct Answer {
 }
 
 impl Router {
-    /// Watches the map of the fleet in this store, whose servers ask for nothing to be shown.
+    /// Watches the map of the fleet in this store, whose servers ask for nothing to be shown. The store must stay for as
+    /// long as the router: without it the map grows old.
     ///
     /// # Errors
     ///
@@ -192,7 +193,7 @@ impl Router {
             }
             Err(error @ NotAnswered::Lost(..)) => return Err(CallError::Unsure(error.to_string())),
         };
-        answer_of(&bytes)
+        answer_of(bytes)
     }
 
     /// Gives the control of the fleet a command, as `["MIGRATE", "3", "2"]`, by way of the owner of the first shard,
@@ -267,19 +268,23 @@ impl Router {
 }
 
 /// What a server has answered to a call.
-fn answer_of(bytes: &[u8]) -> Result<Answer, CallError> {
-    match Response::read(bytes) {
+fn answer_of(mut bytes: Vec<u8>) -> Result<Answer, CallError> {
+    match Response::read(&bytes) {
         Ok(Response::Answered {
             server,
             hops,
             fence,
             answer,
-        }) => Ok(Answer {
-            bytes: answer.to_vec(),
-            server,
-            fence,
-            hops,
-        }),
+        }) => {
+            let begin = bytes.len() - answer.len();
+            bytes.drain(..begin);
+            Ok(Answer {
+                bytes,
+                server,
+                fence,
+                hops,
+            })
+        }
         Ok(Response::Again(why)) => Err(CallError::NotMade(why.to_owned())),
         Ok(Response::Unsure(why)) => Err(CallError::Unsure(why.to_owned())),
         Ok(Response::Piece { .. } | Response::Taken | Response::Text(_) | Response::NoCopy(_)) => {
