@@ -35,7 +35,7 @@ type Callers = Vec<Box<dyn Workload>>;
 /// How long is waited for what isn't timed.
 const PATIENCE: Duration = Duration::from_secs(300);
 
-/// What one client saw in this time, once all are ready. If there is a pace, its calls begin at that pace: a call that is
+/// What one client saw in this time, once all are ready. If there is a pace, its calls begin at that pace: one that is
 /// late is counted from when it should have begun.
 fn work(
     mut caller: Box<dyn Workload>,

@@ -29,8 +29,8 @@ impl Timed {
         self.not_made += other.not_made;
     }
 
-    /// The calls that were answered, those a second, the microseconds of the middle one, of the hundredth slowest and of
-    /// the longest, and the calls that may have been made, and that weren't.
+    /// The calls that were answered, those a second, the microseconds of the middle one, the hundredth slowest and the
+    /// longest, and the calls that may have been made, and that weren't.
     pub(crate) fn told(mut self, seconds: u64) -> String {
         self.microseconds.sort_unstable();
         let (count, last) = (self.microseconds.len(), self.microseconds.last().copied());
