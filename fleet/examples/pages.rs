@@ -4,8 +4,8 @@
 //! $ pages --name 1 --servers 2 --shards 1    # a server; 2 likewise
 //! ```
 //!
-//! A request of 8 bytes counts at the page of that number, and is answered by the count. `fill` and 8 bytes have so many
-//! pages be there. Numbers have the greatest byte first.
+//! A request of 8 bytes counts at the page of that number, and is answered by the count. `fill` and 8 bytes have so
+//! many pages be there. Numbers have the greatest byte first.
 use durkenzo_fleet::{Call, Came, Changes, Fault, Fleet, Options, Piece, Service, Shard};
 use std::cmp::Ordering;
 use std::collections::BTreeSet;

@@ -43,7 +43,7 @@ pub trait Changes<B> {
 pub struct Piece {
     /// What [`Changes::add_piece`] adds. It may be empty only if nothing is left.
     pub bytes: Vec<u8>,
-    /// About how many bytes are left for further pieces. It is 0 exactly if the copy is like the body now: everything is
+    /// About how many bytes are left for further pieces. It is 0 exactly if the copy is like the body now: all of it is
     /// copied, and nothing has changed since.
     pub left: u64,
 }

@@ -12,15 +12,30 @@ use thiserror::Error;
 pub(crate) const MEET: Duration = Duration::from_secs(5);
 /// How many connections to a server are kept for the next calls.
 pub(crate) const IDLE: usize = 64;
+/// How long a connection isn't looked at since it was used: a server that closes it may do so behind a look, too.
+const MOMENT: Duration = Duration::from_micros(100);
+/// How long a request is at most that a connection takes at once, as nothing else is on its way there.
+const SHORT: usize = 4 << 10;
+/// By which part of its time a response may be waited for longer, so that the time isn't set for each.
+const LATER: u32 = 16;
 /// Of how many addresses it is noted at most that they refuse.
 const REFUSING: usize = 4_096;
 
 /// Connections to servers of a fleet. A call has one for itself.
 pub(crate) struct Connections {
     introduction: Introduction,
-    idle: Mutex<HashMap<String, Vec<Stream>>>,
+    idle: Mutex<HashMap<String, Vec<Connection>>>,
     /// Who refuses this process, of which the log tells once.
     refusing: Mutex<HashSet<String>>,
+}
+
+/// A connection, on which one request is under way at a time.
+struct Connection {
+    stream: Stream,
+    /// How long a response is waited for.
+    within: Duration,
+    /// When the last response came.
+    used: Instant,
 }
 
 /// Why there is no response.
@@ -56,7 +71,7 @@ impl Connections {
         request: &Request<'_>,
         within: Duration,
     ) -> Result<Vec<u8>, NotAnswered> {
-        let mut bytes = Vec::new();
+        let mut bytes = Vec::with_capacity(frame::FIRST);
         request.write(&mut bytes);
         self.ask_bytes(address, bytes, within)
     }
@@ -70,35 +85,36 @@ impl Connections {
     ) -> Result<Vec<u8>, NotAnswered> {
         let end = Instant::now() + within;
         let unreached = |error| NotAnswered::Unreached(address.to_owned(), error);
-        let mut stream = match self.kept(address) {
-            Some(stream) => stream,
-            None => self.connect(address, left(end)).map_err(unreached)?,
+        let mut connection = match self.kept(address) {
+            Some(connection) => connection,
+            None => Connection::new(self.connect(address, left(end)).map_err(unreached)?),
         };
         // A server that gets only a part of a frame does nothing of it.
-        let written = stream
-            .set_write_timeout(left(end).min(WRITTEN))
-            .and_then(|()| stream.write_all(&bytes));
-        written.map_err(|error| unreached(error.into()))?;
-        let received = stream
-            .set_read_timeout(left(end))
-            .and_then(|()| frame::receive(&mut stream, &mut bytes));
+        let sent = connection.send(&bytes, left(end));
+        sent.map_err(|error| unreached(error.into()))?;
+        let received = connection.receive(&mut bytes, left(end));
         received.map_err(|error| NotAnswered::Lost(address.to_owned(), error))?;
-        let mut idle = self.idle.lock().unwrap_or_else(PoisonError::into_inner);
-        let kept = idle.entry(address.to_owned()).or_default();
-        if kept.len() < IDLE {
-            kept.push(stream);
-        }
+        self.keep(address, connection);
         Ok(bytes)
     }
 
+    fn keep(&self, address: &str, connection: Connection) {
+        let mut idle = self.idle.lock().unwrap_or_else(PoisonError::into_inner);
+        match idle.get_mut(address) {
+            Some(kept) if kept.len() >= IDLE => {}
+            Some(kept) => kept.push(connection),
+            None => drop(idle.insert(address.to_owned(), vec![connection])),
+        }
+    }
+
     /// Returns a connection that was used before, and that the server hasn't closed since.
-    fn kept(&self, address: &str) -> Option<Stream> {
+    fn kept(&self, address: &str) -> Option<Connection> {
         loop {
             let mut idle = self.idle.lock().unwrap_or_else(PoisonError::into_inner);
-            let stream = idle.get_mut(address)?.pop()?;
+            let connection = idle.get_mut(address)?.pop()?;
             drop(idle);
-            if stream.is_quiet() {
-                return Some(stream);
+            if connection.used.elapsed() < MOMENT || connection.stream.is_quiet() {
+                return Some(connection);
             }
         }
     }
@@ -117,5 +133,34 @@ impl Connections {
             Err(_) => {}
         }
         met
+    }
+}
+
+impl Connection {
+    fn new(stream: Stream) -> Connection {
+        Connection {
+            stream,
+            within: Duration::ZERO,
+            used: Instant::now(),
+        }
+    }
+
+    /// Sends a request. One that is short lies in the connection at once.
+    fn send(&mut self, bytes: &[u8], within: Duration) -> io::Result<()> {
+        if bytes.len() > SHORT {
+            self.stream.set_write_timeout(within.min(WRITTEN))?;
+        }
+        self.stream.write_all(bytes)
+    }
+
+    /// Waits so long for a response, or a little longer.
+    fn receive(&mut self, room: &mut Vec<u8>, within: Duration) -> io::Result<()> {
+        if self.within < within || self.within > within + within / LATER {
+            self.stream.set_read_timeout(within)?;
+            self.within = within;
+        }
+        frame::receive_last(&mut self.stream, room)?;
+        self.used = Instant::now();
+        Ok(())
     }
 }

@@ -17,8 +17,8 @@ impl CopyProgress {
         }
     }
 
-    /// Notes that so many bytes are left after a piece. Returns whether the copy is far enough for the shard to stop for
-    /// what is left: that is a piece, or it doesn't get less, as calls change as much as is copied.
+    /// Notes that so many bytes are left after a piece. Returns whether the shard may stop for what is left: that is a
+    /// piece, or it doesn't get less, because calls change as much as is copied.
     pub(crate) fn is_enough(&mut self, left: u64, piece: usize) -> bool {
         match left < self.least {
             true => (self.least, self.vain) = (left, 0),

@@ -16,8 +16,8 @@ const KEPT: Duration = Duration::from_millis(10);
 const TICK: Duration = Duration::from_millis(20);
 /// How many shards are read at once.
 const GROUP: usize = 32;
-/// How many threads do what records ask for.
-const SETTLERS: usize = 4;
+/// How many threads do what records ask for, beside those that fetch bodies.
+const SETTLERS: u16 = 4;
 
 /// Tells the follower that something has changed.
 pub(crate) struct Notices(SyncSender<()>);
@@ -44,7 +44,7 @@ pub(crate) fn begin<S: Service>(
 ) -> Result<(), JoinError> {
     let (jobs, handed) = mpsc::channel();
     let handed = Arc::new(Mutex::new(handed));
-    for number in 0..SETTLERS {
+    for number in 0..SETTLERS + fleet.options.moves {
         let (fleet, handed) = (Arc::downgrade(fleet), handed.clone());
         spawn(format!("settler-{number}"), move || {
             settle_all(&fleet, &handed)

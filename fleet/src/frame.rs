@@ -13,6 +13,8 @@ pub(crate) const MOST: usize = 1 << 20;
 pub(crate) const LONGEST: usize = MOST + 64;
 /// How long it takes at most until a frame is written to a connection.
 pub(crate) const WRITTEN: Duration = Duration::from_secs(5);
+/// How many bytes are read at once of what has mostly fewer.
+pub(crate) const FIRST: usize = 512;
 /// How many words a command has at most.
 const WORDS: u32 = 64;
 
@@ -334,6 +336,36 @@ pub(crate) fn receive(from: &mut impl Read, room: &mut Vec<u8>) -> io::Result<()
     }
 }
 
+/// Reads a frame into the room, as [`receive`] does, behind which nothing comes: most are read at once.
+pub(crate) fn receive_last(from: &mut impl Read, room: &mut Vec<u8>) -> io::Result<()> {
+    room.clear();
+    room.resize(FIRST, 0);
+    let mut count = 0;
+    while count < 4 {
+        match from.read(&mut room[count..]) {
+            Ok(0) => return Err(io::ErrorKind::UnexpectedEof.into()),
+            Ok(more) => count += more,
+            Err(error) if error.kind() == io::ErrorKind::Interrupted => {}
+            Err(error) => return Err(error),
+        }
+    }
+    room.truncate(count);
+    let length = room
+        .drain(..4)
+        .fold(0, |it, byte| it << 8 | usize::from(byte));
+    if length > LONGEST || room.len() > length {
+        return Err(io::Error::new(
+            io::ErrorKind::InvalidData,
+            WireFault::TooLong,
+        ));
+    }
+    from.take((length - room.len()) as u64).read_to_end(room)?;
+    match room.len() == length {
+        true => Ok(()),
+        false => Err(io::ErrorKind::UnexpectedEof.into()),
+    }
+}
+
 #[cfg(test)]
 mod tests {
     use super::*;
@@ -398,11 +430,15 @@ mod tests {
             },
             Response::Taken,
             Response::Text(b"lines"),
+            Response::Text(&[7; 2 * FIRST]),
             Response::NoCopy("begin"),
         ] {
             let mut out = Vec::new();
             response.write(&mut out);
             assert_eq!(Response::read(&out[4..]), Ok(response));
+            let mut room = Vec::new();
+            receive_last(&mut &out[..], &mut room).unwrap();
+            assert_eq!(room, out[4..]);
         }
     }
 
@@ -412,6 +448,15 @@ mod tests {
         let endless = receive(&mut &[0xff; 8][..], &mut room);
         assert_eq!(endless.unwrap_err().kind(), io::ErrorKind::InvalidData);
         assert_eq!(room.capacity(), 0);
+        for (bytes, kind) in [
+            (&[0xff; 8][..], io::ErrorKind::InvalidData),
+            (&[0, 0, 0, 1, 1, 2], io::ErrorKind::InvalidData),
+            (&[0, 0, 0, 3, 1, 2], io::ErrorKind::UnexpectedEof),
+            (&[0, 0], io::ErrorKind::UnexpectedEof),
+        ] {
+            let last = receive_last(&mut &bytes[..], &mut Vec::new());
+            assert_eq!(last.unwrap_err().kind(), kind, "{bytes:?}");
+        }
         let cut = receive(&mut &[0, 16, 0, 0, 1, 2][..], &mut room);
         assert_eq!(cut.unwrap_err().kind(), io::ErrorKind::UnexpectedEof);
         assert!(room.capacity() < 1 << 10, "{}", room.capacity());

@@ -159,7 +159,7 @@ pub struct Options {
     pub piece: usize,
 
     /// How many bodies come to this process at once; others wait with their owners
-    #[arg(long, env = "DURKENZO_MOVES", value_name = "COUNT", default_value_t = 4, value_parser = clap::value_parser!(u16).range(1..=1_024))]
+    #[arg(long, env = "DURKENZO_MOVES", value_name = "COUNT", default_value_t = 4, value_parser = clap::value_parser!(u16).range(1..=64))]
     pub moves: u16,
 
     /// How many connections of clients are served at once, and how many of others

@@ -38,7 +38,7 @@ impl OutgoingCopy {
         &self.piece.bytes
     }
 
-    /// Returns the piece behind so many bytes, which the next owner asks for: the last one again, or the next one, which
+    /// Returns the piece behind so many bytes, which the next owner asks for: the last one again, or a next one, which
     /// this makes. Returns nothing if the copy has neither, or if the piece can't be sent.
     pub(crate) fn piece_at(&mut self, at: u64, make: impl FnOnce() -> Piece) -> Option<&Piece> {
         if at == self.end() {

@@ -60,7 +60,8 @@ pub struct Answer {
 }
 
 impl Router {
-    /// Watches the map of the fleet in this store, whose servers ask for nothing to be shown.
+    /// Watches the map of the fleet in this store, whose servers ask for nothing to be shown. The store must stay for as
+    /// long as the router: without it the map grows old.
     ///
     /// # Errors
     ///
@@ -203,7 +204,7 @@ impl Router {
     /// Returns what came of a call that was sent.
     pub(crate) fn answered(response: Result<Vec<u8>, NotAnswered>) -> Result<Answer, CallError> {
         match response {
-            Ok(bytes) => answer_of(&bytes),
+            Ok(bytes) => answer_of(bytes),
             Err(error @ NotAnswered::Unreached(..)) => Err(CallError::NotMade(error.to_string())),
             Err(error @ NotAnswered::Lost(..)) => Err(CallError::Unsure(error.to_string())),
         }
@@ -322,19 +323,23 @@ fn written(request: &Request<'_>) -> Vec<u8> {
 }
 
 /// What a server has answered to a call.
-fn answer_of(bytes: &[u8]) -> Result<Answer, CallError> {
-    match Response::read(bytes) {
+fn answer_of(mut bytes: Vec<u8>) -> Result<Answer, CallError> {
+    match Response::read(&bytes) {
         Ok(Response::Answered {
             server,
             hops,
             fence,
             answer,
-        }) => Ok(Answer {
-            bytes: answer.to_vec(),
-            server,
-            fence,
-            hops,
-        }),
+        }) => {
+            let begin = bytes.len() - answer.len();
+            bytes.drain(..begin);
+            Ok(Answer {
+                bytes,
+                server,
+                fence,
+                hops,
+            })
+        }
         Ok(Response::Again(why)) => Err(CallError::NotMade(why.to_owned())),
         Ok(Response::Unsure(why)) => Err(CallError::Unsure(why.to_owned())),
         Ok(Response::Piece { .. } | Response::Taken | Response::Text(_) | Response::NoCopy(_)) => {

@@ -31,8 +31,8 @@ pub trait Service: Send + Sync + 'static {
         drop(body);
     }
 
-    /// Returns how the service moves a body in pieces while it answers calls, if it can. A large body then moves without
-    /// a stop: `add` and `hand_over` are called only if the other process can't.
+    /// Returns how the service moves a body in pieces while it answers calls, if it can. A large body then moves with
+    /// hardly a stop, and `hand_over` is called only if the next owner takes no pieces.
     fn changes(&self) -> Option<&dyn Changes<Self::Body>> {
         None
     }

@@ -479,8 +479,8 @@ fn bodies_move_in_pieces_and_by_what_has_changed_since() {
     assert!(count("copied") == migrations, "{came:?} {migrations}");
 }
 
-/// Begins a fleet whose bodies move in pieces, each with a count of one key. Returns a shard of each other server, which
-/// go to the third one.
+/// Begins a fleet whose bodies move in pieces, each with a count of one key. Returns a shard of each of the first two
+/// servers, for both of which the third one has room.
 fn copying() -> (Trial, [u16; 2]) {
     let trial = Trial::new(30, true, None);
     let router = Router::watch(&*trial.store).unwrap();
