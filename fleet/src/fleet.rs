@@ -298,11 +298,18 @@ impl<S: Service> FleetInner<S> {
 
     /// This moment, in nanoseconds of the clock that judges the lease.
     fn now(&self) -> u64 {
-        #[cfg(test)]
+        #[cfg(any(test, feature = "plants"))]
         if self.options.plant == Some(crate::plant::Plant::NoLease) {
             return 0;
         }
-        nanoseconds(self.member.time())
+        nanoseconds(self.by_clock(self.member.time()))
+    }
+
+    /// Returns what the clock that judges the lease tells at this time: a trial may have it be slow.
+    pub(crate) fn by_clock(&self, time: Duration) -> Duration {
+        #[cfg(any(test, feature = "plants"))]
+        let time = time.mul_f64(1.0 - f64::from(self.options.slow_clock) / 1_000.0);
+        time
     }
 
     pub(crate) fn enter(&self, shard: u16, mode: Mode) -> Enter<'_, S> {
@@ -338,7 +345,7 @@ impl<S: Service> FleetInner<S> {
     }
 
     fn may_execute(&self, known: &Known, from: u16) -> bool {
-        #[cfg(test)]
+        #[cfg(any(test, feature = "plants"))]
         if self.is_planted_in(known, from) {
             return true;
         }
@@ -367,7 +374,7 @@ impl<S: Service> FleetInner<S> {
 
     /// Whether the next owner has what this process handed over, or is the owner already.
     fn has_let_go(&self, known: &Known, record: durkenzo::Record) -> bool {
-        #[cfg(test)]
+        #[cfg(any(test, feature = "plants"))]
         if self.options.plant == Some(crate::plant::Plant::NextBeginsAnew) {
             return true;
         }
@@ -394,7 +401,7 @@ impl<S: Service> FleetInner<S> {
             true => permit.view.kept(latest.until()),
             false => Ok(permit.view),
         };
-        #[cfg(test)]
+        #[cfg(any(test, feature = "plants"))]
         if self.options.plant == Some(crate::plant::Plant::OwnerExecutesOn) {
             return true;
         }
@@ -403,7 +410,7 @@ impl<S: Service> FleetInner<S> {
     }
 
     /// Whether a wrong rule has this call executed.
-    #[cfg(test)]
+    #[cfg(any(test, feature = "plants"))]
     fn is_planted_in(&self, known: &Known, from: u16) -> bool {
         use crate::plant::Plant;
         let (own, stand) = (self.server(), known.record().stand);

@@ -57,7 +57,7 @@ mod migration;
 mod options;
 mod permit;
 mod place;
-#[cfg(test)]
+#[cfg(any(test, feature = "plants"))]
 mod plant;
 mod queue;
 mod retry;

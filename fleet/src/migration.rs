@@ -55,7 +55,7 @@ impl<S: Service> FleetInner<S> {
                 self.hand_over(shard, place, next, generation)
             }
             Stand::Forwarding { next, .. } if next == own => {
-                #[cfg(test)]
+                #[cfg(any(test, feature = "plants"))]
                 let is_freed =
                     is_freed || self.options.plant == Some(crate::plant::Plant::NextBeginsAnew);
                 // The owner let go of it, and what it had isn't here: another process of this server had it, or none.
@@ -224,7 +224,7 @@ impl<S: Service> FleetInner<S> {
             return false;
         };
         self.drop_stale(shard, place, &mut body);
-        #[cfg(test)]
+        #[cfg(any(test, feature = "plants"))]
         if self.options.plant == Some(crate::plant::Plant::EarlyAck) {
             self.member.ack(shard, generation);
             std::thread::sleep(Duration::from_millis(300));
