@@ -12,13 +12,20 @@ use std::time::{Duration, Instant};
 
 /// How long who connects may take to say of which fleet it is.
 const GREETING: Duration = Duration::from_secs(5);
+/// How long a process that leaves waits until each connection was told so.
+const FAREWELL: Duration = Duration::from_millis(500);
+/// How often that is looked.
+const LOOK: Duration = Duration::from_millis(2);
+/// What a process that leaves tells whoever asks by a connection: nothing is done of that.
+const LEAVES: &str = "this process leaves, and others have its shards";
 /// What a connection has for the time since which it is idle: it is answered, or it is ended.
 const BUSY: u64 = u64::MAX;
 const ENDED: u64 = u64::MAX - 1;
 
 /// Who connects to this process: each connection has a thread of its own.
 pub(crate) struct Listener {
-    socket: TcpListener,
+    /// None once it listens: its thread has it then, and closes it.
+    socket: Mutex<Option<TcpListener>>,
     shared: Arc<Shared>,
 }
 
@@ -146,6 +153,16 @@ impl Place {
     }
 }
 
+impl Place {
+    /// Returns what was heard. If that is nothing, as this process leaves, whoever is there is told so.
+    fn heard(&self, heard: io::Result<()>) -> io::Result<()> {
+        if heard.is_err() && self.shared.is_over.load(Ordering::Acquire) {
+            bid_farewell(&self.connection.stream);
+        }
+        heard
+    }
+}
+
 impl Drop for Place {
     fn drop(&mut self) {
         self.shared.connections().by_number.remove(&self.number);
@@ -161,30 +178,61 @@ impl Listener {
             began: Instant::now(),
             connections: Mutex::default(),
         });
+        let socket = Mutex::new(Some(socket));
         Ok((Listener { socket, shared }, at))
     }
 
     /// Begins to answer.
     pub(crate) fn begin<S: Service>(&self, fleet: &Arc<FleetInner<S>>) -> Result<(), JoinError> {
-        let socket = self.socket.try_clone();
-        let socket =
-            socket.map_err(|error| JoinError::Address("the listener".to_owned(), error))?;
+        let socket = self
+            .socket
+            .lock()
+            .unwrap_or_else(PoisonError::into_inner)
+            .take();
+        let Some(socket) = socket else {
+            return Ok(());
+        };
         let (shared, fleet) = (self.shared.clone(), fleet.clone());
         spawn("listener".to_owned(), move || {
-            accept(&socket, &shared, &fleet)
+            accept(&socket, &shared, &fleet);
+            turn_away(&socket);
         })
     }
 
-    /// Takes no more connections and requests. Calls that are under way are still answered. The address is where this
-    /// listens.
+    /// Takes no more connections and requests. Calls that are under way are still answered. Whoever asks meanwhile is
+    /// told that nothing is done of it, and is waited for a little while. The address is where this listens.
     pub(crate) fn end(&self, address: SocketAddr) {
         self.shared.is_over.store(true, Ordering::Release);
         // It waits for the next one.
         drop(TcpStream::connect_timeout(&address, GREETING));
         for (_, connection) in self.shared.connections().by_number.values() {
+            // Its thread learns it by this.
             let _ = connection.stream.shutdown(Shutdown::Read);
         }
+        let end = Instant::now() + FAREWELL;
+        while !self.shared.connections().by_number.is_empty() && Instant::now() < end {
+            std::thread::sleep(LOOK);
+        }
     }
+}
+
+/// Tells those who wait to be connected that this process leaves. Who comes later isn't connected.
+fn turn_away(socket: &TcpListener) {
+    if socket.set_nonblocking(true).is_err() {
+        return;
+    }
+    while let Ok((stream, _)) = socket.accept() {
+        bid_farewell(&stream);
+    }
+}
+
+/// Tells whoever is at the connection that this process leaves. It may have sent a request that was never read: it
+/// would learn nothing of that if the connection only ended.
+fn bid_farewell(mut stream: &TcpStream) {
+    let mut out = Vec::new();
+    Response::Again(LEAVES).write(&mut out);
+    // It may be gone.
+    let _ = stream.write_all(&out);
 }
 
 fn accept<S: Service>(socket: &TcpListener, shared: &Arc<Shared>, fleet: &Arc<FleetInner<S>>) {
@@ -222,11 +270,13 @@ fn serve<S: Service>(fleet: &FleetInner<S>, place: &Place) -> io::Result<()> {
     stream.set_read_timeout(Some(GREETING))?;
     stream.set_write_timeout(Some(WRITTEN))?;
     let mut reader = BufReader::new(stream);
-    greet(fleet, &mut reader)?;
+    let heard = greet(fleet, &mut reader);
+    place.heard(heard)?;
     stream.set_read_timeout(None)?;
     let (mut room, mut out, mut is_noted) = (Vec::new(), Vec::new(), false);
     loop {
-        frame::receive(&mut reader, &mut room)?;
+        let heard = frame::receive(&mut reader, &mut room);
+        place.heard(heard)?;
         if !connection.begin_answer() {
             return Ok(());
         }

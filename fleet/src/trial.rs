@@ -1,6 +1,6 @@
 //! Several processes of a service that counts, in one process of a test. Its clients know which count comes next, so a
 //! count that is lost or made twice is found, and so is each wrong rule that is planted.
-use crate::connections::Connections;
+use crate::connections::{Connections, NotAnswered};
 use crate::frame::{CallFrame, HandFrame, Request, Response};
 use crate::plant::Plant;
 use crate::{
@@ -601,6 +601,35 @@ fn what_another_process_hands_over_is_refused() {
     let other = Connections::new(7);
     let refused = other.ask(&fleet.address().to_string(), &Request::Routes, SOON);
     assert!(refused.is_err());
+    trial.end();
+}
+
+#[test]
+fn whoever_asks_a_process_that_leaves_learns_that_nothing_was_done() {
+    let trial = Trial::new(30, false, None);
+    let fleet = &trial.fleets[1];
+    let address = fleet.address().to_string();
+    let settings = checksum(fleet.inner.settings.as_bytes());
+    let asks = || {
+        let connections = Connections::new(settings);
+        // A server that is gone is no more reached.
+        let ends = Instant::now() + SOON;
+        while Instant::now() < ends {
+            match connections.ask(&address, &Request::Routes, SOON) {
+                Ok(bytes) => drop(Response::read(&bytes).unwrap()),
+                Err(NotAnswered::Unreached(..)) => return,
+                Err(lost @ NotAnswered::Lost(..)) => panic!("{lost}"),
+            }
+        }
+        panic!("it is still there");
+    };
+    thread::scope(|scope| {
+        for _ in 0..8 {
+            scope.spawn(asks);
+        }
+        thread::sleep(Duration::from_millis(100));
+        fleet.leave();
+    });
     trial.end();
 }
 
