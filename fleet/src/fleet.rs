@@ -9,7 +9,7 @@ use crate::{
     settings, Destination, Enter, JoinError, Mode, Options, Permit, Refused, Service, Shard,
     Sharding,
 };
-use durkenzo::word;
+use durkenzo::{word, Stand};
 use durkenzo_control::control::Asked;
 use durkenzo_control::descriptors::raise_limit;
 use durkenzo_control::links::checksum;
@@ -159,12 +159,19 @@ impl<S: Service> Fleet<S> {
     /// leaves. No call is refused meanwhile, if others have room.
     pub fn stop(&self, grace: Duration) {
         let end = end_of(grace);
-        self.give_shards_away(end);
-        // Clients whose maps are old have it forward a little longer. Who still comes then is told to ask elsewhere, so
-        // that no call is under way as connections end.
         let linger = || thread::sleep(LINGER.min(end.saturating_duration_since(Instant::now())));
-        linger();
-        self.inner.closing.store(true, Ordering::Release);
+        loop {
+            self.give_shards_away(end);
+            // Clients whose maps are old have it forward a little longer. Who still comes then is told to ask elsewhere,
+            // so that no call is under way as connections end.
+            linger();
+            self.inner.closing.store(true, Ordering::Release);
+            // An earlier stop may have been over meanwhile, and shards may have come home.
+            if !self.inner.is_named() || Instant::now() >= end {
+                break;
+            }
+            self.inner.closing.store(false, Ordering::Release);
+        }
         linger();
         self.leave();
     }
@@ -173,7 +180,8 @@ impl<S: Service> Fleet<S> {
     fn give_shards_away(&self, end: Instant) {
         let server = self.server();
         let (mut told, mut again) = (None, Instant::now());
-        while !self.inner.durable.is_away(server) && Instant::now() < end {
+        let is_stopped = || self.inner.durable.is_away(server) && !self.inner.is_named();
+        while !is_stopped() && Instant::now() < end {
             if told.is_none() && Instant::now() >= again {
                 told = Some(self.ask_to_stop(server));
             }
@@ -284,6 +292,22 @@ impl<S: Service> FleetInner<S> {
 
     pub(crate) fn is_stopping(&self) -> bool {
         self.stopping.load(Ordering::Acquire)
+    }
+
+    /// Whether a record that was read last has this server execute, or take part in a migration.
+    fn is_named(&self) -> bool {
+        let own = self.server();
+        let names = |it: Stand| match it {
+            Stand::Serving(owner) => owner == own,
+            Stand::Prepared { owner, next } | Stand::Forwarding { owner, next } => {
+                [owner, next].contains(&own)
+            }
+            Stand::Taken { owner, previous } => [owner, previous].contains(&own),
+            // A paused one waits for the server's return.
+            Stand::Paused(_) | Stand::Vacant => false,
+        };
+        let places = self.places.iter();
+        places.map(|it| it.known().record().stand).any(names)
     }
 
     /// Ends all views: calls that are under way find that they hold no permit any more.

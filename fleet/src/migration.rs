@@ -7,6 +7,7 @@ use crate::{Came, Service, Shard};
 use durkenzo::{Record, Stand};
 use durkenzo_store_sys::HandOver;
 use std::panic::{catch_unwind, AssertUnwindSafe};
+use std::sync::atomic::Ordering;
 use std::sync::Arc;
 use std::time::{Duration, Instant};
 
@@ -44,6 +45,10 @@ impl<S: Service> FleetInner<S> {
                 if owner == own =>
             {
                 self.begin(shard, place)
+            }
+            // A process that leaves takes no shard.
+            Stand::Prepared { next, .. } if next == own && self.closing.load(Ordering::Acquire) => {
+                false
             }
             Stand::Prepared { owner, next } if next == own => {
                 // A body of before is of no use, and the control waits for the ack.
