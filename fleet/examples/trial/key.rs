@@ -72,25 +72,29 @@ impl Key {
         if !last.ends_with(old) {
             return Err(format!("{last:?} were counted, and now {old:?}"));
         }
-        let others = match number {
-            0 => new,
-            _ => match new.split_last() {
-                Some((own, others)) if *own == number => others,
-                Some(_) | None => return Err(format!("call {number} isn't counted last: {new:?}")),
-            },
-        };
-        for it in others {
-            if !self.unsure.remove(it) {
-                return Err(format!(
-                    "call {it} is counted beside {number}: twice, or though it wasn't to be"
-                ));
+        self.note_made(new, number)?;
+        match fresh - seen as u64 > self.unsure.len() as u64 {
+            true => Err("more were counted than may have been".to_owned()),
+            false => Ok(()),
+        }
+    }
+
+    /// Notes that these calls were counted since the last answer: that of this number last, if it is none of 0, and
+    /// before it only some of those that may have been made.
+    fn note_made(&mut self, new: &[u64], number: u64) -> Result<(), String> {
+        let others = match (number, new.split_last()) {
+            (0, _) => new,
+            (_, Some((own, others))) if *own == number => others,
+            (_, Some(_) | None) => {
+                return Err(format!("call {number} isn't counted last: {new:?}"))
             }
+        };
+        match others.iter().find(|it| !self.unsure.remove(it)) {
+            Some(it) => Err(format!(
+                "call {it} is counted beside {number}: twice, or though it wasn't to be"
+            )),
+            None => Ok(()),
         }
-        let unseen = fresh - seen as u64;
-        if unseen > self.unsure.len() as u64 {
-            return Err(format!("{unseen} more were counted than may have been"));
-        }
-        Ok(())
     }
 }
 

@@ -40,50 +40,59 @@ impl Permits {
         if fence < least {
             return Err(format!("fence {fence} came after {least}"));
         }
-        let mut all = self
-            .stretches
-            .lock()
-            .unwrap_or_else(PoisonError::into_inner);
-        let stretch = *all
-            .entry(fence)
-            .and_modify(|it| {
-                (it.first, it.last) = (it.first.min(told.time), it.last.max(told.time));
-            })
-            .or_insert(Stretch {
-                process: told.process,
-                origin: told.origin,
-                first: told.time,
-                last: told.time,
-            });
+        let all = self.stretches.lock();
+        let mut all = all.unwrap_or_else(PoisonError::into_inner);
+        let stretch = all.entry(fence).or_insert(Stretch::of(told));
+        stretch.first = stretch.first.min(told.time);
+        stretch.last = stretch.last.max(told.time);
         if (stretch.process, stretch.origin) != (told.process, told.origin) {
             return Err(format!("two executed by fence {fence}"));
         }
-        let before = all.range(..fence).next_back();
-        let after = all.range(fence + 1..).next();
-        if let Some((earlier, it)) = before.filter(|it| it.1.last > stretch.first) {
-            let late = (it.last - stretch.first) / 1_000;
-            return Err(format!(
-                "fence {earlier} was executed by for {late} us after {fence} began"
-            ));
-        }
-        if let Some((later, it)) = after.filter(|it| it.1.first < stretch.last) {
-            let late = (stretch.last - it.first) / 1_000;
-            return Err(format!(
-                "fence {fence} was executed by for {late} us after {later} began"
-            ));
-        }
-        let is_of = |it: Option<(&u64, &Stretch)>| it.is_some_and(|it| it.1.origin == told.origin);
-        let is_there = all
-            .iter()
-            .any(|it| *it.0 != fence && it.1.origin == told.origin);
-        let is_apart = is_there && !is_of(before) && !is_of(after);
+        let judged = judged(&all, fence);
         if all.len() > KEPT {
             all.pop_first();
         }
-        match is_apart {
-            true => Err("another body was there in between".to_owned()),
-            false => Ok(()),
+        judged
+    }
+}
+
+impl Stretch {
+    fn of(told: &Told) -> Stretch {
+        Stretch {
+            process: told.process,
+            origin: told.origin,
+            first: told.time,
+            last: told.time,
         }
+    }
+}
+
+/// Judges the stretch of this fence beside the others.
+fn judged(all: &BTreeMap<u64, Stretch>, fence: u64) -> Result<(), String> {
+    let stretch = all[&fence];
+    let before = all.range(..fence).next_back();
+    let after = all.range(fence + 1..).next();
+    let pairs = [
+        before.map(|it| (it, (&fence, &stretch))),
+        after.map(|it| ((&fence, &stretch), it)),
+    ];
+    for ((earlier, it), (later, next)) in pairs.into_iter().flatten() {
+        if it.last > next.first {
+            let late = (it.last - next.first) / 1_000;
+            return Err(format!(
+                "fence {earlier} was executed by for {late} us after {later} began"
+            ));
+        }
+    }
+    let is_same = |it: &Stretch| it.origin == stretch.origin;
+    let is_near = [before, after]
+        .into_iter()
+        .flatten()
+        .any(|it| is_same(it.1));
+    let is_there = all.iter().any(|it| *it.0 != fence && is_same(it.1));
+    match is_there && !is_near {
+        true => Err("another body was there in between".to_owned()),
+        false => Ok(()),
     }
 }
 
