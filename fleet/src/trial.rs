@@ -605,6 +605,27 @@ fn what_another_process_hands_over_is_refused() {
 }
 
 #[test]
+fn a_process_that_is_stopped_as_soon_as_it_has_joined_loses_no_shard_that_comes_home() {
+    let mut trial = Trial::new(30, false, None);
+    trial.begin();
+    trial.fleets[1].stop(SOON);
+    for _ in 0..3 {
+        let counter = Counter {
+            keeps_changes: false,
+            came: trial.came.clone(),
+        };
+        let options = options(2, 30, None);
+        let again = Fleet::join_over(counter, options, trial.store.clone()).unwrap();
+        // It is away until the control has it be back, and has its shards come home.
+        again.stop(SOON);
+    }
+    let came = trial.came.clone();
+    let tally = trial.end();
+    assert!(tally.is_clean(), "{tally:?}");
+    assert!(!came.lock().unwrap().contains(&"lost"));
+}
+
+#[test]
 fn whoever_asks_a_process_that_leaves_learns_that_nothing_was_done() {
     let trial = Trial::new(30, false, None);
     let fleet = &trial.fleets[1];
