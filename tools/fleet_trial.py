@@ -38,7 +38,7 @@ HEAD = (
 )
 # How long before a lease ends by itself, and how long after that, what isn't to be in calm comes of it.
 BEFORE, AFTER = 2, 20
-# How late a change of a key may be told, in seconds.
+# How late it may be told that a process has left, in seconds. What a fault leaves ends by itself afterwards.
 LATE = 2
 FAULT = re.compile(
     r"fault: (\S+): (\S+) s, all answered (\d+) ms later; (\d+) calls, \d+ reads, \d+ forwarded, (\d+) unsure, "
@@ -299,7 +299,7 @@ class FleetTrial:
         for told in [it for it in recorder.told if it.key and not it.is_record() and it.value is None]:
             at, server = told.at + recorder.start, told.key.decode()
             for (began, end, most), gone in zip(self.leaves, left):
-                if began <= at <= end + LATE and gone.get(server, 0) < most:
+                if began <= at <= end + (LATE if most == 1 else 0) and gone.get(server, 0) < most:
                     gone[server] = gone.get(server, 0) + 1
                     break
             else:
