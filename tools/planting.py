@@ -128,7 +128,7 @@ class Planted:
     """A bug between servers and etcd; how often it changed something."""
 
     def __init__(self, bug):
-        self.rewrites = [Rewrite(BUGS[bug](), late) for late in (LATE, 0)]
+        self.rewrites = [Rewrite(bug(), late) for late in (LATE, 0)]
 
     def __call__(self, name):
         """The rewrite of a link of this name, if it has the bug."""

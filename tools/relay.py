@@ -18,8 +18,12 @@ class Link:
         self.name, self.target, self.port = name, port, 0
         self.delay, self.healed, self.rewrite = 0.0, asyncio.Event(), None
         self.healed.set()
+        # What goes to the port, and what comes from there, may be cut alone.
+        self.ways = asyncio.Event(), asyncio.Event()
+        for it in self.ways:
+            it.set()
 
-    async def carry(self, reader, writer):
+    async def carry(self, reader, writer, way):
         """Gives on each piece in its order until one end closes."""
         pieces = asyncio.Queue(64)
         loop = asyncio.get_running_loop()
@@ -29,6 +33,7 @@ class Link:
                 due, data = piece
                 await asyncio.sleep(max(0, due - loop.time()))
                 await self.healed.wait()
+                await way.wait()
                 writer.write(data)
                 await writer.drain()
 
@@ -51,9 +56,9 @@ class Link:
                 if self.rewrite:
                     await self.rewrite(reader, writer, far_reader, far_writer)
                 else:
-                    ways = [
-                        asyncio.ensure_future(self.carry(*it)) for it in ((reader, far_writer), (far_reader, writer))
-                    ]
+                    forth, back = self.ways
+                    both = (reader, far_writer, forth), (far_reader, writer, back)
+                    ways = [asyncio.ensure_future(self.carry(*it)) for it in both]
                     _, left = await asyncio.wait(ways, return_when=asyncio.FIRST_COMPLETED)
                     for it in left:
                         it.cancel()
@@ -100,8 +105,10 @@ class Relays:
         self.links[name] = link
         return link.port
 
-    def cut(self, name):
-        self.loop.call_soon_threadsafe(self.links[name].healed.clear)
+    def cut(self, name, way=None):
+        """Cuts a link, or only what goes to its port (0) or what comes from there (1)."""
+        link = self.links[name]
+        self.loop.call_soon_threadsafe((link.healed if way is None else link.ways[way]).clear)
 
     def delay(self, name, seconds):
         self.links[name].delay = seconds
@@ -110,4 +117,5 @@ class Relays:
         """Has all links carry again, at once."""
         for it in self.links.values():
             it.delay = 0.0
-            self.loop.call_soon_threadsafe(it.healed.set)
+            for cut in (it.healed, *it.ways):
+                self.loop.call_soon_threadsafe(cut.set)

@@ -13,7 +13,7 @@ use crate::{
     settings, Destination, Enter, JoinError, Mode, Options, Permit, Refused, Safety, Service,
     Shard, Sharding,
 };
-use durkenzo::word;
+use durkenzo::{word, Stand};
 use durkenzo_control::control::Asked;
 use durkenzo_control::descriptors::raise_limit;
 use durkenzo_control::links::checksum;
@@ -166,12 +166,19 @@ impl<S: Service> Fleet<S> {
     /// leaves. No call is refused meanwhile, if others have room.
     pub fn stop(&self, grace: Duration) {
         let end = end_of(grace);
-        self.give_shards_away(end);
-        // Clients whose maps are old have it forward a little longer. Who still comes then is told to ask elsewhere, so
-        // that no call is under way as connections end.
         let linger = || thread::sleep(LINGER.min(end.saturating_duration_since(Instant::now())));
-        linger();
-        self.inner.closing.store(true, Ordering::Release);
+        loop {
+            self.give_shards_away(end);
+            // Clients whose maps are old have it forward a little longer. Who still comes then is told to ask elsewhere,
+            // so that no call is under way as connections end.
+            linger();
+            self.inner.closing.store(true, Ordering::Release);
+            // An earlier stop may have been over meanwhile, and shards may have come home.
+            if !self.inner.is_named() || Instant::now() >= end {
+                break;
+            }
+            self.inner.closing.store(false, Ordering::Release);
+        }
         linger();
         self.leave();
     }
@@ -180,7 +187,8 @@ impl<S: Service> Fleet<S> {
     fn give_shards_away(&self, end: Instant) {
         let server = self.server();
         let (mut told, mut again) = (None, Instant::now());
-        while !self.inner.durable.is_away(server) && Instant::now() < end {
+        let is_stopped = || self.inner.durable.is_away(server) && !self.inner.is_named();
+        while !is_stopped() && Instant::now() < end {
             if told.is_none() && Instant::now() >= again {
                 told = Some(self.ask_to_stop(server));
             }
@@ -285,6 +293,22 @@ impl<S: Service> FleetInner<S> {
         self.stopping.load(Ordering::Acquire)
     }
 
+    /// Whether a record that was read last has this server execute, or take part in a migration.
+    fn is_named(&self) -> bool {
+        let own = self.server();
+        let names = |it: Stand| match it {
+            Stand::Serving(owner) => owner == own,
+            Stand::Prepared { owner, next } | Stand::Forwarding { owner, next } => {
+                [owner, next].contains(&own)
+            }
+            Stand::Taken { owner, previous } => [owner, previous].contains(&own),
+            // A paused one waits for the server's return.
+            Stand::Paused(_) | Stand::Vacant => false,
+        };
+        let places = self.places.iter();
+        places.map(|it| it.known().record().stand).any(names)
+    }
+
     /// Ends all views: calls that are under way find that they hold no permit any more.
     pub(crate) fn end_views(&self) {
         for place in &self.places {
@@ -297,11 +321,18 @@ impl<S: Service> FleetInner<S> {
 
     /// This moment, in nanoseconds of the clock that judges the lease.
     fn now(&self) -> u64 {
-        #[cfg(test)]
+        #[cfg(any(test, feature = "plants"))]
         if self.options.plant == Some(crate::plant::Plant::NoLease) {
             return 0;
         }
-        nanoseconds(self.member.time())
+        nanoseconds(self.by_clock(self.member.time()))
+    }
+
+    /// Returns what the clock that judges the lease tells at this time: a trial may have it be slow.
+    pub(crate) fn by_clock(&self, time: Duration) -> Duration {
+        #[cfg(any(test, feature = "plants"))]
+        let time = time.mul_f64(1.0 - f64::from(self.options.slow_clock) / 1_000.0);
+        time
     }
 
     pub(crate) fn enter(&self, shard: u16, mode: Mode) -> Enter<'_, S> {
@@ -356,7 +387,7 @@ impl<S: Service> FleetInner<S> {
     }
 
     fn may_execute(&self, known: &Known, from: u16) -> bool {
-        #[cfg(test)]
+        #[cfg(any(test, feature = "plants"))]
         if self.is_planted_in(known, from) {
             return true;
         }
@@ -385,7 +416,7 @@ impl<S: Service> FleetInner<S> {
 
     /// Whether the next owner has what this process handed over, or is the owner already.
     fn has_let_go(&self, known: &Known, record: durkenzo::Record) -> bool {
-        #[cfg(test)]
+        #[cfg(any(test, feature = "plants"))]
         if self.options.plant == Some(crate::plant::Plant::NextBeginsAnew) {
             return true;
         }
@@ -418,7 +449,7 @@ impl<S: Service> FleetInner<S> {
             true => permit.view.kept(latest.until()),
             false => Ok(permit.view),
         };
-        #[cfg(test)]
+        #[cfg(any(test, feature = "plants"))]
         if self.options.plant == Some(crate::plant::Plant::OwnerExecutesOn) {
             return true;
         }
@@ -427,7 +458,7 @@ impl<S: Service> FleetInner<S> {
     }
 
     /// Whether a wrong rule has this call executed.
-    #[cfg(test)]
+    #[cfg(any(test, feature = "plants"))]
     fn is_planted_in(&self, known: &Known, from: u16) -> bool {
         use crate::plant::Plant;
         let (own, stand) = (self.server(), known.record().stand);

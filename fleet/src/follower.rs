@@ -101,7 +101,7 @@ fn settle_all<S: Service>(fleet: &Weak<FleetInner<S>>, handed: &Mutex<Receiver<u
 impl<S: Service> FleetInner<S> {
     /// Until when this process goes by the lease, by its clock.
     fn until(&self, kept: &KeptLease) -> u64 {
-        nanoseconds(kept.asked + self.options.allowed(kept.length))
+        nanoseconds(self.by_clock(kept.asked) + self.options.allowed(kept.length))
     }
 
     /// Tells the views that the lease was kept. A view of an earlier lease ends with that one. All views end if the

@@ -94,7 +94,7 @@ impl<S: Service> FleetInner<S> {
             return false;
         };
         self.drop_stale(shard, place, &mut body);
-        #[cfg(test)]
+        #[cfg(any(test, feature = "plants"))]
         if self.options.plant == Some(crate::plant::Plant::EarlyAck) {
             self.member.ack(shard, generation);
             std::thread::sleep(Duration::from_millis(300));

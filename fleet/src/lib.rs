@@ -71,7 +71,7 @@ mod options;
 mod outgoing_copy;
 mod permit;
 mod place;
-#[cfg(test)]
+#[cfg(any(test, feature = "plants"))]
 mod plant;
 mod queue;
 mod retry;

@@ -21,13 +21,20 @@ const CLIENTS: usize = 4;
 /// What is told to who asks what only a process of the fleet may ask, or speaks for another one.
 const NOT_ITS: &str =
     "only the process of a server may ask so: by TLS its certificate has the name peer.durkenzo";
+/// How long a process that leaves waits until each connection was told so.
+const FAREWELL: Duration = Duration::from_millis(500);
+/// How often that is looked.
+const LOOK: Duration = Duration::from_millis(2);
+/// What a process that leaves tells whoever asks by a connection: nothing is done of that.
+const LEAVES: &str = "this process leaves, and others have its shards";
 /// What a connection has for the time since which it is idle: it is answered, or it is ended.
 const BUSY: u64 = u64::MAX;
 const ENDED: u64 = u64::MAX - 1;
 
 /// Who connects to this process: each connection has a thread of its own.
 pub(crate) struct Listener {
-    socket: TcpListener,
+    /// None once it listens: its thread has it then, and closes it.
+    socket: Mutex<Option<TcpListener>>,
     shared: Arc<Shared>,
 }
 
@@ -189,30 +196,50 @@ impl Listener {
         let bound = TcpListener::bind(address).and_then(|it| Ok((it.local_addr()?, it)));
         let (at, socket) = bound.map_err(|error| JoinError::Address(address.to_string(), error))?;
         let shared = Arc::new(Shared::new(STRANGERS.max(clients / CLIENTS)));
+        let socket = Mutex::new(Some(socket));
         Ok((Listener { socket, shared }, at))
     }
 
     /// Begins to answer.
     pub(crate) fn begin<S: Service>(&self, fleet: &Arc<FleetInner<S>>) -> Result<(), JoinError> {
-        let socket = self.socket.try_clone();
-        let socket =
-            socket.map_err(|error| JoinError::Address("the listener".to_owned(), error))?;
+        let socket = self
+            .socket
+            .lock()
+            .unwrap_or_else(PoisonError::into_inner)
+            .take();
+        let Some(socket) = socket else {
+            return Ok(());
+        };
         let (shared, fleet) = (self.shared.clone(), fleet.clone());
         spawn("listener".to_owned(), move || {
-            accept(&socket, &shared, &fleet)
+            accept(&socket, &shared, &fleet);
         })
     }
 
-    /// Takes no more connections and requests. Calls that are under way are still answered. The address is where this
-    /// listens.
+    /// Takes no more connections and requests. Calls that are under way are still answered. Whoever asks meanwhile is
+    /// told that nothing is done of it, and is waited for a little while. The address is where this listens.
     pub(crate) fn end(&self, address: SocketAddr) {
         self.shared.is_over.store(true, Ordering::Release);
         // It waits for the next one.
         drop(TcpStream::connect_timeout(&address, GREETING));
         for (_, connection) in self.shared.connections().by_number.values() {
+            // Its thread learns it by this.
             let _ = connection.socket.shutdown(Shutdown::Read);
         }
+        let end = Instant::now() + FAREWELL;
+        while !self.shared.connections().by_number.is_empty() && Instant::now() < end {
+            std::thread::sleep(LOOK);
+        }
     }
+}
+
+/// Tells whoever is at the connection that this process leaves. It may have sent a request that was never read: it
+/// would learn nothing of that if the connection only ended.
+fn bid_farewell(stream: &mut Stream) {
+    let mut out = Vec::new();
+    Response::Again(LEAVES).write(&mut out);
+    // It may be gone.
+    let _ = stream.write_all(&out);
 }
 
 fn accept<S: Service>(socket: &TcpListener, shared: &Arc<Shared>, fleet: &Arc<FleetInner<S>>) {
@@ -271,7 +298,12 @@ fn answer_all<S: Service>(
     let mut stream = BufReader::new(stream);
     let (mut room, mut out, mut is_noted) = (Vec::new(), Vec::new(), false);
     loop {
-        frame::receive(&mut stream, &mut room)?;
+        if let Err(error) = frame::receive(&mut stream, &mut room) {
+            if place.shared.is_over.load(Ordering::Acquire) {
+                bid_farewell(stream.get_mut());
+            }
+            return Err(error);
+        }
         if !connection.begin_answer() {
             return Ok(());
         }

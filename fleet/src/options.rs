@@ -171,10 +171,21 @@ pub struct Options {
     )]
     pub connections: usize,
 
-    /// A wrong rule, of a test.
-    #[cfg(test)]
-    #[arg(skip)]
+    /// A wrong rule, which tests and trials plant.
+    #[cfg(any(test, feature = "plants"))]
+    #[arg(long, env = "DURKENZO_PLANT", hide = true)]
     pub(crate) plant: Option<crate::plant::Plant>,
+
+    /// By how many parts of a thousand the clock that judges the lease is slow, in a trial.
+    #[cfg(any(test, feature = "plants"))]
+    #[arg(
+        long,
+        env = "DURKENZO_SLOW_CLOCK",
+        hide = true,
+        default_value_t = 0,
+        allow_hyphen_values = true
+    )]
+    pub(crate) slow_clock: i16,
 }
 
 /// Who a process is for etcd, if etcd asks for that.

@@ -1,5 +1,7 @@
-/// A wrong rule that a test plants, to see that the trial finds it.
-#[derive(Clone, Copy, Debug, PartialEq, Eq)]
+use clap::ValueEnum;
+
+/// A wrong rule that a test or a trial plants, to see that it is found.
+#[derive(Clone, Copy, Debug, PartialEq, Eq, ValueEnum)]
 pub(crate) enum Plant {
     /// The next owner begins anew rather than wait for the body.
     NextBeginsAnew,

@@ -5,6 +5,7 @@ use crate::place::Place;
 use crate::{Came, Service, Shard};
 use durkenzo::{Record, Stand};
 use std::panic::{catch_unwind, AssertUnwindSafe};
+use std::sync::atomic::Ordering;
 use std::time::{Duration, Instant};
 
 /// How long a piece waits until the record has been read by which it is sent.
@@ -40,6 +41,10 @@ impl<S: Service> FleetInner<S> {
             {
                 self.begin(shard, place)
             }
+            // A process that leaves takes no shard.
+            Stand::Prepared { next, .. } if next == own && self.closing.load(Ordering::Acquire) => {
+                false
+            }
             Stand::Prepared { owner, next } if next == own => {
                 // A body of before is of no use, and the control waits for the ack.
                 self.drop_body(shard, place, generation);
@@ -50,7 +55,7 @@ impl<S: Service> FleetInner<S> {
                 self.hand_over(shard, place, next, generation)
             }
             Stand::Forwarding { next, .. } if next == own => {
-                #[cfg(test)]
+                #[cfg(any(test, feature = "plants"))]
                 let is_freed =
                     is_freed || self.options.plant == Some(crate::plant::Plant::NextBeginsAnew);
                 // The owner let go of it, and what it had isn't here: another process of this server had it, or none.

@@ -1,6 +1,6 @@
 //! Several processes of a service that counts, in one process of a test. Its clients know which count comes next, so a
 //! count that is lost or made twice is found, and so is each wrong rule that is planted.
-use crate::connections::Connections;
+use crate::connections::{Connections, NotAnswered};
 use crate::frame::{CallFrame, HandFrame, Request, Response};
 use crate::introduction::Introduction;
 use crate::plant::Plant;
@@ -455,7 +455,8 @@ fn migrations_under_load_refuse_no_call_and_lose_nothing() {
     let mut trial = Trial::new(30, false, None);
     trial.begin();
     let migrations = trial.migrate_for(Duration::from_secs(3));
-    let came = trial.came.clone();
+    // Of a process that has left, others have lost the shards.
+    let came = trial.came.lock().unwrap().clone();
     let tally = trial.end();
     println!("{migrations} migrations, {tally:?}");
     assert!(
@@ -463,7 +464,7 @@ fn migrations_under_load_refuse_no_call_and_lose_nothing() {
         "{migrations} {tally:?}"
     );
     assert!(tally.is_clean(), "{tally:?}");
-    assert!(!came.lock().unwrap().contains(&"lost"));
+    assert!(!came.contains(&"lost"), "{came:?}");
 }
 
 #[test]
@@ -710,6 +711,59 @@ fn what_another_process_hands_over_is_refused() {
     let other = Connections::new(Introduction::of_client(&Safety::default(), 7));
     let refused = other.ask(&fleet.address().to_string(), &Request::Routes, SOON);
     assert!(refused.is_err());
+    trial.end();
+}
+
+#[test]
+fn a_process_that_is_stopped_as_soon_as_it_has_joined_loses_no_shard_that_comes_home() {
+    let mut trial = Trial::new(30, false, None);
+    trial.begin();
+    trial.fleets[1].stop(SOON);
+    for _ in 0..3 {
+        let counter = Counter {
+            keeps_changes: false,
+            came: trial.came.clone(),
+        };
+        let options = options(2, 30, None);
+        let again = Fleet::join_over(counter, options, trial.store.clone()).unwrap();
+        // It is away until the control has it be back, and has its shards come home.
+        again.stop(SOON);
+    }
+    let came = trial.came.lock().unwrap().clone();
+    let tally = trial.end();
+    assert!(tally.is_clean(), "{tally:?}");
+    assert!(!came.contains(&"lost"), "{came:?}");
+}
+
+#[test]
+fn whoever_is_connected_to_a_process_that_leaves_learns_that_nothing_was_done() {
+    let trial = Trial::new(30, false, None);
+    let fleet = &trial.fleets[1];
+    let address = fleet.address().to_string();
+    let settings = checksum(fleet.inner.settings.as_bytes());
+    let asks = || {
+        let introduction = Introduction::of_client(&Safety::default(), settings);
+        let connections = Connections::new(introduction);
+        let ends = Instant::now() + SOON;
+        while Instant::now() < ends {
+            match connections.ask(&address, &Request::Routes, SOON) {
+                Ok(bytes) => match Response::read(&bytes).unwrap() {
+                    Response::Again(_) => return,
+                    _ => continue,
+                },
+                Err(NotAnswered::Unreached(..)) => return,
+                Err(lost @ NotAnswered::Lost(..)) => panic!("{lost}"),
+            }
+        }
+        panic!("it is still there");
+    };
+    thread::scope(|scope| {
+        for _ in 0..8 {
+            scope.spawn(asks);
+        }
+        thread::sleep(Duration::from_millis(100));
+        fleet.leave();
+    });
     trial.end();
 }
 

@@ -1,5 +1,6 @@
 """What a cluster of several processes over etcd passes, where etcd is installed: it begins and ends as a demo, a short
-trial by faults finds nothing wrong and finds planted bugs, and what its page says to type does what it says."""
+trial by faults finds nothing wrong and finds planted bugs, of fleets too, and what its page says to type does what it
+says."""
 import contextlib
 import json
 import re
@@ -20,6 +21,9 @@ SECONDS = 600
 # Each is found within this many minutes, or on a crowded machine in twice as many at each further try.
 PLANTED = {"lost-is-made": 0.2, "early-drop": 0.1}
 TRIES = 5
+# What disturbs a fleet meanwhile, and wrong rules of its processes, each of which is found within a minute.
+FLEET_NEMESES = "kill-server,cut-etcd,cut-servers,restart,moves"
+FLEET_RULES = ("next-begins-anew", "owner-executes-on", "no-lease")
 
 
 def skipped(say):
@@ -121,6 +125,15 @@ def found(bug, minutes, program):
     return verdict(f"a trial finds {bug}", False, f"{TRIES} trials found nothing")
 
 
+def found_in_fleet(rule):
+    """A wrong rule of a fleet's processes has to be found."""
+    for seed in range(TRIES):
+        ran = tool("trial", "--fleet", "--plant", rule, "--seed", seed + 1, "--minutes", 1)
+        if ran.reason and "exit status 1" in ran.reason and "the planted rule is found" in ran.reason:
+            return verdict(f"a trial of a fleet finds {rule}", True)
+    return verdict(f"a trial of a fleet finds {rule}", False, f"{TRIES} trials found nothing: {ran.reason}")
+
+
 def passed(room):
     """All of it; nothing where the server isn't tried either, or etcd isn't installed."""
     serve = runs.loaded("serve")
@@ -138,4 +151,6 @@ def passed(room):
     yield tool("trial", "--cluster", "--nemesis", "kill-server,moves", "--minutes", 0.25, program)
     for bug, minutes in PLANTED.items():
         yield found(bug, minutes, program)
+    yield tool("trial", "--fleet", "--nemesis", FLEET_NEMESES, "--minutes", 0.4)
+    yield from map(found_in_fleet, FLEET_RULES)
     yield tool("operations", program)

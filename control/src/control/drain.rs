@@ -171,6 +171,9 @@ impl Drain {
             Next::Command(ControlCommand::Pause(shard)) if !control.backend.lasts() => {
                 return Err(Refusal::no_room(shard));
             }
+            Next::Command(ControlCommand::Pause(_)) if self.may_room_come(control)? => {
+                return Ok(Advance::After(PAUSE));
+            }
             Next::Command(command) => {
                 self.intend(control, command)?;
                 if let later @ Advance::Later = self.make(control, command)? {
@@ -180,6 +183,23 @@ impl Drain {
         }
         self.tell(control);
         Ok(Advance::Again)
+    }
+
+    /// Whether a migration is under way, which takes room at two servers until it ends. No shard is paused meanwhile for
+    /// want of room: it would wait for the server's return. It is waited for a while.
+    fn may_room_come(&mut self, control: &mut Controller) -> Result<bool, Refusal> {
+        let mut is_moving = false;
+        for shard in 0..control.backend.shards() {
+            let stand = control.backend.record(shard)?.map(|it| it.stand);
+            is_moving |= match stand {
+                Some(Stand::Prepared { .. } | Stand::Forwarding { .. } | Stand::Taken { .. }) => {
+                    true
+                }
+                Some(Stand::Vacant | Stand::Serving(_) | Stand::Paused(_)) | None => false,
+            };
+        }
+        let end = *self.end.get_or_insert_with(|| control.patience());
+        Ok(is_moving && control.now() < end)
     }
 
     /// Nothing more is to be moved, but for what was refused.
@@ -312,6 +332,26 @@ mod tests {
             panic!("{end:?}");
         };
         assert_eq!(told, ControlAnswer::of_moves([(0, 2), (1, 2)]));
+    }
+
+    #[test]
+    fn no_shard_is_paused_for_want_of_room_while_a_migration_takes_some() {
+        let backend = PlainBackend::of(3, Stand::Serving(1));
+        let moving = Stand::Prepared { owner: 2, next: 1 };
+        (backend.plain().lasts, backend.plain().is_full) = (true, true);
+        backend.plain().stands[2] = moving;
+        let (mut control, mut drain) = (backend.control(), Drain::new(1, true));
+        let waits = drain.advance(&mut control).unwrap();
+        assert!(matches!(waits, Advance::After(_)), "{waits:?}");
+        // The migration is over, so there is room.
+        (backend.plain().stands[2], backend.plain().is_full) = (Stand::Serving(2), false);
+        drain.advance(&mut control).unwrap();
+        let begun = Stand::Prepared { owner: 1, next: 2 };
+        assert_eq!(backend.plain().stands[0], begun);
+        // Without a migration there is nothing to wait for.
+        (backend.plain().stands[0], backend.plain().is_full) = (Stand::Serving(2), true);
+        ended(&backend, Drain::new(1, true)).unwrap();
+        assert_eq!(backend.plain().stands[1], Stand::Paused(1));
     }
 
     #[test]

@@ -21,6 +21,8 @@ pub(super) struct Plain {
     pub(super) passed: Duration,
     pub(super) stands: Vec<Stand>,
     pub(super) lasts: bool,
+    /// Whether the other server has no room for shards.
+    pub(super) is_full: bool,
     /// How often it planned.
     pub(super) plans: usize,
     /// The shards of which no change begins.
@@ -41,6 +43,7 @@ impl PlainBackend {
             beginning: Clock::default().now(),
             passed: Duration::ZERO,
             lasts: false,
+            is_full: false,
             plans: 0,
             spent: BTreeSet::new(),
             unkept: VecDeque::new(),
@@ -116,6 +119,7 @@ impl Plain {
                 owner: next,
                 previous: owner,
             },
+            (ControlCommand::Pause(_), Stand::Serving(owner)) => Stand::Paused(owner),
             (ControlCommand::DropShard(_), Stand::Taken { owner, .. }) => Stand::Serving(owner),
             (
                 ControlCommand::Cancel(_),
@@ -170,6 +174,7 @@ impl Backend for PlainBackend {
         let plan = self.plan(server)?;
         Ok(match plan.moves.first() {
             None => Next::Nothing,
+            Some(it) if self.plain().is_full => Next::Command(ControlCommand::Pause(it.shard)),
             // As the proved control: what it would refuse, it waits with.
             Some(it) if self.plain().lasts && self.plain().spent.contains(&it.shard) => Next::Waits,
             Some(it) if server == 0 => Next::Command(ControlCommand::Assign(it.shard, it.server)),

@@ -130,6 +130,8 @@ pub fn run_clients_by(plan: &Plan) -> Ran {
         verdict: world.judge(),
         struck,
         timeline,
+        // It has lines alone.
+        picture: None,
     }
 }
 

@@ -7,6 +7,7 @@ mod access;
 mod call_error;
 mod client;
 #[cfg(feature = "etcd")]
+#[allow(clippy::disallowed_methods)]
 mod connector;
 mod environment;
 #[cfg(feature = "etcd")]
