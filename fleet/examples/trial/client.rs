@@ -197,11 +197,11 @@ impl Client {
                 let took = (now() - began) / 1_000;
                 shared.tally.answered(asked.number == 0, answer.hops, took);
                 shared.answered[usize::from(shard)].fetch_max(began, Ordering::SeqCst);
-                return Ok(Some(Answered {
+                Ok(Some(Answered {
                     shard,
                     least,
                     answer,
-                }));
+                }))
             }
             Err(error) => {
                 match &error {
