@@ -450,7 +450,7 @@ fn a_process_whose_name_another_one_has_neither_leads_nor_executes() {
     kill(&nodes[0]);
     nodes[0].expire();
     let first = start(1);
-    nodes[0].revive();
+    nodes[0].reach_again();
     let old = nodes[0].durable.member().unwrap();
     until("it hears of the other one", || {
         // What changes here it tells, which the old one hears then.

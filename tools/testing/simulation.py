@@ -2,7 +2,6 @@
 planted bug."""
 import shutil
 import subprocess
-import time
 import xml.etree.ElementTree
 
 import other_crates
@@ -27,8 +26,10 @@ DRAWN = "37"
 
 
 def new_seed():
-    """Returns a seed that no earlier minute had. What it finds is repeated by it: the name of the verdict has it."""
-    return int(time.strftime("%Y%m%d%H%M", time.gmtime())) * APART
+    """Returns a seed that no other commit has, so a commit finds the same on each machine; 0 if git names none."""
+    asked = ["git", "-C", str(sources.TOP), "rev-parse", "HEAD"]
+    told = subprocess.run(asked, capture_output=True, text=True, stdin=subprocess.DEVNULL, check=False)
+    return int(told.stdout[:10] or "0", 16) * APART
 
 
 def drawn():

@@ -323,12 +323,17 @@ impl Node {
         self.store.revoke(lease).expect("it goes on");
     }
 
-    /// Has a process that was killed reach the store again, and take another lease if its own has ended, as its thread
-    /// does after a while.
+    /// Has a process that was killed reach the store again, and be there under another lease if its own has ended, as its
+    /// thread does after a while.
     pub fn revive(&self) {
+        self.reach_again();
+        until("its key is there", || self.member().lease().is_some());
+    }
+
+    /// Has a process that was killed reach the store again. Its key may be another process's by now.
+    pub fn reach_again(&self) {
         self.is_cut.store(false, Ordering::Release);
         self.member().keep_lease();
-        until("its key is there", || self.member().lease().is_some());
     }
 }
 
