@@ -106,6 +106,7 @@ impl MemoryStore {
             desk(rt, alloc),
             lead,
             100,
+            true,
             records,
             Vec::from_slice(alloc, &self.runs).expect(rt, "memory"),
             self.placed,
@@ -197,7 +198,7 @@ fn sends_a_change(rt: HostRuntime) {
     let records = Vec::from_slice(rt.alloc(), &store.records).expect(&rt, "memory");
     let runs = Vec::from_slice(rt.alloc(), &store.runs).expect(&rt, "memory");
     let lead = Leadership::new(7, 5).expect(&rt, "a revision");
-    let read = StoreControl::read(desk, lead, 100, records, runs, 4);
+    let read = StoreControl::read(desk, lead, 100, true, records, runs, 4);
     let control = read.ok().expect(&rt, "a control");
     let assign = Command::Change(shard, Change::Assign(one));
     let Judged::Sent(sent) = control.command(0, assign) else {
@@ -316,10 +317,10 @@ fn restarts_under_caps(rt: HostRuntime) {
         control = made(&rt, &mut store, control, assign);
     }
     control = made(&rt, &mut store, control, Command::Ask(two));
-    let step = control.next_of_server(two);
+    let step = control.next_of_server(two, &[]);
     control = taken(&rt, &mut store, control, step);
     control = made(&rt, &mut store, control, Command::Ask(one));
-    assert!(rt; control.next_of_server(one) == NextStep::Waits);
+    assert!(rt; control.next_of_server(one, &[]) == NextStep::Waits);
     assert!(rt; control.may_name(1, &Command::Approve(one)));
     let Judged::Refused(_, fault) = control.command(1, Command::Approve(one)) else {
         return;
@@ -328,7 +329,7 @@ fn restarts_under_caps(rt: HostRuntime) {
 
     // The next leader drains the server, which then stops and comes back.
     let mut control = store.elect(&rt, rt.alloc(), 8);
-    assert!(rt; control.next_of_server(two) == NextStep::Waits);
+    assert!(rt; control.next_of_server(two, &[]) == NextStep::Waits);
     let step = control
         .next_of_drain(rt.alloc(), two)
         .ok()
@@ -343,7 +344,7 @@ fn restarts_under_caps(rt: HostRuntime) {
         control = taken(&rt, &mut store, control, step);
     }
     assert!(rt; store.records[3].state.stand == Stand::Serving(ServerId::of(3)));
-    let step = control.next_of_server(two);
+    let step = control.next_of_server(two, &[]);
     control = taken(&rt, &mut store, control, step);
     assert!(rt; store.state(1) == ServerState::Stopped);
     assert!(rt; control.process_of(two) == 2);
@@ -352,7 +353,7 @@ fn restarts_under_caps(rt: HostRuntime) {
     assert!(rt; !control.may_name(2, &Command::Back(two)));
     store.processes[1] = 10;
     let control = made(&rt, &mut store, control, Command::Back(two));
-    assert!(rt; control.next_of_server(two) == NextStep::Nothing);
+    assert!(rt; control.next_of_server(two, &[]) == NextStep::Nothing);
     assert!(rt; control.process_of(two) == 10);
 }
 
@@ -416,13 +417,14 @@ fn reads_no_unlawful_store(rt: HostRuntime) {
         ServerState::Up,
     ];
     let runs = Vec::from_slice(rt.alloc(), &away.map(in_state)).expect(&rt, "memory");
-    let read = StoreControl::read(desk(&rt, rt.alloc()), lead, 100, records, runs, 4);
+    let read = StoreControl::read(desk(&rt, rt.alloc()), lead, 100, true, records, runs, 4);
     let cap = CommandFault::Restart(RestartFault::GlobalCap);
     assert!(rt; matches!(read, Err(LoadFault::Unreached(fault)) if fault == cap));
     let none = StoreControl::read(
         desk(&rt, rt.alloc()),
         lead,
         100,
+        true,
         Vec::new(rt.alloc()),
         Vec::from_slice(rt.alloc(), &store.runs).expect(&rt, "memory"),
         4,

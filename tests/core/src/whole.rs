@@ -24,7 +24,7 @@ fn elected(rt: &impl Abort, alloc: Global) -> StoreControl {
     let records = Vec::from_slice(alloc, &[unwritten; 4]).expect(rt, "memory");
     let runs = Vec::from_slice(alloc, &[in_state(ServerState::Up); 3]).expect(rt, "memory");
     let lead = Leadership::new(9, 1).expect(rt, "a revision");
-    let read = StoreControl::read(desk(rt, alloc), lead, 100, records, runs, 0);
+    let read = StoreControl::read(desk(rt, alloc), lead, 100, true, records, runs, 0);
     read.ok().expect(rt, "a control")
 }
 
