@@ -1,6 +1,6 @@
 use crate::body_lock::BodyInUse;
 use crate::connections::Connections;
-use crate::follower::{self, Notices};
+use crate::follower::{self, spawn, Notices};
 use crate::host;
 use crate::introduction::Introduction;
 use crate::listener::Listener;
@@ -190,7 +190,7 @@ impl<S: Service> Fleet<S> {
         let is_stopped = || self.inner.durable.is_away(server) && !self.inner.is_named();
         while !is_stopped() && Instant::now() < end {
             if told.is_none() && Instant::now() >= again {
-                told = Some(self.ask_to_stop(server));
+                (told, again) = (self.ask_to_stop(server), Instant::now() + ASK_AGAIN);
             }
             // It is answered well only once the process was begun again.
             if let Some(Ok(Err(refusal))) = told.as_ref().map(Receiver::try_recv) {
@@ -201,12 +201,19 @@ impl<S: Service> Fleet<S> {
         }
     }
 
-    /// Has a thread give the control the command, and returns where its answer comes.
-    fn ask_to_stop(&self, server: u16) -> Receiver<Result<Vec<String>, String>> {
+    /// Has a thread give the control the command, and returns where its answer comes; none if the system gives no
+    /// thread for now.
+    fn ask_to_stop(&self, server: u16) -> Option<Receiver<Result<Vec<String>, String>>> {
         let (asking, (tell, told)) = (self.inner.clone(), sync_channel(1));
-        let words = move || tell.send(asking.command(&["RESTART", &server.to_string()]));
-        thread::spawn(words);
-        told
+        let ask = move || {
+            // Whoever asks may not wait any more.
+            let _ = tell.send(asking.command(&["RESTART", &server.to_string()]));
+        };
+        if let Err(error) = spawn("stop".to_owned(), ask) {
+            tracing::warn!(%error, "the control isn't asked to stop this server yet");
+            return None;
+        }
+        Some(told)
     }
 
     /// Leaves at once. Others take this server's shards over, and what it kept of them in memory is lost.

@@ -306,6 +306,10 @@ impl Options {
             );
             return Err(JoinError::Options(why));
         }
+        if self.connections == 0 {
+            let why = "--connections 0 lets nobody connect: it is at least 1";
+            return Err(JoinError::Options(why.to_owned()));
+        }
         if self.allowed(Duration::from_secs(self.lease)).is_zero() {
             let why = "--margin and --drift leave nothing of --lease";
             return Err(JoinError::Options(why.to_owned()));
@@ -376,6 +380,19 @@ mod tests {
         let plain = parsed("").unwrap();
         let access = plain.etcd_access.access(&plain.etcd).unwrap();
         assert!(access.user.is_none() && access.roots.is_none() && access.identity.is_none());
+    }
+
+    #[test]
+    fn what_is_out_of_bounds_is_named() {
+        for (words, named) in [
+            ("--connections 0", "--connections"),
+            ("--name 4", "--name"),
+            ("--margin 3000", "--margin"),
+        ] {
+            let told = parsed(words).unwrap().settings().map(drop).unwrap_err();
+            assert!(told.to_string().contains(named), "{words}: {told}");
+        }
+        assert!(parsed("--connections 1").unwrap().settings().is_ok());
     }
 
     #[test]
