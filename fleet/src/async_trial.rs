@@ -211,8 +211,19 @@ fn a_call_that_is_dropped_gives_no_answer_to_another_one() {
         let Enter::Here(permit) = fleets[0].enter_async(0, Mode::Direct, SOON).await else {
             panic!("there is no permit");
         };
-        assert!(timeout(BRIEF, call()).await.is_err());
-        let late = router.call(&key, b"request", Retry::Once(BRIEF)).await;
+        let body = &fleets[0].inner.places[0];
+        let mut dropped = Box::pin(call());
+        while body.blocked() < 1 {
+            // It is dropped once it has come to the server, and waits for the body there.
+            assert!(timeout(BRIEF, &mut dropped).await.is_err());
+        }
+        drop(dropped);
+        // One whose time was over before it came to the server wasn't made.
+        let (mut late, mut within) = (Err(CallError::NotMade(String::new())), BRIEF);
+        while matches!(late, Err(CallError::NotMade(_))) && within < SOON {
+            late = router.call(&key, b"request", Retry::Once(within)).await;
+            within *= 2;
+        }
         assert!(matches!(late, Err(CallError::Unsure(_))), "{late:?}");
         drop(permit);
         // Those two may be made still, and each answer is of its call.

@@ -116,6 +116,12 @@ impl<B> Place<B> {
         self.body.is_free()
     }
 
+    /// How many threads wait for the body.
+    #[cfg(all(test, feature = "tokio"))]
+    pub(crate) fn blocked(&self) -> usize {
+        self.body.blocked()
+    }
+
     /// Whether a task waits for the body.
     #[cfg(all(test, feature = "tokio"))]
     pub(crate) fn has_task(&self) -> bool {
