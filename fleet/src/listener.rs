@@ -26,7 +26,7 @@ const FAREWELL: Duration = Duration::from_millis(500);
 /// How often that is looked.
 const LOOK: Duration = Duration::from_millis(2);
 /// What a process that leaves tells whoever asks by a connection: nothing is done of that.
-const LEAVES: &str = "this process leaves, and others have its shards";
+pub(crate) const LEAVES: &str = "this process leaves, and others have its shards";
 /// What is told to whoever has no place, or has lost it: nothing is done of what it asks.
 const CROWDED: &str = "as many clients are served as may be";
 /// How many bytes of memory a connection keeps for the next request, and as many for the next answer.
@@ -334,19 +334,7 @@ fn answer_all<S: Service>(
     let (connection, most) = (&place.connection, fleet.options.connections);
     let mut stream = BufReader::new(stream);
     let (mut room, mut out, mut is_noted) = (Vec::new(), Vec::new(), false);
-    loop {
-        if let Err(error) = frame::receive(&mut stream, &mut room) {
-            if place.shared.is_over.load(Ordering::Acquire) {
-                bid_farewell(stream.get_mut(), LEAVES);
-            } else if connection.is_ended() {
-                bid_farewell(stream.get_mut(), CROWDED);
-            }
-            return Err(error);
-        }
-        if !connection.begin_answer() {
-            bid_farewell(stream.get_mut(), CROWDED);
-            return Ok(());
-        }
+    while has_next(place, &mut stream, &mut room)? {
         let request = Request::read(&room);
         let request = request.map_err(|error| io::Error::new(io::ErrorKind::InvalidData, error))?;
         is_noted = is_noted || place.note_kind(Kind::of(guest, &request), most);
@@ -368,6 +356,22 @@ fn answer_all<S: Service>(
         let now = place.shared.now();
         connection.idle_since.store(now, Ordering::Release);
     }
+    Ok(())
+}
+
+/// Waits for the next request. Returns whether there is one to be answered: if the connection ends before, whoever is
+/// there is told why.
+fn has_next(place: &Place, stream: &mut BufReader<Stream>, room: &mut Vec<u8>) -> io::Result<bool> {
+    let received = frame::receive(stream, room);
+    if received.is_ok() && place.connection.begin_answer() {
+        return Ok(true);
+    }
+    if place.shared.is_over.load(Ordering::Acquire) {
+        bid_farewell(stream.get_mut(), LEAVES);
+    } else if place.connection.is_ended() {
+        bid_farewell(stream.get_mut(), CROWDED);
+    }
+    received.map(|()| false)
 }
 
 impl Kind {
