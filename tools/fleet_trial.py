@@ -24,7 +24,7 @@ import runs
 PACKAGE, EXAMPLE, FEATURE = "durkenzo-fleet", "trial", "plants"
 # How long clients may take to begin and to end, in seconds, and within how many all shards must be answered.
 BEGIN, END, BOUND = 180, 60, 60
-# How long a call is tried where none is to be refused, and beside faults.
+# How long a call is tried if none is to be refused, and beside faults.
 PATIENCE, IMPATIENCE = 20, 5
 # How many findings in calm are told.
 MOST = 40
@@ -263,7 +263,11 @@ class FleetTrial:
             return bool(self.plant)
         known = time.monotonic() - self.given.lease - BEFORE - LATE
         in_calm = [at for at, _ in [*clients.in_calm] if at <= known]
-        return bool(in_calm) and not all(self.excused(in_calm, self.ended(recorder)))
+
+        def are_excused():
+            return all(self.excused(in_calm, self.ended(recorder)))
+
+        return not are_excused() and recorder.caught_up(END) and not are_excused()
 
     def fault(self, name, made, clients):
         is_fault = name not in fleet_nemeses.GRACEFUL
