@@ -169,8 +169,8 @@ impl<S: Service> Fleet<S> {
         let linger = || thread::sleep(LINGER.min(end.saturating_duration_since(Instant::now())));
         loop {
             self.give_shards_away(end);
-            // Clients whose maps are old have it forward a little longer. Who still comes then is told to ask elsewhere,
-            // so that no call is under way as connections end.
+            // Clients whose maps are old have it forward a little longer. Who still comes then is told to ask
+            // elsewhere, so that no call is under way as connections end.
             linger();
             self.inner.closing.store(true, Ordering::Release);
             // An earlier stop may have been over meanwhile, and shards may have come home.

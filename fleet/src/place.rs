@@ -11,7 +11,8 @@ use std::sync::{Mutex, MutexGuard, PoisonError};
 /// A shard in this process: what is known of it, its body, and who waits for it.
 ///
 /// Whoever locks several locks the body first, then what comes, then what is known. A call holds the body while it is
-/// executed, and what is known only for a look. So what was read is taken at once, and to let go waits for the call that is under way.
+/// executed, and what is known only for a look. So what was read is taken at once, and to let go waits for the call
+/// that is under way.
 pub(crate) struct Place<B> {
     known: Mutex<Known>,
     body: BodyLock<B>,
