@@ -183,7 +183,7 @@ impl Read for Incoming<'_> {
             return Err(io::ErrorKind::TimedOut.into());
         }
         connection.wait_within(left)?;
-        connection.stream.read(room)
+        connection.stream.read_before(*end, room)
     }
 }
 
