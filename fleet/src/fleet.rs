@@ -1,6 +1,6 @@
 use crate::body_lock::BodyInUse;
 use crate::connections::Connections;
-use crate::follower::{self, spawn, Notices};
+use crate::follower::{self, Notices};
 use crate::host;
 use crate::introduction::Introduction;
 use crate::listener::Listener;
@@ -209,7 +209,7 @@ impl<S: Service> Fleet<S> {
             // Whoever asks may not wait any more.
             let _ = tell.send(asking.command(&["RESTART", &server.to_string()]));
         };
-        if let Err(error) = spawn("stop".to_owned(), ask) {
+        if let Err(error) = follower::spawn("stop".to_owned(), ask) {
             tracing::warn!(%error, "the control isn't asked to stop this server yet");
             return None;
         }

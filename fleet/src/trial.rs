@@ -1,7 +1,7 @@
 //! Several processes of a service that counts, in one process of a test. Its clients know which count comes next, so a
 //! count that is lost or made twice is found, and so is each wrong rule that is planted.
 use crate::connections::{Connections, NotAnswered};
-use crate::frame::{receive, CallFrame, HandFrame, Request, Response};
+use crate::frame::{CallFrame, HandFrame, Request, Response};
 use crate::introduction::Introduction;
 use crate::plant::Plant;
 use crate::{
@@ -290,10 +290,10 @@ impl Trial {
 
     /// Begins such a fleet over this store.
     fn over(store: Arc<dyn Store>, lease: u64, keeps_changes: bool, plant: Option<Plant>) -> Trial {
-        Trial::with(store, keeps_changes, |it| options(it, lease, plant))
+        Trial::with(store, keeps_changes, |server| options(server, lease, plant))
     }
 
-    /// Begins a fleet over this store, each server of which has these options.
+    /// Begins a fleet over this store, each process of which has these options.
     fn with(store: Arc<dyn Store>, keeps_changes: bool, options: impl Fn(u16) -> Options) -> Trial {
         let came = Arc::<Mutex<Vec<_>>>::default();
         let cuts: Vec<Arc<Cut>> = (0..SERVERS).map(|_| Arc::default()).collect();
@@ -775,6 +775,7 @@ fn whoever_is_connected_to_a_process_that_leaves_learns_that_nothing_was_done() 
 
 #[test]
 fn whoever_loses_its_place_learns_that_nothing_was_done() {
+    use crate::frame::receive;
     let one = |server| Options {
         connections: 1,
         ..options(server, 30, None)
