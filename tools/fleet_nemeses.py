@@ -12,7 +12,7 @@ import time
 
 import fleet
 
-# The space of etcd where it is to be filled, what is written until it is, and how much of that at a time.
+# The space of etcd if it is to be filled, what is written until it is, and how much of that at a time.
 QUOTA, JUNK, PIECE = 24_000_000, b"junk", 500_000
 ALARM, TRIES = "/v3/maintenance/alarm", 30
 # By how many parts of a thousand clocks differ in speed: less than --drift has it.

@@ -24,7 +24,7 @@ import runs
 PACKAGE, EXAMPLE, FEATURE = "durkenzo-fleet", "trial", "plants"
 # How long clients may take to begin and to end, in seconds, and within how many all shards must be answered.
 BEGIN, END, BOUND = 180, 60, 60
-# How long a call is tried where none is to be refused, and beside faults.
+# How long a call is tried if none is to be refused, and beside faults.
 PATIENCE, IMPATIENCE = 20, 5
 # How many findings in calm are told.
 MOST = 40
@@ -153,7 +153,6 @@ class Clients:
             elif line.startswith("calm: "):
                 _, at, what = line.split(" ", 2)
                 self.in_calm.append((float(at), what))
-                self.has_found.set()
             elif line.startswith("sums: "):
                 self.sums = line.removeprefix("sums: ")
             else:
@@ -222,7 +221,7 @@ class FleetTrial:
             if clients.next(BEGIN) != "begun":
                 return self.not_begun(clients, running)
             self.began = time.monotonic()
-            self.disturb(running, clients)
+            self.disturb(running, clients, recorder)
             return self.tell(clients, running, recorder)
 
     def fleet(self, room, program, relays):
@@ -244,12 +243,12 @@ class FleetTrial:
             "patience": PATIENCE if is_graceful else IMPATIENCE,
         }  # fmt: skip
 
-    def disturb(self, running, clients):
+    def disturb(self, running, clients, recorder):
         """Has nemeses work in turn by chance, each fault once all is well, until the time is over."""
         kinds = {it: fleet_nemeses.KINDS[it] for it in self.kinds if it != fleet_nemeses.MOVES}
         made = {name: kind(running, self.chance, self.given.lease) for name, kind in kinds.items()}
         end, left = self.began + self.seconds, []
-        while time.monotonic() < end and clients.run.poll() is None and not self.is_done(clients):
+        while time.monotonic() < end and clients.run.poll() is None and not self.is_done(clients, recorder):
             if not made:
                 clients.has_found.wait(min(1, max(0, end - time.monotonic())))
                 continue
@@ -257,9 +256,18 @@ class FleetTrial:
             left = left or self.chance.sample([*made], len(made))
             self.fault(left.pop(), made, clients)
 
-    def is_done(self, clients):
-        """Whether the wrong rule is found that is planted."""
-        return self.plant and clients.has_found.is_set()
+    def is_done(self, clients, recorder):
+        """Whether the wrong rule is found that is planted. What wasn't to be in calm counts once it is known whether a
+        lease ended by itself then."""
+        if not self.plant or clients.has_found.is_set():
+            return bool(self.plant)
+        known = time.monotonic() - self.given.lease - BEFORE - LATE
+        in_calm = [at for at, _ in [*clients.in_calm] if at <= known]
+
+        def are_excused():
+            return all(self.excused(in_calm, self.ended(recorder)))
+
+        return not are_excused() and recorder.caught_up(END) and not are_excused()
 
     def fault(self, name, made, clients):
         is_fault = name not in fleet_nemeses.GRACEFUL
@@ -306,13 +314,18 @@ class FleetTrial:
                 ended.append((at, server))
         return ended
 
+    def excused(self, times, ended):
+        """Whether a lease ended by itself about each of these times."""
+        before = BEFORE + self.given.lease
+        return [any(it - before <= at <= it + AFTER for it, _ in ended) for at in times]
+
     def judge_calm(self, clients, recorder):
         """Tells what wasn't to be in calm: it is wrong unless a lease ended by itself."""
         ended = self.ended(recorder)
         for at, server in ended:
             print(f"{at - self.began:7.1f} s  the lease of {server} ended by itself")
-        for at, what in clients.in_calm:
-            is_excused = any(it - BEFORE - self.given.lease <= at <= it + AFTER for it, _ in ended)
+        excused = self.excused([at for at, _ in clients.in_calm], ended)
+        for (at, what), is_excused in zip(clients.in_calm, excused):
             told = f"{at - self.began:7.1f} s  in calm: {what}"
             if not is_excused:
                 clients.wrong.append(told)

@@ -1,7 +1,7 @@
 """Relays between processes of a cluster, which cut and delay what goes through them, each at a port of its own.
 
 A link that is cut holds what comes until it is healed, as a network does that loses packets which are sent again. A
-delayed one gives each piece on after a while. Where a link speaks HTTP, `rewrite` may change what is asked and answered.
+delayed one gives each piece on after a while. If a link speaks HTTP, `rewrite` may change what is asked and answered.
 """
 import asyncio
 import contextlib

@@ -1,5 +1,9 @@
 //! A cache in front of a slow store, which is a folder of files here. One process at a time has a key, so it is loaded
-//! once, and no other process has an older value of it. If its shard moves, what was loaded goes along.
+//! once. If its shard moves, what was loaded goes along.
+//!
+//! A folder compares no fences. If a process is paused past its lease while it writes a value, that write may come
+//! late, over a value that another process has stored since. A store that compares `call.fence()` refuses such a write,
+//! as in `counter.rs`.
 //!
 //! ```console
 //! $ SLOW=/tmp/slow cache --name 1 --listen 127.0.0.1:7381  # a server; 2 and 3 likewise

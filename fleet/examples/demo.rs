@@ -1,5 +1,5 @@
-//! The load of `./sm fleet demo`: it calls the rate limiter, does commands that it reads, each in a line, and prints what
-//! it sees as lines of JSON.
+//! The load of `./sm fleet demo`: it calls the rate limiter, does commands that it reads, each in a line, and prints
+//! what it sees as lines of JSON.
 //!
 //! ```console
 //! $ demo --etcd http://127.0.0.1:2379

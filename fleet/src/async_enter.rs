@@ -13,6 +13,9 @@ impl<S: Service> Fleet<S> {
     /// [`Enter::Wait`], or another call has the body, it waits for so long in all, behind the calls that came before.
     /// If as many wait as `--waiting` lets, it is [`Enter::Wait`] at once.
     ///
+    /// It must run in a runtime whose driver of time is enabled, as by
+    /// [`enable_all`](tokio::runtime::Builder::enable_all). Without that tokio panics.
+    ///
     /// The permit goes with its task from thread to thread, and other calls of the shard wait until it is dropped. A
     /// future that is dropped gives its place in the queue, or its permit, back.
     ///

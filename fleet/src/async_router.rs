@@ -1,16 +1,19 @@
 use crate::async_stream::AsyncStream;
-use crate::connections::{NotAnswered, IDLE, MEET};
+use crate::connections::{NotAnswered, MEET};
+use crate::idle_connections::{IdleConnections, Quiet};
 use crate::retry::end_of;
 use crate::router::{Outgoing, PAUSE};
 use crate::{Answer, CallError, JoinError, MeetError, Retry, Router, Safety, Sharding};
-use std::collections::HashMap;
 use std::fmt;
 use std::io::{self, ErrorKind};
-use std::sync::{Mutex, PoisonError};
+use std::sync::{Mutex, MutexGuard, PoisonError};
 use std::time::Instant;
 use tokio::time::{sleep, timeout_at};
 
 /// A client of a fleet for tasks of tokio: a [`Router`] that blocks no thread while it calls.
+///
+/// Its calls must run in a runtime whose drivers of IO and of time are enabled: see
+/// [`enable_all`](tokio::runtime::Builder::enable_all). Without them tokio panics.
 ///
 /// A call whose future is dropped ends its connection. It may have been made, as one that is [`CallError::Unsure`].
 ///
@@ -28,7 +31,7 @@ use tokio::time::{sleep, timeout_at};
 /// ```
 pub struct AsyncRouter {
     router: Router,
-    idle: Mutex<HashMap<String, Vec<AsyncStream>>>,
+    idle: Mutex<IdleConnections<AsyncStream>>,
 }
 
 impl AsyncRouter {
@@ -129,19 +132,18 @@ impl AsyncRouter {
             .map_err(|error| unreached(error.into()))?;
         let received = timeout_at(end.into(), stream.read_frame()).await;
         let response = received.unwrap_or_else(|_| Err(late())).map_err(lost)?;
-        let mut idle = self.idle.lock().unwrap_or_else(PoisonError::into_inner);
-        let kept = idle.entry(address.to_owned()).or_default();
-        if kept.len() < IDLE {
-            kept.push(stream);
-        }
+        self.idle().keep(address, stream);
         Ok(response)
+    }
+
+    fn idle(&self) -> MutexGuard<'_, IdleConnections<AsyncStream>> {
+        self.idle.lock().unwrap_or_else(PoisonError::into_inner)
     }
 
     /// Returns a connection that was used before, and that the server hasn't closed since.
     fn kept(&self, address: &str) -> Option<AsyncStream> {
-        let mut idle = self.idle.lock().unwrap_or_else(PoisonError::into_inner);
-        let kept = idle.get_mut(address)?;
-        std::iter::from_fn(|| kept.pop()).find(AsyncStream::is_quiet)
+        let mut idle = self.idle();
+        std::iter::from_fn(|| idle.take(address)).find(AsyncStream::is_quiet)
     }
 }
 

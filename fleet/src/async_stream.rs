@@ -1,5 +1,6 @@
 //! Connections of tasks to servers of a fleet, whose bytes are those of threads.
 use crate::frame::LONGEST;
+use crate::idle_connections::Quiet;
 use crate::introduction::Introduction;
 use crate::stream::is_quiet;
 use crate::MeetError;
@@ -79,11 +80,6 @@ impl AsyncStream {
         }
     }
 
-    /// Whether nothing has come that wasn't read, nor the end.
-    pub(crate) fn is_quiet(&self) -> bool {
-        is_quiet(self.socket.get_ref())
-    }
-
     /// Sends all of these bytes.
     pub(crate) async fn write_all(&mut self, mut bytes: &[u8]) -> io::Result<()> {
         let Some(tls) = &mut self.tls else {
@@ -144,6 +140,12 @@ impl AsyncStream {
             }
         }
         Ok(())
+    }
+}
+
+impl Quiet for AsyncStream {
+    fn is_quiet(&self) -> bool {
+        is_quiet(self.socket.get_ref())
     }
 }
 

@@ -141,7 +141,7 @@ fn who_waits_for_a_paused_shard_is_bounded_and_who_is_dropped_leaves_its_place()
     runtime().block_on(async {
         let [first, second] = [(); 2].map(|()| tokio::spawn(call(fleet.clone(), at_once())));
         let place = &fleet.inner.places[0];
-        until("both wait", || place.queue.enter_task(2).is_none());
+        until("both wait", || place.queue.count() == 2);
         let third = call(fleet.clone(), at_once()).await;
         assert_eq!(
             third,
@@ -149,7 +149,7 @@ fn who_waits_for_a_paused_shard_is_bounded_and_who_is_dropped_leaves_its_place()
         );
         first.abort();
         assert!(first.await.unwrap_err().is_cancelled());
-        until("a place is free", || place.queue.enter_task(2).is_some());
+        until("a place is free", || place.queue.count() == 1);
         let late = fleet.enter_async(0, Mode::Direct, BRIEF).await;
         assert!(matches!(late, Enter::Wait(_)));
         drop(late);
@@ -198,6 +198,19 @@ fn tasks_call_while_shards_move_and_nothing_is_lost() {
     });
 }
 
+/// Calls with ever more time, until the time is over only once the call has come to the server. Before that it isn't
+/// made. Returns the error.
+async fn too_late(router: &AsyncRouter, key: &[u8]) -> CallError {
+    let mut within = BRIEF;
+    loop {
+        let late = router.call(key, b"request", Retry::Once(within)).await;
+        match late.expect_err("the body is in use") {
+            CallError::NotMade(_) if within < SOON => within *= 2,
+            late => return late,
+        }
+    }
+}
+
 #[test]
 fn a_call_that_is_dropped_gives_no_answer_to_another_one() {
     let (store, fleets) = fleets(1, &[]);
@@ -211,9 +224,14 @@ fn a_call_that_is_dropped_gives_no_answer_to_another_one() {
         let Enter::Here(permit) = fleets[0].enter_async(0, Mode::Direct, SOON).await else {
             panic!("there is no permit");
         };
-        assert!(timeout(BRIEF, call()).await.is_err());
-        let late = router.call(&key, b"request", Retry::Once(BRIEF)).await;
-        assert!(matches!(late, Err(CallError::Unsure(_))), "{late:?}");
+        let mut dropped = Box::pin(call());
+        while fleets[0].inner.places[0].blocked() == 0 {
+            // It is dropped once it has come to the server, and waits for the body there.
+            assert!(timeout(BRIEF, &mut dropped).await.is_err());
+        }
+        drop(dropped);
+        let late = too_late(&router, &key).await;
+        assert!(matches!(late, CallError::Unsure(_)), "{late}");
         drop(permit);
         // Those two may be made still, and each answer is of its call.
         let mut last = 1;

@@ -100,6 +100,12 @@ impl<B> BodyLock<B> {
         state.kept.is_some() && state.tasks.is_empty()
     }
 
+    /// How many threads wait for it.
+    #[cfg(all(test, feature = "tokio"))]
+    pub(crate) fn blocked(&self) -> usize {
+        self.state().blocked
+    }
+
     /// Whether a task waits for it.
     #[cfg(all(test, feature = "tokio"))]
     pub(crate) fn has_task(&self) -> bool {

@@ -2,11 +2,13 @@
 use crate::connections::NotAnswered;
 use crate::fleet::FleetInner;
 use crate::frame::{CallFrame, Request, Response, MOST};
+use crate::listener::LEAVES;
 use crate::place::Place;
 use crate::queue::Turn;
 use crate::stream::is_open;
 use crate::{Destination, Enter, Mode, Permit, Service};
 use durkenzo::MOST_HOPS;
+use durkenzo_control::links::NO_SERVER;
 use std::borrow::Cow;
 use std::net::TcpStream;
 use std::sync::atomic::Ordering;
@@ -36,17 +38,10 @@ impl<S: Service> FleetInner<S> {
         // The client hears in time that nothing was done.
         let patience = (budget - budget / 8).min(self.options.patience());
         let (end, waits) = (began + budget, began + patience);
-        let Some(place) = self.places.get(usize::from(call.shard)) else {
-            return Response::Again("there is no such shard").write(out);
+        let (place, mut turn) = match self.arrived(call.shard) {
+            Ok(arrived) => arrived,
+            Err(why) => return Response::Again(why).write(out),
         };
-        if self.closing.load(Ordering::Acquire) {
-            return Response::Again("this process leaves, and others have its shards").write(out);
-        }
-        // Who comes later waits behind those who wait.
-        let mut turn = None;
-        if !place.queue.is_empty() && !self.has_turn(place, &mut turn) {
-            return Response::Again(FULL).write(out);
-        }
         let mut why = Cow::Borrowed("calls that came before wait for the shard");
         loop {
             if turn.as_ref().is_none_or(Turn::is_first) {
@@ -72,6 +67,21 @@ impl<S: Service> FleetInner<S> {
         }
     }
 
+    /// Returns the shard's place, with a turn if others wait, or why a call that comes now isn't made.
+    fn arrived(&self, shard: u16) -> Result<(&Place<S::Body>, Option<Turn<'_>>), &'static str> {
+        let place = self.places.get(usize::from(shard));
+        let place = place.ok_or("there is no such shard")?;
+        if self.closing.load(Ordering::Acquire) {
+            return Err(LEAVES);
+        }
+        // Who comes later waits behind those who wait.
+        let mut turn = None;
+        match place.queue.is_empty() || self.has_turn(place, &mut turn) {
+            true => Ok((place, turn)),
+            false => Err(FULL),
+        }
+    }
+
     /// Takes a turn behind all others who wait. Returns whether there is room.
     fn has_turn<'a>(&self, place: &'a Place<S::Body>, turn: &mut Option<Turn<'a>>) -> bool {
         *turn = place.queue.enter(self.options.waiting);
@@ -79,36 +89,21 @@ impl<S: Service> FleetInner<S> {
     }
 
     /// Looks once what becomes of the call. Those behind it may look once it is decided.
-    fn look<'a>(
-        &'a self,
+    fn look(
+        &self,
         call: &CallFrame<'_>,
         client: &TcpStream,
         end: Instant,
-        turn: &mut Option<Turn<'a>>,
+        turn: &mut Option<Turn<'_>>,
         out: &mut Vec<u8>,
     ) -> Step {
         let place = &self.places[usize::from(call.shard)];
         if place.known().stood < call.revision {
             return Step::Unread;
         }
-        let mode = if call.from == 0 {
-            Mode::Direct
-        } else {
-            Mode::Forwarded(call.from)
-        };
-        let (to, from) = match self.enter(call.shard, mode) {
-            Enter::Here(permit) => {
-                drop(turn.take());
-                execute(permit, call, out);
-                return Step::Done;
-            }
-            Enter::Forward(to) => (to, self.server()),
-            Enter::Elsewhere(to) => (to, 0),
-            Enter::Wait(why) => return Step::Waits(why.into()),
-            Enter::Refused(why) => {
-                Response::Again(&why.to_string()).write(out);
-                return Step::Done;
-            }
+        let (to, from) = match self.try_here(call, turn, out) {
+            Ok(onward) => onward,
+            Err(step) => return step,
         };
         if call.hops >= MOST_HOPS {
             return Step::Waits("it was forwarded as often as it may be".into());
@@ -119,6 +114,34 @@ impl<S: Service> FleetInner<S> {
         }
         drop(turn.take());
         self.send_on(call, (&to, from), end, out)
+    }
+
+    /// Executes the call if this process may. Else returns where it goes on, and which server forwards it, or what
+    /// became of it.
+    fn try_here(
+        &self,
+        call: &CallFrame<'_>,
+        turn: &mut Option<Turn<'_>>,
+        out: &mut Vec<u8>,
+    ) -> Result<(Destination, u16), Step> {
+        let mode = match call.from {
+            NO_SERVER => Mode::Direct,
+            from => Mode::Forwarded(from),
+        };
+        match self.enter(call.shard, mode) {
+            Enter::Here(permit) => {
+                drop(turn.take());
+                execute(permit, call, out);
+                Err(Step::Done)
+            }
+            Enter::Forward(to) => Ok((to, self.server())),
+            Enter::Elsewhere(to) => Ok((to, NO_SERVER)),
+            Enter::Wait(why) => Err(Step::Waits(why.into())),
+            Enter::Refused(why) => {
+                Response::Again(&why.to_string()).write(out);
+                Err(Step::Done)
+            }
+        }
     }
 
     /// Sends the call on, with what is left of its budget.

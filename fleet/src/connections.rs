@@ -1,17 +1,16 @@
 use crate::frame::{self, Request, WRITTEN};
+use crate::idle_connections::{IdleConnections, Quiet};
 use crate::introduction::Introduction;
 use crate::stream::{left, Stream};
 use crate::MeetError;
-use std::collections::{HashMap, HashSet};
-use std::io::{self, Write};
-use std::sync::{Mutex, PoisonError};
+use std::collections::HashSet;
+use std::io::{self, Read, Write};
+use std::sync::{Mutex, MutexGuard, PoisonError};
 use std::time::{Duration, Instant};
 use thiserror::Error;
 
 /// How long it takes at most until both sides know each other.
 pub(crate) const MEET: Duration = Duration::from_secs(5);
-/// How many connections to a server are kept for the next calls.
-pub(crate) const IDLE: usize = 64;
 /// How long a connection isn't looked at since it was used: a server that closes it may do so behind a look, too.
 const MOMENT: Duration = Duration::from_micros(100);
 /// How long a request is at most that a connection takes at once, as nothing else is on its way there.
@@ -24,7 +23,7 @@ const REFUSING: usize = 4_096;
 /// Connections to servers of a fleet. A call has one for itself.
 pub(crate) struct Connections {
     introduction: Introduction,
-    idle: Mutex<HashMap<String, Vec<Connection>>>,
+    idle: Mutex<IdleConnections<Connection>>,
     /// Who refuses this process, of which the log tells once.
     refusing: Mutex<HashSet<String>>,
 }
@@ -93,27 +92,23 @@ impl Connections {
         let sent = connection.send(&bytes, left(end));
         sent.map_err(|error| unreached(error.into()))?;
         let received = connection.receive(&mut bytes, left(end));
-        received.map_err(|error| NotAnswered::Lost(address.to_owned(), error))?;
-        self.keep(address, connection);
+        let is_alone = received.map_err(|error| NotAnswered::Lost(address.to_owned(), error))?;
+        // A server that says more than its answer ends the connection.
+        if is_alone {
+            self.idle().keep(address, connection);
+        }
         Ok(bytes)
     }
 
-    fn keep(&self, address: &str, connection: Connection) {
-        let mut idle = self.idle.lock().unwrap_or_else(PoisonError::into_inner);
-        match idle.get_mut(address) {
-            Some(kept) if kept.len() >= IDLE => {}
-            Some(kept) => kept.push(connection),
-            None => drop(idle.insert(address.to_owned(), vec![connection])),
-        }
+    fn idle(&self) -> MutexGuard<'_, IdleConnections<Connection>> {
+        self.idle.lock().unwrap_or_else(PoisonError::into_inner)
     }
 
     /// Returns a connection that was used before, and that the server hasn't closed since.
     fn kept(&self, address: &str) -> Option<Connection> {
         loop {
-            let mut idle = self.idle.lock().unwrap_or_else(PoisonError::into_inner);
-            let connection = idle.get_mut(address)?.pop()?;
-            drop(idle);
-            if connection.used.elapsed() < MOMENT || connection.stream.is_quiet() {
+            let connection = self.idle().take(address)?;
+            if connection.used.elapsed() < MOMENT || connection.is_quiet() {
                 return Some(connection);
             }
         }
@@ -153,14 +148,121 @@ impl Connection {
         self.stream.write_all(bytes)
     }
 
-    /// Waits so long for a response, or a little longer.
-    fn receive(&mut self, room: &mut Vec<u8>, within: Duration) -> io::Result<()> {
+    /// Waits so long for all of a response, or a little longer. Returns whether nothing came behind it.
+    fn receive(&mut self, room: &mut Vec<u8>, within: Duration) -> io::Result<bool> {
+        let end = Instant::now() + within;
+        let is_alone = frame::receive_last(&mut Incoming(self, end), room)?;
+        self.used = Instant::now();
+        Ok(is_alone)
+    }
+
+    /// Has each read end after this time, or a little later.
+    fn wait_within(&mut self, within: Duration) -> io::Result<()> {
         if self.within < within || self.within > within + within / LATER {
             self.stream.set_read_timeout(within)?;
             self.within = within;
         }
-        frame::receive_last(&mut self.stream, room)?;
-        self.used = Instant::now();
         Ok(())
+    }
+}
+
+impl Quiet for Connection {
+    fn is_quiet(&self) -> bool {
+        self.stream.is_quiet()
+    }
+}
+
+/// What comes by a connection until this time.
+struct Incoming<'a>(&'a mut Connection, Instant);
+
+impl Read for Incoming<'_> {
+    fn read(&mut self, room: &mut [u8]) -> io::Result<usize> {
+        let Incoming(connection, end) = self;
+        let left = end.saturating_duration_since(Instant::now());
+        if left.is_zero() {
+            return Err(io::ErrorKind::TimedOut.into());
+        }
+        connection.wait_within(left)?;
+        connection.stream.read_before(*end, room)
+    }
+}
+
+#[cfg(test)]
+mod tests {
+    use super::*;
+    use crate::frame::Response;
+    use crate::Safety;
+    use std::net::TcpListener;
+    use std::sync::Arc;
+    use std::thread::{self, JoinHandle};
+
+    /// How long something is waited for that has to come, on a machine that may be busy.
+    const SOON: Duration = Duration::from_secs(60);
+
+    fn introduction() -> Introduction {
+        Introduction::of_client(&Safety::default(), 7)
+    }
+
+    /// Has a server take so many connections in turn, and do so with each.
+    fn serving(
+        count: usize,
+        serve: impl Fn(&mut Stream) + Send + 'static,
+    ) -> (String, JoinHandle<()>) {
+        let listener = TcpListener::bind("127.0.0.1:0").unwrap();
+        let address = listener.local_addr().unwrap().to_string();
+        let served = thread::spawn(move || {
+            for _ in 0..count {
+                let socket = Arc::new(listener.accept().unwrap().0);
+                let met = Stream::accept(socket, &introduction(), SOON, || Some(()));
+                serve(&mut met.unwrap().0);
+            }
+        });
+        (address, served)
+    }
+
+    /// Waits for a request, and writes these bytes.
+    fn answer(stream: &mut Stream, bytes: &[u8]) {
+        frame::receive(stream, &mut Vec::new()).unwrap();
+        stream.write_all(bytes).unwrap();
+    }
+
+    #[test]
+    fn an_answer_that_a_farewell_follows_at_once_is_taken_and_its_connection_isnt_kept() {
+        let mut out = Vec::new();
+        Response::Text(b"short").write(&mut out);
+        Response::Again("it leaves").write(&mut out);
+        let (address, served) = serving(2, move |stream| answer(stream, &out));
+        let connections = Connections::new(introduction());
+        for _ in 0..2 {
+            let answered = connections.ask(&address, &Request::Routes, SOON).unwrap();
+            let text = Response::read(&answered);
+            assert_eq!(text, Ok(Response::Text(b"short")));
+        }
+        served.join().unwrap();
+    }
+
+    #[test]
+    fn a_time_is_for_all_of_an_answer_however_slowly_its_bytes_come() {
+        let mut out = Vec::new();
+        Response::Text(&[7; 1 << 20]).write(&mut out);
+        let (address, served) = serving(1, move |stream| {
+            let mut first = Vec::new();
+            Response::Taken.write(&mut first);
+            answer(stream, &first);
+            answer(stream, &out[..4]);
+            // Once the client has gone, nothing more is written.
+            let _ = out[4..].chunks(1).try_for_each(|byte| {
+                thread::sleep(Duration::from_millis(10));
+                stream.write_all(byte)
+            });
+        });
+        let connections = Connections::new(introduction());
+        connections.ask(&address, &Request::Routes, SOON).unwrap();
+        let began = Instant::now();
+        let brief = Duration::from_millis(300);
+        let late = connections.ask(&address, &Request::Routes, brief);
+        assert!(matches!(late, Err(NotAnswered::Lost(..))), "{late:?}");
+        assert!(began.elapsed() < SOON);
+        served.join().unwrap();
     }
 }

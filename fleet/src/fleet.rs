@@ -169,8 +169,8 @@ impl<S: Service> Fleet<S> {
         let linger = || thread::sleep(LINGER.min(end.saturating_duration_since(Instant::now())));
         loop {
             self.give_shards_away(end);
-            // Clients whose maps are old have it forward a little longer. Who still comes then is told to ask elsewhere,
-            // so that no call is under way as connections end.
+            // Clients whose maps are old have it forward a little longer. Who still comes then is told to ask
+            // elsewhere, so that no call is under way as connections end.
             linger();
             self.inner.closing.store(true, Ordering::Release);
             // An earlier stop may have been over meanwhile, and shards may have come home.
@@ -190,7 +190,7 @@ impl<S: Service> Fleet<S> {
         let is_stopped = || self.inner.durable.is_away(server) && !self.inner.is_named();
         while !is_stopped() && Instant::now() < end {
             if told.is_none() && Instant::now() >= again {
-                told = Some(self.ask_to_stop(server));
+                (told, again) = (self.ask_to_stop(server), Instant::now() + ASK_AGAIN);
             }
             // It is answered well only once the process was begun again.
             if let Some(Ok(Err(refusal))) = told.as_ref().map(Receiver::try_recv) {
@@ -201,12 +201,19 @@ impl<S: Service> Fleet<S> {
         }
     }
 
-    /// Has a thread give the control the command, and returns where its answer comes.
-    fn ask_to_stop(&self, server: u16) -> Receiver<Result<Vec<String>, String>> {
+    /// Has a thread give the control the command, and returns where its answer comes; none if the system gives no
+    /// thread for now.
+    fn ask_to_stop(&self, server: u16) -> Option<Receiver<Result<Vec<String>, String>>> {
         let (asking, (tell, told)) = (self.inner.clone(), sync_channel(1));
-        let words = move || tell.send(asking.command(&["RESTART", &server.to_string()]));
-        thread::spawn(words);
-        told
+        let ask = move || {
+            // Whoever asks may not wait any more.
+            let _ = tell.send(asking.command(&["RESTART", &server.to_string()]));
+        };
+        if let Err(error) = follower::spawn("stop".to_owned(), ask) {
+            tracing::warn!(%error, "the control isn't asked to stop this server yet");
+            return None;
+        }
+        Some(told)
     }
 
     /// Leaves at once. Others take this server's shards over, and what it kept of them in memory is lost.

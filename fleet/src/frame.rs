@@ -336,8 +336,9 @@ pub(crate) fn receive(from: &mut impl Read, room: &mut Vec<u8>) -> io::Result<()
     }
 }
 
-/// Reads a frame into the room, as [`receive`] does, behind which nothing comes: most are read at once.
-pub(crate) fn receive_last(from: &mut impl Read, room: &mut Vec<u8>) -> io::Result<()> {
+/// Reads a frame into the room, as [`receive`] does, but most are read at once. Returns whether nothing was read behind
+/// the frame. If something was, it is dropped, and so nothing more may be read from there.
+pub(crate) fn receive_last(from: &mut impl Read, room: &mut Vec<u8>) -> io::Result<bool> {
     room.clear();
     room.resize(FIRST, 0);
     let mut count = 0;
@@ -353,15 +354,17 @@ pub(crate) fn receive_last(from: &mut impl Read, room: &mut Vec<u8>) -> io::Resu
     let length = room
         .drain(..4)
         .fold(0, |it, byte| it << 8 | usize::from(byte));
-    if length > LONGEST || room.len() > length {
+    if length > LONGEST {
         return Err(io::Error::new(
             io::ErrorKind::InvalidData,
             WireFault::TooLong,
         ));
     }
+    let is_alone = room.len() <= length;
+    room.truncate(length);
     from.take((length - room.len()) as u64).read_to_end(room)?;
     match room.len() == length {
-        true => Ok(()),
+        true => Ok(is_alone),
         false => Err(io::ErrorKind::UnexpectedEof.into()),
     }
 }
@@ -437,8 +440,14 @@ mod tests {
             response.write(&mut out);
             assert_eq!(Response::read(&out[4..]), Ok(response));
             let mut room = Vec::new();
-            receive_last(&mut &out[..], &mut room).unwrap();
+            assert!(receive_last(&mut &out[..], &mut room).unwrap());
             assert_eq!(room, out[4..]);
+            // The server may leave as soon as it has answered, and say so.
+            let length = out.len();
+            Response::Again("it leaves").write(&mut out);
+            let is_alone = receive_last(&mut &out[..], &mut room).unwrap();
+            assert_eq!(room, out[4..length]);
+            assert_eq!(is_alone, length > FIRST);
         }
     }
 
@@ -450,7 +459,6 @@ mod tests {
         assert_eq!(room.capacity(), 0);
         for (bytes, kind) in [
             (&[0xff; 8][..], io::ErrorKind::InvalidData),
-            (&[0, 0, 0, 1, 1, 2], io::ErrorKind::InvalidData),
             (&[0, 0, 0, 3, 1, 2], io::ErrorKind::UnexpectedEof),
             (&[0, 0], io::ErrorKind::UnexpectedEof),
         ] {

@@ -62,6 +62,7 @@ mod follower;
 mod frame;
 mod hand_over;
 mod host;
+mod idle_connections;
 mod incoming_body;
 mod introduction;
 mod join_error;

@@ -26,7 +26,13 @@ const FAREWELL: Duration = Duration::from_millis(500);
 /// How often that is looked.
 const LOOK: Duration = Duration::from_millis(2);
 /// What a process that leaves tells whoever asks by a connection: nothing is done of that.
-const LEAVES: &str = "this process leaves, and others have its shards";
+pub(crate) const LEAVES: &str = "this process leaves, and others have its shards";
+/// What is told to whoever has no place, or has lost it: nothing is done of what it asks.
+const CROWDED: &str = "as many clients are served as may be";
+/// How many bytes of memory a connection keeps for the next request, and as many for the next answer.
+const KEPT: usize = 16 << 10;
+/// How often at most the log tells that who connects isn't served.
+const TELL: Duration = Duration::from_secs(10);
 /// What a connection has for the time since which it is idle: it is answered, or it is ended.
 const BUSY: u64 = u64::MAX;
 const ENDED: u64 = u64::MAX - 1;
@@ -52,7 +58,7 @@ struct Connections {
     by_number: HashMap<u64, (Kind, Arc<Connection>)>,
 }
 
-/// Who is at a connection, by its first request.
+/// Who is at a connection, by how it has made itself known and by its first request.
 #[derive(Clone, Copy, Debug, PartialEq, Eq)]
 enum Kind {
     /// It has asked nothing yet.
@@ -125,7 +131,8 @@ impl Connections {
         self.by_number.values().filter(|it| is_meant(it.0)).count()
     }
 
-    /// Ends the connection of such a kind that has been idle for longest. Returns whether there was one.
+    /// Ends the connection of such a kind that has been idle for longest, which is told so by its thread: a request may
+    /// be on its way. Returns whether there was one.
     fn end_idle(&mut self, is_meant: impl Fn(Kind) -> bool) -> bool {
         let of_kind = self.by_number.iter().filter(|it| is_meant(it.1 .0));
         let idle =
@@ -138,8 +145,7 @@ impl Connections {
         };
         let ended = connection.change(since, ENDED);
         if ended {
-            // Its thread, which reads, learns it by this.
-            connection.end();
+            connection.end_reading();
             self.by_number.remove(&number);
         }
         ended
@@ -154,6 +160,16 @@ impl Closer for Connection {
 }
 
 impl Connection {
+    /// Has its thread, which reads, learn that nothing more is answered. It can still write.
+    fn end_reading(&self) {
+        // If it has ended already, there is nothing to do.
+        let _ = self.socket.shutdown(Shutdown::Read);
+    }
+
+    fn is_ended(&self) -> bool {
+        self.idle_since.load(Ordering::Acquire) == ENDED
+    }
+
     fn change(&self, from: u64, to: u64) -> bool {
         let changed =
             self.idle_since
@@ -223,8 +239,7 @@ impl Listener {
         // It waits for the next one.
         drop(TcpStream::connect_timeout(&address, GREETING));
         for (_, connection) in self.shared.connections().by_number.values() {
-            // Its thread learns it by this.
-            let _ = connection.socket.shutdown(Shutdown::Read);
+            connection.end_reading();
         }
         let end = Instant::now() + FAREWELL;
         while !self.shared.connections().by_number.is_empty() && Instant::now() < end {
@@ -233,16 +248,17 @@ impl Listener {
     }
 }
 
-/// Tells whoever is at the connection that this process leaves. It may have sent a request that was never read: it
-/// would learn nothing of that if the connection only ended.
-fn bid_farewell(stream: &mut Stream) {
+/// Tells whoever is at the connection why it ends. It may have sent a request of which nothing was done: it would learn
+/// nothing of that if the connection only ended.
+fn bid_farewell(stream: &mut Stream, why: &str) {
     let mut out = Vec::new();
-    Response::Again(LEAVES).write(&mut out);
+    Response::Again(why).write(&mut out);
     // It may be gone.
     let _ = stream.write_all(&out);
 }
 
 fn accept<S: Service>(socket: &TcpListener, shared: &Arc<Shared>, fleet: &Arc<FleetInner<S>>) {
+    let (mut too_many, mut no_thread) = (Occasion::default(), Occasion::default());
     for stream in socket.incoming() {
         if shared.is_over.load(Ordering::Acquire) {
             return;
@@ -257,7 +273,9 @@ fn accept<S: Service>(socket: &TcpListener, shared: &Arc<Shared>, fleet: &Arc<Fl
             idle_since: AtomicU64::new(shared.now()),
         });
         let Some(stranger) = shared.strangers.take(connection.clone()) else {
-            tracing::warn!("as many who aren't known yet are waited for as may be");
+            if too_many.is_due() {
+                tracing::warn!("as many who aren't known yet are waited for as may be");
+            }
             continue;
         };
         let (fleet, shared) = (fleet.clone(), shared.clone());
@@ -268,8 +286,27 @@ fn accept<S: Service>(socket: &TcpListener, shared: &Arc<Shared>, fleet: &Arc<Fl
             }
         };
         if let Err(error) = spawn("connection".to_owned(), serve) {
-            tracing::warn!(%error, "a connection isn't served");
+            if no_thread.is_due() {
+                tracing::warn!(%error, "a connection isn't served");
+            }
         }
+    }
+}
+
+/// What the log tells once in a while, however often it happens.
+#[derive(Default)]
+struct Occasion {
+    told: Option<Instant>,
+}
+
+impl Occasion {
+    /// Returns whether it is to be told now.
+    fn is_due(&mut self) -> bool {
+        let is_due = self.told.is_none_or(|it| it.elapsed() >= TELL);
+        if is_due {
+            self.told = Some(Instant::now());
+        }
+        is_due
     }
 }
 
@@ -297,22 +334,12 @@ fn answer_all<S: Service>(
     let (connection, most) = (&place.connection, fleet.options.connections);
     let mut stream = BufReader::new(stream);
     let (mut room, mut out, mut is_noted) = (Vec::new(), Vec::new(), false);
-    loop {
-        if let Err(error) = frame::receive(&mut stream, &mut room) {
-            if place.shared.is_over.load(Ordering::Acquire) {
-                bid_farewell(stream.get_mut());
-            }
-            return Err(error);
-        }
-        if !connection.begin_answer() {
-            return Ok(());
-        }
-        out.clear();
+    while has_next(place, &mut stream, &mut room)? {
         let request = Request::read(&room);
         let request = request.map_err(|error| io::Error::new(io::ErrorKind::InvalidData, error))?;
-        is_noted = is_noted || place.note_kind(Kind::of(&request), most);
+        is_noted = is_noted || place.note_kind(Kind::of(guest, &request), most);
         if !is_noted {
-            Response::Again("as many clients are served as may be").write(&mut out);
+            Response::Again(CROWDED).write(&mut out);
         } else if guest.may_ask(&request) {
             answer(fleet, &connection.socket, &request, &mut out);
         } else {
@@ -322,26 +349,56 @@ fn answer_all<S: Service>(
         if !is_noted {
             return Ok(());
         }
+        for bytes in [&mut room, &mut out] {
+            bytes.clear();
+            bytes.shrink_to(KEPT);
+        }
         let now = place.shared.now();
         connection.idle_since.store(now, Ordering::Release);
     }
+    Ok(())
+}
+
+/// Waits for the next request. Returns whether there is one to be answered: if the connection ends before, whoever is
+/// there is told why.
+fn has_next(place: &Place, stream: &mut BufReader<Stream>, room: &mut Vec<u8>) -> io::Result<bool> {
+    let received = frame::receive(stream, room);
+    if received.is_ok() && place.connection.begin_answer() {
+        return Ok(true);
+    }
+    if place.shared.is_over.load(Ordering::Acquire) {
+        bid_farewell(stream.get_mut(), LEAVES);
+    } else if place.connection.is_ended() {
+        bid_farewell(stream.get_mut(), CROWDED);
+    }
+    received.map(|()| false)
 }
 
 impl Kind {
-    fn of(request: &Request<'_>) -> Kind {
-        match request {
-            Request::Call(call) if call.hops == 0 && call.from == NO_SERVER => Kind::Client,
-            Request::Command {
-                is_passed_on: false,
-                ..
+    /// Returns the kind of this guest, which asks so first. A client has no place of a server, whatever it asks.
+    fn of(guest: Guest, request: &Request<'_>) -> Kind {
+        match (guest, request) {
+            (Guest::Client, _) => Kind::Client,
+            (Guest::Server(_), Request::Call(call)) if call.hops == 0 && call.from == NO_SERVER => {
+                Kind::Client
             }
-            | Request::Routes => Kind::Client,
-            Request::Call(_)
-            | Request::Command {
-                is_passed_on: true, ..
-            }
-            | Request::Copy { .. }
-            | Request::Hand(_) => Kind::Server,
+            (
+                Guest::Server(_),
+                Request::Command {
+                    is_passed_on: false,
+                    ..
+                }
+                | Request::Routes,
+            ) => Kind::Client,
+            (
+                Guest::Server(_),
+                Request::Call(_)
+                | Request::Command {
+                    is_passed_on: true, ..
+                }
+                | Request::Copy { .. }
+                | Request::Hand(_),
+            ) => Kind::Server,
         }
     }
 }
@@ -375,6 +432,51 @@ fn answer<S: Service>(
 #[cfg(test)]
 mod tests {
     use super::*;
+    use crate::frame::CallFrame;
+
+    #[test]
+    fn the_log_tells_of_a_crowd_once_in_a_while() {
+        let mut occasion = Occasion::default();
+        assert!(occasion.is_due() && !occasion.is_due());
+        occasion.told = Instant::now().checked_sub(TELL);
+        assert!(occasion.told.is_none() || occasion.is_due());
+    }
+
+    #[test]
+    fn a_client_has_no_place_of_a_server_whatever_it_asks() {
+        let call = |from, hops| {
+            Request::Call(CallFrame {
+                shard: 0,
+                from,
+                hops,
+                revision: 1,
+                budget: 1,
+                request: b"",
+            })
+        };
+        let copy = Request::Copy {
+            shard: 0,
+            generation: 1,
+            at: 0,
+        };
+        let words = b"";
+        let command = |is_passed_on| Request::Command {
+            is_passed_on,
+            words,
+        };
+        for (request, of_server) in [
+            (call(NO_SERVER, 0), Kind::Client),
+            (call(NO_SERVER, 1), Kind::Server),
+            (call(2, 1), Kind::Server),
+            (copy, Kind::Server),
+            (command(false), Kind::Client),
+            (command(true), Kind::Server),
+            (Request::Routes, Kind::Client),
+        ] {
+            assert_eq!(Kind::of(Guest::Client, &request), Kind::Client);
+            assert_eq!(Kind::of(Guest::Server(2), &request), of_server);
+        }
+    }
 
     #[test]
     fn the_client_that_is_idle_for_longest_makes_room_and_servers_have_places_of_their_own() {

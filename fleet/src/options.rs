@@ -102,11 +102,23 @@ pub struct Options {
     pub safety: SafetyOptions,
 
     /// How long after a process was heard of last it has failed
-    #[arg(long, env = "DURKENZO_LEASE", value_name = "SECONDS", default_value_t = 3, value_parser = clap::value_parser!(u64).range(2..=600))]
+    #[arg(
+        long,
+        env = "DURKENZO_LEASE",
+        value_name = "SECONDS",
+        default_value_t = 3,
+        value_parser = clap::value_parser!(u64).range(2..=600)
+    )]
     pub lease: u64,
 
     /// By how much clocks may differ in speed, in parts of a thousand
-    #[arg(long, env = "DURKENZO_DRIFT", value_name = "PER MILLE", default_value_t = 10, value_parser = clap::value_parser!(u64).range(0..=500))]
+    #[arg(
+        long,
+        env = "DURKENZO_DRIFT",
+        value_name = "PER MILLE",
+        default_value_t = 10,
+        value_parser = clap::value_parser!(u64).range(0..=500)
+    )]
     pub drift: u64,
 
     /// How long before the end of its lease a process stops, for answers that are on their way
@@ -159,7 +171,13 @@ pub struct Options {
     pub piece: usize,
 
     /// How many bodies come to this process at once; others wait with their owners
-    #[arg(long, env = "DURKENZO_MOVES", value_name = "COUNT", default_value_t = 4, value_parser = clap::value_parser!(u16).range(1..=64))]
+    #[arg(
+        long,
+        env = "DURKENZO_MOVES",
+        value_name = "COUNT",
+        default_value_t = 4,
+        value_parser = clap::value_parser!(u16).range(1..=64)
+    )]
     pub moves: u16,
 
     /// How many connections of clients are served at once, and how many of others
@@ -277,8 +295,8 @@ impl Options {
         }
     }
 
-    /// Listens for clients of frames of the service's own: at `--clients`, or else at a free port of this machine, which is
-    /// noted there, so that other servers are told. Comes before [`Fleet::join`](crate::Fleet::join).
+    /// Listens for clients of frames of the service's own: at `--clients`, or else at a free port of this machine,
+    /// which is noted there, so that other servers are told. Comes before [`Fleet::join`](crate::Fleet::join).
     ///
     /// # Errors
     ///
@@ -305,6 +323,10 @@ impl Options {
                 self.name
             );
             return Err(JoinError::Options(why));
+        }
+        if self.connections == 0 {
+            let why = "--connections 0 lets nobody connect: it is at least 1";
+            return Err(JoinError::Options(why.to_owned()));
         }
         if self.allowed(Duration::from_secs(self.lease)).is_zero() {
             let why = "--margin and --drift leave nothing of --lease";
@@ -376,6 +398,19 @@ mod tests {
         let plain = parsed("").unwrap();
         let access = plain.etcd_access.access(&plain.etcd).unwrap();
         assert!(access.user.is_none() && access.roots.is_none() && access.identity.is_none());
+    }
+
+    #[test]
+    fn what_is_out_of_bounds_is_named() {
+        for (words, named) in [
+            ("--connections 0", "--connections"),
+            ("--name 4", "--name"),
+            ("--margin 3000", "--margin"),
+        ] {
+            let told = parsed(words).unwrap().settings().map(drop).unwrap_err();
+            assert!(told.to_string().contains(named), "{words}: {told}");
+        }
+        assert!(parsed("--connections 1").unwrap().settings().is_ok());
     }
 
     #[test]

@@ -11,7 +11,8 @@ use std::sync::{Mutex, MutexGuard, PoisonError};
 /// A shard in this process: what is known of it, its body, and who waits for it.
 ///
 /// Whoever locks several locks the body first, then what comes, then what is known. A call holds the body while it is
-/// executed, and what is known only for a look. So what was read is taken at once, and to let go waits for the call that is under way.
+/// executed, and what is known only for a look. So what was read is taken at once, and to let go waits for the call
+/// that is under way.
 pub(crate) struct Place<B> {
     known: Mutex<Known>,
     body: BodyLock<B>,
@@ -114,6 +115,12 @@ impl<B> Place<B> {
     #[cfg(all(test, feature = "tokio"))]
     pub(crate) fn is_free(&self) -> bool {
         self.body.is_free()
+    }
+
+    /// How many threads wait for the body.
+    #[cfg(all(test, feature = "tokio"))]
+    pub(crate) fn blocked(&self) -> usize {
+        self.body.blocked()
     }
 
     /// Whether a task waits for the body.

@@ -67,6 +67,12 @@ impl Queue {
         self.waiting().calls.is_empty()
     }
 
+    /// Returns how many wait.
+    #[cfg(all(test, feature = "tokio"))]
+    pub(crate) fn count(&self) -> usize {
+        self.waiting().calls.len()
+    }
+
     /// Has the first call look again.
     pub(crate) fn wake(&self) {
         match self.waiting().calls.front() {

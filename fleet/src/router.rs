@@ -60,8 +60,8 @@ pub struct Answer {
 }
 
 impl Router {
-    /// Watches the map of the fleet in this store, whose servers ask for nothing to be shown. The store must stay for as
-    /// long as the router: without it the map grows old.
+    /// Watches the map of the fleet in this store, whose servers ask for nothing to be shown. The store must stay for
+    /// as long as the router: without it the map grows old.
     ///
     /// # Errors
     ///

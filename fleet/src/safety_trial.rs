@@ -1,7 +1,7 @@
 //! Who may reach a fleet, over sockets: by a secret, by TLS, by both and by neither. What isn't taken has a name, and
 //! has nothing executed.
 use crate::connections::Connections;
-use crate::frame::{CallFrame, Request, Response, LONGEST};
+use crate::frame::{receive, CallFrame, Request, Response, LONGEST};
 use crate::introduction::Introduction;
 use crate::{
     Call, CallError, Came, Fault, Fleet, JoinError, MeetError, Options, Retry, Router, Safety,
@@ -242,7 +242,7 @@ fn who_shows_another_secret_or_none_is_refused_by_name() {
         assert!(is_named, "{refused}");
     }
     drop(guarded.join(3, folder.secret("right")).unwrap());
-    // Who shows a secret where there is none learns that too.
+    // Who shows a secret though there is none learns that too.
     let open = Guarded::new(&SafetyOptions::default());
     let why = open.refusal(by_secret("right"));
     assert!(matches!(why, MeetError::OtherSecret), "{why}");
@@ -284,10 +284,45 @@ fn by_tls_only_certificates_of_the_authority_are_taken_within_their_time() {
     let refused = guarded.join(3, client.clone()).map(drop).unwrap_err();
     assert!(matches!(refused, JoinError::NoProcess), "{refused}");
     drop(guarded.join(3, own.clone()).unwrap());
-    // Who speaks TLS where nobody does learns that too.
+    // Who speaks TLS though nobody else does learns that too.
     let open = Guarded::new(&SafetyOptions::default());
     let why = open.refusal(of(&client));
     assert!(matches!(why, MeetError::Tls(_)), "{why:?}");
+}
+
+#[test]
+fn by_tls_too_whoever_loses_its_place_learns_that_nothing_was_done() {
+    if !is_openssl_there() {
+        return println!("openssl isn't installed, so nothing was tried");
+    }
+    let folder = Folder::made("place");
+    let own = folder.certify("fleet", "one", PEER_NAME, "");
+    let shown = folder.certify("fleet", "client", "client.example", "");
+    let shown = Safety::of(&shown).unwrap();
+    let guarded = Guarded::of(|it| Options {
+        connections: 1,
+        ..options(it, own.clone())
+    });
+    let settings = checksum(guarded.fleets[0].inner.settings.as_bytes());
+    let client = || Connections::new(Introduction::of_client(&shown, settings));
+    let (mut asked, mut room) = (Vec::new(), Vec::new());
+    Request::Routes.write(&mut asked);
+    let mut idle = client().connect(&guarded.address(), SOON).unwrap();
+    idle.set_read_timeout(SOON).unwrap();
+    idle.write_all(&asked).unwrap();
+    receive(&mut idle, &mut room).unwrap();
+    assert!(matches!(Response::read(&room), Ok(Response::Text(_))));
+    let (other, end) = (client(), Instant::now() + SOON);
+    let is_answered = || {
+        let answered = other.ask(&guarded.address(), &Request::Routes, SOON);
+        matches!(Response::read(&answered.unwrap()), Ok(Response::Text(_)))
+    };
+    // The first one is idle a moment after it was answered.
+    while !is_answered() {
+        assert!(Instant::now() < end, "it has its place still");
+    }
+    receive(&mut idle, &mut room).unwrap();
+    assert!(matches!(Response::read(&room), Ok(Response::Again(_))));
 }
 
 #[test]

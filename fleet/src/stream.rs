@@ -91,6 +91,14 @@ impl Stream {
         self.socket.set_read_timeout(Some(within))
     }
 
+    /// Reads as [`Read::read`] does, but takes nothing from the socket after this time.
+    pub(crate) fn read_before(&mut self, end: Instant, room: &mut [u8]) -> io::Result<usize> {
+        match &mut self.tls {
+            Some((reader, _)) => reader.read_before(end, room),
+            None => (&*self.socket).read(room),
+        }
+    }
+
     /// Has each write end after this time.
     pub(crate) fn set_write_timeout(&self, within: Duration) -> io::Result<()> {
         self.socket.set_write_timeout(Some(within))

@@ -15,6 +15,7 @@ use durkenzo_store::{
 };
 use durkenzo_store_sys::HandOver;
 use std::collections::{HashMap, HashSet};
+use std::io::{ErrorKind, Write};
 use std::sync::atomic::{AtomicBool, Ordering};
 use std::sync::{Arc, Mutex};
 use std::thread::{self, JoinHandle};
@@ -289,6 +290,11 @@ impl Trial {
 
     /// Begins such a fleet over this store.
     fn over(store: Arc<dyn Store>, lease: u64, keeps_changes: bool, plant: Option<Plant>) -> Trial {
+        Trial::with(store, keeps_changes, |server| options(server, lease, plant))
+    }
+
+    /// Begins a fleet over this store, each process of which has these options.
+    fn with(store: Arc<dyn Store>, keeps_changes: bool, options: impl Fn(u16) -> Options) -> Trial {
         let came = Arc::<Mutex<Vec<_>>>::default();
         let cuts: Vec<Arc<Cut>> = (0..SERVERS).map(|_| Arc::default()).collect();
         let fleets = (1..=SERVERS).zip(&cuts).map(|(server, cut)| {
@@ -300,7 +306,7 @@ impl Trial {
                 keeps_changes,
                 came: came.clone(),
             };
-            Fleet::join_over(counter, options(server, lease, plant), seen).unwrap()
+            Fleet::join_over(counter, options(server), seen).unwrap()
         });
         let fleets = fleets.collect();
         let (stops, clients) = Default::default();
@@ -764,6 +770,40 @@ fn whoever_is_connected_to_a_process_that_leaves_learns_that_nothing_was_done() 
         thread::sleep(Duration::from_millis(100));
         fleet.leave();
     });
+    trial.end();
+}
+
+#[test]
+fn whoever_loses_its_place_learns_that_nothing_was_done() {
+    use crate::frame::receive;
+    let one = |server| Options {
+        connections: 1,
+        ..options(server, 30, None)
+    };
+    let trial = Trial::with(Arc::new(Embedded::in_memory()), false, one);
+    let fleet = &trial.fleets[1];
+    let (address, settings) = (
+        fleet.address().to_string(),
+        checksum(fleet.inner.settings.as_bytes()),
+    );
+    let client = || Connections::new(Introduction::of_client(&Safety::default(), settings));
+    let (mut asked, mut room) = (Vec::new(), Vec::new());
+    Request::Routes.write(&mut asked);
+    let mut idle = client().connect(&address, SOON).unwrap();
+    idle.set_read_timeout(SOON).unwrap();
+    idle.write_all(&asked).unwrap();
+    receive(&mut idle, &mut room).unwrap();
+    assert!(matches!(Response::read(&room), Ok(Response::Text(_))));
+    // A client that is answered is idle a moment later.
+    let other = client();
+    trial.wait_until("another client has its place", || {
+        let answered = other.ask(&address, &Request::Routes, SOON).unwrap();
+        matches!(Response::read(&answered), Ok(Response::Text(_)))
+    });
+    receive(&mut idle, &mut room).unwrap();
+    assert!(matches!(Response::read(&room), Ok(Response::Again(_))));
+    let ended = receive(&mut idle, &mut room).unwrap_err();
+    assert_eq!(ended.kind(), ErrorKind::UnexpectedEof);
     trial.end();
 }
 

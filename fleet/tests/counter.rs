@@ -1,5 +1,5 @@
-//! The example of a counter in SQLite: what is late writes nothing, and no count is lost or made twice, whatever becomes
-//! of processes.
+//! The example of a counter in SQLite: what is late writes nothing, and no count is lost or made twice, whatever
+//! becomes of processes.
 #[allow(dead_code)]
 #[path = "../examples/counter.rs"]
 mod counter;

@@ -7,6 +7,7 @@ import re
 import shutil
 import signal
 import subprocess
+import threading
 import urllib.request
 
 import fleet
@@ -18,6 +19,8 @@ from testing.part import Verdict, verdict
 from testing.program import tool
 
 SECONDS = 600
+# How long a page may take to answer.
+ANSWER = 20
 # Each is found within this many minutes, or on a crowded machine in twice as many at each further try.
 PLANTED = {"lost-is-made": 0.2, "early-drop": 0.1}
 TRIES = 5
@@ -32,11 +35,25 @@ def skipped(say):
         say("etcd isn't installed: no cluster of several processes is tried; tools/setup installs it")
 
 
+@contextlib.contextmanager
+def watched(command):
+    """A demo that runs, and what it says. It is killed if it isn't over in time, or by the end of the block: so nobody
+    waits longer for what it says."""
+    with subprocess.Popen(command, stdout=subprocess.PIPE, stderr=subprocess.STDOUT, text=True) as run:
+        deadline = threading.Timer(SECONDS, run.kill)
+        deadline.start()
+        try:
+            yield run
+        finally:
+            deadline.cancel()
+            run.kill()
+
+
 def demo(room, program):
     """The demo begins, answers, and leaves nothing but logs."""
     folder = f"{room}/demo"
     command = [sources.TOP / "sm", "cluster", "demo", "--program", program, "--port", "0", "--folder", folder]
-    with subprocess.Popen(command, stdout=subprocess.PIPE, stderr=subprocess.STDOUT, text=True) as run:
+    with watched(command) as run:
         said = []
         for line in run.stdout:
             said.append(line)
@@ -61,7 +78,7 @@ def demo(room, program):
 def service(room):
     """The demo of a user's service answers, moves a shard that its page asks for, and leaves nothing but logs."""
     command = [sources.TOP / "sm", "fleet", "demo", "--port", "0", "--folder", f"{room}/service"]
-    with subprocess.Popen(command, stdout=subprocess.PIPE, stderr=subprocess.STDOUT, text=True) as run:
+    with watched(command) as run:
         said = []
         for line in run.stdout:
             said.append(line)
@@ -82,22 +99,28 @@ def service(room):
     yield verdict("the demo of a service leaves no process", not left, str(left))
 
 
+def page(asked):
+    """What the demo answers to this URL or request, in time."""
+    with urllib.request.urlopen(asked, timeout=ANSWER) as answer:
+        return answer.read()
+
+
 def moved(url):
     """Moves a shard by the page, and returns what isn't as it should be, or nothing."""
 
     def state(holds):
         def look():
-            found = json.loads(urllib.request.urlopen(f"{url}state.json").read())
+            found = json.loads(page(f"{url}state.json"))
             return found if found.get("shards") and holds(found) else None
 
         return fleet.served.eventually(look)
 
-    if b"<script>" not in urllib.request.urlopen(url).read():
+    if b"<script>" not in page(url):
         return "it is another page"
     begun = state(lambda it: it["calls"]["answered"] and all(row[1] == "Serving" for row in it["shards"]))
     target = str(int(begun["shards"][0][2]) % 3 + 1)
     how = {"method": "POST", "headers": {"X-Demo": "1"}}
-    urllib.request.urlopen(urllib.request.Request(f"{url}ask", f"MIGRATE 0 {target}".encode(), **how)).close()
+    page(urllib.request.Request(f"{url}ask", f"MIGRATE 0 {target}".encode(), **how))
     after = state(lambda it: it["shards"][0][1:3] == ["Serving", target])
     later = state(lambda it: it["calls"]["answered"] > after["calls"]["answered"])
     is_well = not later["calls"]["refused"] and not later["calls"]["unsure"]

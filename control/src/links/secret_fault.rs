@@ -13,7 +13,7 @@ pub enum SecretFault {
     #[error("{}: its first line is empty", .0.display())]
     EmptyFile(PathBuf),
     /// The variable of the environment has nothing.
-    #[error("{0} is empty: set it, or unset it where none is meant")]
+    #[error("{0} is empty: set it, or unset it if none is meant")]
     EmptyVariable(String),
     /// The file or the variable has more than a greeting has room for.
     #[error("{0}: a secret of processes has at most {MAX_SECRET} bytes")]

@@ -2,7 +2,7 @@ use super::shared_connection::SharedConnection;
 use std::io::{self, ErrorKind, Read};
 use std::net::{Shutdown, TcpStream};
 use std::sync::Arc;
-use std::time::Duration;
+use std::time::{Duration, Instant};
 
 /// How many bytes are taken from the socket at once.
 const ROOM: usize = 16 << 10;
@@ -44,6 +44,41 @@ impl ReadHalf {
         self.socket.set_read_timeout(most)
     }
 
+    /// Reads as [`Read::read`] does, but takes nothing from the socket after this time. By TLS one read may take many
+    /// pieces of a record from the socket, and the time of [`ReadHalf::set_timeout`] is for each of them.
+    ///
+    /// # Errors
+    ///
+    /// Those of [`Read::read`], and `TimedOut` if the time is over.
+    pub fn read_before(&mut self, end: Instant, bytes: &mut [u8]) -> io::Result<usize> {
+        self.read_while(bytes, || Instant::now() < end)
+    }
+
+    fn read_while(&mut self, bytes: &mut [u8], goes_on: impl Fn() -> bool) -> io::Result<usize> {
+        let Some(tls) = &mut self.tls else {
+            return match goes_on() {
+                true => self.socket.read(bytes),
+                false => Err(ErrorKind::TimedOut.into()),
+            };
+        };
+        loop {
+            // If OpenSSL has to answer something, the answer waits until the other half writes.
+            match tls.shared.lock().open(bytes) {
+                Err(error) if error.kind() == ErrorKind::WouldBlock => {}
+                opened => return opened,
+            }
+            if !goes_on() {
+                return Err(ErrorKind::TimedOut.into());
+            }
+            let count = self.socket.read(&mut tls.buffer)?;
+            let mut connection = tls.shared.lock();
+            match count {
+                0 => connection.note_end(),
+                _ => connection.feed(&tls.buffer[..count]),
+            }
+        }
+    }
+
     /// Ends the connection both ways, so that the other half notices too.
     pub fn end(&self) {
         // Where the peer was quicker it is done already.
@@ -59,21 +94,6 @@ impl Read for ReadHalf {
     /// `UnexpectedEof` where a connection by TLS ends untold, `InvalidData` where bytes aren't the peer's, and those of
     /// the socket.
     fn read(&mut self, bytes: &mut [u8]) -> io::Result<usize> {
-        let Some(tls) = &mut self.tls else {
-            return self.socket.read(bytes);
-        };
-        loop {
-            // If OpenSSL has to answer something, the answer waits until the other half writes.
-            match tls.shared.lock().open(bytes) {
-                Err(error) if error.kind() == ErrorKind::WouldBlock => {}
-                opened => return opened,
-            }
-            let count = self.socket.read(&mut tls.buffer)?;
-            let mut connection = tls.shared.lock();
-            match count {
-                0 => connection.note_end(),
-                _ => connection.feed(&tls.buffer[..count]),
-            }
-        }
+        self.read_while(bytes, || true)
     }
 }

@@ -8,7 +8,7 @@ use std::io::{BufWriter, ErrorKind, Read, Write};
 use std::net::{TcpListener, TcpStream};
 use std::path::{Path, PathBuf};
 use std::process::Command;
-use std::time::Duration;
+use std::time::{Duration, Instant};
 use std::{env, process, thread};
 
 const WITHIN: Duration = Duration::from_secs(60);
@@ -386,6 +386,36 @@ fn who_stalls_or_breaks_off_is_found_out() {
         ErrorKind::UnexpectedEof
     );
     drop(write);
+}
+
+#[test]
+fn a_read_has_a_time_in_all_however_slowly_a_record_comes() {
+    let Some(folder) = Folder::made("slow") else {
+        return;
+    };
+    folder.certify("cluster", "one", PEER_NAME);
+    let one = folder.peers("cluster", "one").unwrap();
+    let (left, right) = sockets();
+    let mut raw = right.try_clone().unwrap();
+    thread::scope(|scope| {
+        let accepted = scope.spawn(|| one.accept(right, WITHIN));
+        let (mut read, _write) = one.connect(left, WITHIN).unwrap();
+        let _halves = accepted.join().unwrap().unwrap();
+        scope.spawn(move || {
+            // A record of 16 KiB begins, until nobody reads it any more.
+            raw.write_all(&[0x17, 3, 3, 0x40, 0]).unwrap();
+            while raw.write_all(&[7]).is_ok() {
+                thread::sleep(Duration::from_millis(10));
+            }
+        });
+        read.set_timeout(Some(WITHIN)).unwrap();
+        let began = Instant::now();
+        let brief = began + Duration::from_millis(100);
+        let late = uninterrupted(|| read.read_before(brief, &mut [0; 9]));
+        assert_eq!(late.unwrap_err().kind(), ErrorKind::TimedOut);
+        assert!(began.elapsed() < WITHIN);
+        read.end();
+    });
 }
 
 /// What a call gives in the end that fails where the process is stopped meanwhile, and goes on.

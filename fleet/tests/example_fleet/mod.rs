@@ -18,8 +18,8 @@ pub struct ExampleFleet {
 }
 
 impl ExampleFleet {
-    /// Begins processes of the example with this in their environment, and waits until each owns shards; none where
-    /// etcd isn't installed.
+    /// Begins processes of the example with this in their environment, and waits until each owns shards; none if etcd
+    /// isn't installed.
     pub fn begin(name: &str, variable: (&str, &Path)) -> Option<ExampleFleet> {
         let Some(etcd) = OwnEtcd::begin() else {
             println!("etcd isn't installed, so nothing was tried");

@@ -31,7 +31,7 @@ pub struct OwnEtcd {
 }
 
 impl OwnEtcd {
-    /// Begins one; none where etcd isn't installed.
+    /// Begins one; none if etcd isn't installed.
     pub fn begin() -> Option<OwnEtcd> {
         let folder = std::env::temp_dir().join(format!("durkenzo-fleet-{}", std::process::id()));
         let [url, peer] = [free_port(), free_port()].map(|it| format!("http://127.0.0.1:{it}"));
