@@ -15,9 +15,9 @@ const ALL_READ: Revision = Revision(u64::MAX);
 /// A proved control without a store. It judges commands and says what comes next, by the stands and states that its
 /// owner gives it. The owner makes the commands, and says which were made.
 ///
-/// It takes for granted that each server sees each change at once, as servers of one process do, and waits for no ack: data
-/// in memory is used by one thread at a time, so a server lets go of a shard before its record changes. It knows no
-/// admissions and no generations: whoever makes a change judges these.
+/// It takes for granted that each server sees each change at once, as servers of one process do, and waits for no ack:
+/// data in memory is used by one thread at a time, so a server lets go of a shard before its record changes. It knows
+/// no admissions and no generations: whoever makes a change judges these.
 ///
 /// ```
 /// use durkenzo::Stand;

@@ -317,7 +317,25 @@ impl WorldModel {
                 format!("{server} from {before} to {state}: {:?}", self.states),
             );
         }
+        if state == STOPPED {
+            return self.stop(server);
+        }
         Ok(())
+    }
+
+    /// A server is stopped once it has let go of all shards that are paused for it.
+    fn stop(&self, server: u64) -> Result<(), Broken> {
+        let held = self.shards.iter().filter(|(&shard, it)| {
+            let is_paused = it.record.phase == 5 && it.record.owner == server;
+            is_paused && !self.has_let_go(shard, server, &it.record)
+        });
+        match held.min_by_key(|it| it.0) {
+            None => Ok(()),
+            Some((shard, it)) => broken(
+                "a server is stopped once it has let go of its paused shards",
+                format!("{server}, shard {shard}, {:?}: {:?}", it.record, self.acks),
+            ),
+        }
     }
 
     /// A state names a process of the server that began no earlier than the one before, and later if the server was

@@ -128,14 +128,23 @@ fn main() -> ExitCode {
     }
 }
 
-/// Runs one schedule, and draws it. A law that it breaks stands in the picture.
+/// Runs one schedule, and draws it. A law that it breaks stands in the picture. Only processes are drawn.
 fn draw(plan: Plan) -> ExitCode {
+    let part = plan.part;
     let ran = run_by(&Plan {
         is_shown: true,
         ..plan
     });
-    print!("{}", ran.picture.unwrap_or_default());
-    ExitCode::SUCCESS
+    match ran.picture {
+        Some(picture) => {
+            print!("{picture}");
+            ExitCode::SUCCESS
+        }
+        None => {
+            eprintln!("simulation: there is no picture of {part}: use --show");
+            ExitCode::from(2)
+        }
+    }
 }
 
 /// Runs schedules until one breaks a law, or time is over.

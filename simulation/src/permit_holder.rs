@@ -8,8 +8,8 @@ use durkenzo_store_sys::{HandOver, ShardView};
 use std::sync::Arc;
 use std::time::Duration;
 
-/// What a process knows of its permits: it asks the proved views as `durkenzo-fleet` does, and acks what they let go.
-/// Its shards have no bodies.
+/// What a process knows of its permits: it asks the proved views, and acks what they let go. It is a second writing of
+/// what `durkenzo-fleet` does in its `place`, `follower` and `settler`. Its shards have no bodies.
 pub struct PermitHolder {
     member: Arc<Member>,
     durable: Arc<Durable>,

@@ -20,6 +20,14 @@ pub struct Plan {
 }
 
 impl Plan {
+    /// Returns a plan for this part, of all faults of this seed, whose timeline isn't kept.
+    pub fn of_part(seed: u64, part: Part) -> Plan {
+        Plan {
+            part,
+            ..Plan::new(seed, None)
+        }
+    }
+
     /// Returns a plan for processes, of all faults of this seed, whose timeline isn't kept.
     pub fn new(seed: u64, bug: Option<Bug>) -> Plan {
         Plan {

@@ -42,15 +42,15 @@ pub const SERVERS: u16 = 3;
 /// One more than there are servers: one that is believed dead goes on.
 const PROCESSES: usize = 4;
 const SHARDS: u16 = 2;
-/// How many there are where processes have the control that ships.
+/// How many there are if processes have the control that ships.
 const CONTROLLED_SHARDS: u16 = 4;
-/// How many shards a server has room for where the schedule commands.
+/// How many shards a server has room for if the schedule commands.
 const ROOM: u16 = 9;
 const CLIENTS: u64 = 2;
 const EVENTS: u64 = 500;
-/// How many there are where processes have the control that ships.
+/// How many there are if processes have the control that ships.
 const CONTROLLED_EVENTS: u64 = 2_500;
-/// How many there are at least where processes have the links that ship.
+/// How many there are at least if processes have the links that ship.
 const LINKED_EVENTS: u64 = 1_500;
 /// How many batches a log has at most before a base stands for them.
 const MOST_BATCHES: u64 = 3;
@@ -58,7 +58,7 @@ const MOST_BATCHES: u64 = 3;
 /// as many of all things happen.
 const SETTLING: u64 = 60;
 const PERIOD: u64 = 50;
-/// So many times where processes have the links that ship: what a machine got that is gone is lost only then.
+/// So many times if processes have the links that ship: what a machine got that is gone is lost only then.
 const LINKED_SETTLING: u64 = 500;
 /// By this the numbers of chance of clocks differ from those of all else.
 const OF_CLOCKS: u64 = 0xc10c;
@@ -87,10 +87,10 @@ const HAPPENINGS: [(Happening, u64); 15] = [
     (World::pass_time, 7),
 ];
 
-/// What happens beside that where the schedule commands.
+/// What happens beside that if the schedule commands.
 const COMMANDED: [(Happening, u64); 2] = [(World::command, 11), (World::elect, 1)];
 
-/// What happens beside that where processes have the control that ships.
+/// What happens beside that if processes have the control that ships.
 const CONTROLLED: [(Happening, u64); 8] = [
     (World::take_turn, 100),
     (World::operate, 5),
@@ -102,7 +102,7 @@ const CONTROLLED: [(Happening, u64); 8] = [
     (World::renew_stopped, 2),
 ];
 
-/// What happens beside that where processes have the links that ship.
+/// What happens beside that if processes have the links that ship.
 const LINKED: [(Happening, u64); 4] = [
     (World::move_bytes, 80),
     (World::reach, 16),
@@ -110,7 +110,7 @@ const LINKED: [(Happening, u64); 4] = [
     (World::harm_network, 1),
 ];
 
-/// What happens beside that where a service executes by permits.
+/// What happens beside that if a service executes by permits.
 const PERMITTED: [(Happening, u64); 2] = [(World::serve, 30), (World::hand_over, 6)];
 
 pub struct World {
@@ -118,7 +118,7 @@ pub struct World {
     /// What happens in this schedule, and how often.
     happenings: Vec<(Happening, u64)>,
     shards: u16,
-    /// How the control is that processes have; none where the schedule commands.
+    /// How the control is that processes have; none if the schedule commands.
     control: Option<ControlShape>,
     ledger: SharedLedger,
     bug: Option<Bug>,

@@ -1,5 +1,7 @@
 //! Schedules leave no memory behind. It is measured of the whole process, so this is its only test.
-use simulation::world::run;
+use simulation::part::Part;
+use simulation::plan::Plan;
+use simulation::world::run_by;
 use std::fs;
 
 /// How many schedules are run before memory is measured, and then, and how many kilobytes may come to it meanwhile.
@@ -15,12 +17,18 @@ fn memory() -> u64 {
     number.and_then(|it| it.parse().ok()).expect("kilobytes")
 }
 
-/// Processes that have ended leave no memory behind, whatever waited in them.
+/// Processes and clients that have ended leave no memory behind, whatever waited in them.
 #[test]
 fn schedules_leave_no_memory_behind() {
-    (0..FIRST).for_each(|it| drop(run(it, None)));
-    let before = memory();
-    (FIRST..FIRST + LATER).for_each(|it| drop(run(it, None)));
-    let grown = memory().saturating_sub(before);
-    assert!(grown < MOST_GROWTH, "{LATER} schedules left {grown} kB");
+    for part in Part::ALL {
+        let pass = |it| drop(run_by(&Plan::of_part(it, part)));
+        (0..FIRST).for_each(pass);
+        let before = memory();
+        (FIRST..FIRST + LATER).for_each(pass);
+        let grown = memory().saturating_sub(before);
+        assert!(
+            grown < MOST_GROWTH,
+            "{LATER} schedules of {part} left {grown} kB"
+        );
+    }
 }

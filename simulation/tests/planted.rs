@@ -1,17 +1,19 @@
 //! Each planted bug is found by schedules of chance, and none is found where none is planted.
 use simulation::bug::{Bug, BUGS};
-use simulation::world::{run, transcript};
+use simulation::part::Part;
+use simulation::plan::Plan;
+use simulation::world::{run, run_by, transcript};
 
 const SCHEDULES: u64 = 20_000;
 
-fn found(bug: Option<Bug>, schedules: u64) -> Option<(u64, &'static str)> {
-    (0..schedules).find_map(|seed| run(seed, bug).1.err().map(|it| (seed + 1, it.law)))
+fn found(bug: Bug) -> Option<(u64, &'static str)> {
+    (0..SCHEDULES).find_map(|seed| run(seed, Some(bug)).1.err().map(|it| (seed + 1, it.law)))
 }
 
 #[test]
 fn planted_bugs_are_found() {
     for bug in BUGS {
-        let found = found(Some(bug), SCHEDULES);
+        let found = found(bug);
         println!("{bug:?}: {found:?}");
         assert!(
             found.is_some(),
@@ -24,10 +26,24 @@ fn planted_bugs_are_found() {
 fn one_seed_is_one_run() {
     for seed in 0..50 {
         assert!(transcript(seed) == transcript(seed), "seed {seed}");
+        for part in Part::ALL {
+            let plan = Plan {
+                is_shown: true,
+                ..Plan::of_part(seed, part)
+            };
+            let shown = || run_by(&plan).timeline.expect("it is shown");
+            assert!(shown() == shown(), "seed {seed}, {part}");
+        }
     }
 }
 
 #[test]
 fn nothing_is_found_where_nothing_is_planted() {
-    assert_eq!(found(None, 2_000), None);
+    for (part, seed) in Part::ALL
+        .into_iter()
+        .flat_map(|it| (0..2_000).map(move |seed| (it, seed)))
+    {
+        let verdict = run_by(&Plan::of_part(seed, part)).verdict;
+        verdict.unwrap_or_else(|it| panic!("seed {seed}, {part}: {}: {}", it.law, it.by));
+    }
 }

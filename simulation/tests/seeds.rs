@@ -5,17 +5,21 @@ use simulation::plan::Plan;
 use simulation::shrink::shrunk;
 use simulation::world::{run, run_by};
 
-/// The seeds that failed, each with why.
+/// The seeds that failed, each with its part and why.
 const SEEDS: &str = include_str!("../seeds.txt");
 
 #[test]
 fn seeds_that_failed_fail_no_more() {
     let lines = SEEDS.lines().filter(|it| !it.starts_with('#'));
     for line in lines {
-        let (seed, why) = line.split_once(' ').expect("a seed and why");
-        let seed = seed.parse().expect("a number");
-        if let Err(broken) = run(seed, None).1 {
-            panic!("seed {seed}, {why}: {}: {}", broken.law, broken.by);
+        let (seed, rest) = line.split_once(' ').expect("a seed and more");
+        let (part, why) = rest.split_once(' ').expect("a part and why");
+        let (seed, part) = (
+            seed.parse().expect("a number"),
+            part.parse().expect("a part"),
+        );
+        if let Err(broken) = run_by(&Plan::of_part(seed, part)).verdict {
+            panic!("seed {seed}, {part}, {why}: {}: {}", broken.law, broken.by);
         }
     }
 }

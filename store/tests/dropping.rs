@@ -3,7 +3,7 @@ mod beside;
 
 use beside::Member;
 use durkenzo_store::{Access, Embedded, Etcd, Seen, Store, Transaction};
-use std::sync::mpsc;
+use std::sync::mpsc::{self, RecvTimeoutError};
 use std::sync::Arc;
 use std::time::Duration;
 
@@ -56,5 +56,6 @@ fn a_watch_on_etcd_goes_on_once_its_store_is_dropped() {
     while !is_change(told.recv_timeout(PATIENCE).expect("the change")) {}
     // Its thread has ended once nobody can tell any more.
     drop(watch);
-    while told.recv_timeout(PATIENCE).is_ok() {}
+    let ended = std::iter::repeat_with(|| told.recv_timeout(PATIENCE)).find_map(Result::err);
+    assert_eq!(ended, Some(RecvTimeoutError::Disconnected));
 }

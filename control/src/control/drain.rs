@@ -32,6 +32,8 @@ pub(super) struct Drain {
     moved: Vec<(u16, u16)>,
     /// Until when moves that were refused are planned anew.
     end: Option<Instant>,
+    /// Until when it waits for the room that a migration under way takes.
+    room_end: Option<Instant>,
 }
 
 impl Drain {
@@ -47,6 +49,7 @@ impl Drain {
             current: None,
             moved: Vec::new(),
             end: None,
+            room_end: None,
         }
     }
 
@@ -158,7 +161,7 @@ impl Drain {
                 // Of a shard that stayed the plan tells what comes next.
                 Advance::Done(_) if control.is_at(migration.shard(), *to)? => {
                     self.moved.push((migration.shard(), *to));
-                    self.end = None;
+                    (self.end, self.room_end) = (None, None);
                 }
                 Advance::Done(_) => {}
                 other => return Ok(other),
@@ -185,8 +188,8 @@ impl Drain {
         Ok(Advance::Again)
     }
 
-    /// Whether a migration is under way, which takes room at two servers until it ends. No shard is paused meanwhile for
-    /// want of room: it would wait for the server's return. It is waited for a while.
+    /// Whether a migration is under way, which takes room at two servers until it ends. No shard is paused meanwhile
+    /// for want of room: it would wait for the server's return. The drain waits for the migration for a while.
     fn may_room_come(&mut self, control: &mut Controller) -> Result<bool, Refusal> {
         let mut is_moving = false;
         for shard in 0..control.backend.shards() {
@@ -198,8 +201,11 @@ impl Drain {
                 Some(Stand::Vacant | Stand::Serving(_) | Stand::Paused(_)) | None => false,
             };
         }
-        let end = *self.end.get_or_insert_with(|| control.patience());
-        Ok(is_moving && control.now() < end)
+        if !is_moving {
+            return Ok(false);
+        }
+        let end = *self.room_end.get_or_insert_with(|| control.patience());
+        Ok(control.now() < end)
     }
 
     /// Nothing more is to be moved, but for what was refused.
@@ -352,6 +358,20 @@ mod tests {
         (backend.plain().stands[0], backend.plain().is_full) = (Stand::Serving(2), true);
         ended(&backend, Drain::new(1, true)).unwrap();
         assert_eq!(backend.plain().stands[1], Stand::Paused(1));
+    }
+
+    #[test]
+    fn a_refused_move_is_planned_anew_for_as_long_after_a_shard_was_paused() {
+        let backend = PlainBackend::of(2, Stand::Serving(1));
+        (backend.plain().lasts, backend.plain().is_full) = (true, true);
+        let (mut control, mut drain) = (backend.control(), Drain::new(1, true));
+        drain.advance(&mut control).unwrap();
+        assert_eq!(backend.plain().stands[0], Stand::Paused(1));
+        // There is room later, and another task has the shard for a while.
+        backend.plain().passed += Duration::from_secs(3_600);
+        (backend.plain().is_full, backend.plain().busy) = (false, [(1, 5)].into());
+        let told = ended(&backend, drain).unwrap();
+        assert_eq!(told, ControlAnswer::of_moves([(1, 2)]));
     }
 
     #[test]

@@ -368,7 +368,7 @@ mod tests {
     fn begun(backend: Returning) -> (Controller, LeaderWatch, Instant) {
         let began = Clock::default().now();
         let clock = Clock::new(move || began);
-        let control = Controller::new(Arc::new(QuietHost), Box::new(backend), clock);
+        let control = Controller::new(Arc::new(QuietHost::default()), Box::new(backend), clock);
         let watch = LeaderWatch::new(false, Arc::default(), began);
         (control, watch, began)
     }

@@ -33,6 +33,10 @@ pub(super) struct Plain {
     pub(super) unmade: Option<Refused>,
     /// The shards that are busy, and for how many tries.
     pub(super) busy: BTreeMap<u16, u32>,
+    /// The server whose restart is approved, and waits until its shards are let go.
+    pub(super) approved: Option<u16>,
+    /// What a control that stands on it tells of servers.
+    pub(super) doing: BTreeMap<u16, Doing>,
 }
 
 impl PlainBackend {
@@ -49,6 +53,8 @@ impl PlainBackend {
             unkept: VecDeque::new(),
             unmade: None,
             busy: BTreeMap::new(),
+            approved: None,
+            doing: BTreeMap::new(),
         };
         PlainBackend(Arc::new(Mutex::new(plain)))
     }
@@ -57,7 +63,10 @@ impl PlainBackend {
     pub(super) fn control(&self) -> Controller {
         let this = self.clone();
         let clock = Clock::new(move || this.plain().now());
-        Controller::new(Arc::new(QuietHost), Box::new(self.clone()), clock)
+        let host = QuietHost {
+            noting: Some(self.clone()),
+        };
+        Controller::new(Arc::new(host), Box::new(self.clone()), clock)
     }
 
     /// What tests look at.
@@ -166,8 +175,11 @@ impl Backend for PlainBackend {
         })
     }
 
-    fn next_of_server(&mut self, _server: u16) -> Result<Next, BackendFault> {
-        Ok(Next::Nothing)
+    fn next_of_server(&mut self, server: u16) -> Result<Next, BackendFault> {
+        Ok(match self.plain().approved == Some(server) {
+            true => Next::Waits,
+            false => Next::Nothing,
+        })
     }
 
     fn next_of_drain(&mut self, server: u16) -> Result<Next, BackendFault> {
@@ -192,6 +204,7 @@ impl Backend for PlainBackend {
 
     fn state_of(&mut self, server: u16) -> Result<ServerState, BackendFault> {
         match server {
+            1 | 2 if self.plain().approved == Some(server) => Ok(ServerState::Approved),
             1 | 2 => Ok(ServerState::Up),
             _ => Err(RestartFault::UnknownServer.into()),
         }
@@ -232,7 +245,11 @@ impl ReplyTo for Teller {
 }
 
 /// A host that shows nothing, and has no pace.
-pub(super) struct QuietHost;
+#[derive(Default)]
+pub(super) struct QuietHost {
+    /// Where it notes what is under way at servers.
+    noting: Option<PlainBackend>,
+}
 
 impl ControlHost for QuietHost {
     fn is_stopping(&self) -> bool {
@@ -245,7 +262,13 @@ impl ControlHost for QuietHost {
 
     fn note_state(&self, _server: u16, _state: ServerState) {}
 
-    fn note_progress(&self, _server: u16, _doing: Option<Doing>) {}
+    fn note_progress(&self, server: u16, doing: Option<Doing>) {
+        if let Some(backend) = &self.noting {
+            let rows = &mut backend.plain().doing;
+            rows.remove(&server);
+            rows.extend(doing.map(|it| (server, it)));
+        }
+    }
 
     fn note_change(&self, _command: ControlCommand) {}
 

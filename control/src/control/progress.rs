@@ -12,6 +12,8 @@ pub enum Doing {
     Waiting(Option<(u16, ServerState)>),
     /// Shards of the server go to others.
     Draining(Share),
+    /// Other tasks are to end that have shards of the server, and its process is to ack those that are paused for it.
+    LettingGo,
     /// No thread is to have a pass of the server.
     Stopping,
     /// Its process is to be ended, and begun again.
@@ -43,6 +45,7 @@ impl fmt::Display for Doing {
                 write!(f, "waiting for server {server}, {}", state.name())
             }
             Doing::Draining(share) => write!(f, "draining {share}"),
+            Doing::LettingGo => f.write_str("waiting until its shards are let go"),
             Doing::Stopping => f.write_str("stopping"),
             Doing::Ended => f.write_str("waiting for its process to be ended and begun again"),
             Doing::Returning(share) => write!(f, "returning {share}"),

@@ -176,9 +176,11 @@ impl Restart {
         }
     }
 
-    /// Waits for shards that other tasks have, and that name the server still. What doesn't outlive the process may
-    /// have been begun by hand, and nobody goes on with it: then the restart is given up after a while.
+    /// Waits for shards that other tasks have, and that name the server still, and for acks of those that are paused.
+    /// What doesn't outlive the process may have been begun by hand, and nobody goes on with it: then the restart is
+    /// given up after a while.
     fn await_shards(&mut self, control: &mut Controller) -> Result<Advance, Refusal> {
+        control.tell(self.server, Doing::LettingGo);
         if control.backend.lasts() {
             return Ok(Advance::Later);
         }
@@ -401,4 +403,21 @@ impl Restart {
 fn stopped(server: u16) -> ControlAnswer {
     let told = format!("server {server} is stopped: end its process, and start it again");
     ControlAnswer::Line(told)
+}
+
+#[cfg(test)]
+mod tests {
+    use super::super::plain_backend::PlainBackend;
+    use super::*;
+    use durkenzo::Stand;
+
+    #[test]
+    fn it_is_told_that_a_paused_shard_is_to_be_let_go() {
+        let backend = PlainBackend::of(1, Stand::Paused(1));
+        (backend.plain().lasts, backend.plain().approved) = (true, Some(1));
+        let (mut control, mut restart) = (backend.control(), Restart::going_on(1));
+        let waits = restart.advance(&mut control).unwrap();
+        assert!(matches!(waits, Advance::Later), "{waits:?}");
+        assert_eq!(backend.plain().doing.get(&1), Some(&Doing::LettingGo));
+    }
 }

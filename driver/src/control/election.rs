@@ -30,8 +30,8 @@ impl DurableControl {
     }
 }
 
-/// The proved control of this process, which was elected at this revision. Without a server of its own the process has all
-/// servers, so commands wait for no ack.
+/// The proved control of this process, which was elected at this revision. Without a server of its own the process has
+/// all servers, so commands wait for no ack.
 pub(super) fn director(
     durable: &Durable,
     line: &str,

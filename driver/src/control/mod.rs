@@ -224,8 +224,29 @@ impl DurableControl {
         self.director.acked(acks.into_iter()).map_err(Refused::of)
     }
 
-    /// The servers whose acks may be waited for, each with the shard: those that the shard's record names, or the server
-    /// with each shard that is paused for it.
+    /// Tells the director the acks that the command may wait for: those of the shard that it changes, or of all shards
+    /// that are paused for the server that is to be stopped.
+    fn hear_acks_for(&mut self, command: ControlCommand) -> Result<(), Refused> {
+        match command {
+            ControlCommand::Ask(_)
+            | ControlCommand::Approve(_)
+            | ControlCommand::Back(_)
+            | ControlCommand::Fail(_) => Ok(()),
+            ControlCommand::Assign(..)
+            | ControlCommand::PrepareAddShard(..)
+            | ControlCommand::PrepareDropShard(_)
+            | ControlCommand::AddShard(_)
+            | ControlCommand::DropShard(_)
+            | ControlCommand::Cancel(_)
+            | ControlCommand::Pause(_)
+            | ControlCommand::Resume(_)
+            | ControlCommand::Reassign(..)
+            | ControlCommand::Stopped(_) => self.hear_acks(command.subject()),
+        }
+    }
+
+    /// The servers whose acks may be waited for, each with the shard: those that the shard's record names, or the
+    /// server with each shard that is paused for it.
     fn awaited(&mut self, subject: Subject) -> Result<Vec<(u16, u16)>, Refused> {
         let mut awaited = Vec::new();
         match subject {
@@ -269,7 +290,7 @@ impl DurableControl {
             if let ControlCommand::DropShard(shard) = command {
                 self.follow_if_taken(shard)?;
             }
-            self.hear_acks(command.subject())?;
+            self.hear_acks_for(command)?;
             let runs = self.process_of(command)?;
             self.director.command(command, runs).map_err(Refused::of)?;
             let sending = self.director.sending().map_err(Refused::of)?;

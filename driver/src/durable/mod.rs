@@ -51,7 +51,7 @@ impl Durable {
     ///
     /// # Errors
     ///
-    /// Where the store can't be read or written.
+    /// If the store can't be read or written.
     pub fn open(
         store: Arc<dyn Store>,
         shards: u16,
@@ -62,12 +62,12 @@ impl Durable {
         Durable::begin(store, shards, tuning, (process, None), on_change)
     }
 
-    /// The shards of this store, of which this process has one server, and others have the others; all else is as where
-    /// it has all.
+    /// The shards of this store, of which this process has one server, and others have the others; all else is as if
+    /// it had all.
     ///
     /// # Errors
     ///
-    /// Where the store can't be read or written.
+    /// If the store can't be read or written.
     pub fn open_one(
         store: Arc<dyn Store>,
         shards: u16,
@@ -98,7 +98,7 @@ impl Durable {
     ///
     /// # Errors
     ///
-    /// Where the store can't be read.
+    /// If the store can't be read.
     pub fn open_without_threads(
         store: Arc<dyn Store>,
         shards: u16,
@@ -166,7 +166,7 @@ impl Durable {
         self.inner.process
     }
 
-    /// The server of this process, where it has one.
+    /// The server of this process, if it has one.
     pub fn member(&self) -> Option<&Arc<Member>> {
         self.inner.own.as_ref().map(|it| &it.member)
     }
@@ -197,8 +197,9 @@ impl Durable {
         });
     }
 
-    /// Has the shard do what came from another process so, where it has waited since then, once the record was seen of
-    /// its revision. Where this process's server isn't who executes it, it ends with [`NotDone::Moved`].
+    /// Has the shard do work that another process forwarded so, and that has waited there since then. The work waits
+    /// until the record of its revision was seen. If this process's server doesn't execute the shard, the work ends with
+    /// [`NotDone::Moved`].
     pub fn submit_from(&self, shard: u16, steps: Vec<WorkStep>, came: Came, since: Instant) {
         let Some(steps) = self.taken(steps) else {
             return;
@@ -220,7 +221,7 @@ impl Durable {
         });
     }
 
-    /// The steps that may be done; the others come to their end. None where the process or the store has ended.
+    /// The steps that may be done; the others come to their end. None if the process or the store has ended.
     fn taken(&self, steps: Vec<WorkStep>) -> Option<Vec<WorkStep>> {
         let is_over = self.inner.is_stopping();
         if is_over || self.inner.ended.get().is_some() {

@@ -32,9 +32,9 @@ use std::time::Duration;
 const PARTS: u32 = 3;
 /// How long is waited before a server's key is written again that couldn't be.
 const PAUSE: Duration = Duration::from_millis(50);
-/// How long that is where another process has the server's name.
+/// How long that is if another process has the server's name.
 const TAKEN_PAUSE: Duration = Duration::from_secs(1);
-/// How long it isn't told how far the server follows, where nothing waits for that: each telling is seen by all.
+/// How long it isn't told how far the server follows, if nothing waits for that: each telling is seen by all.
 const LAG: Duration = Duration::from_millis(500);
 /// How many other processes begin before one that goes on takes another number: its shards keep the last requests of
 /// all that began since the first number by which any has requests.
@@ -42,7 +42,7 @@ const BEGUN: u64 = 8;
 
 /// A server of a store that others share, as its key tells them: there as long as its lease is kept.
 ///
-/// Where the lease has ended, as the process was stopped or didn't reach the store for so long, it takes another one.
+/// If the lease has ended, as the process was stopped or didn't reach the store for so long, it takes another one.
 pub struct Member {
     inner: Arc<MemberInner>,
     watches: Mutex<Vec<Watch>>,
@@ -54,7 +54,7 @@ impl Member {
     /// Has this server be there, under a lease of that length. `on_change` is told when a server's key, or the
     /// leader's, has changed.
     ///
-    /// Where the server's key is there it is waited for the length of a lease, and a little longer, that it goes.
+    /// If the server's key is there, it waits for the length of a lease, and a little longer, until the key is gone.
     ///
     /// # Errors
     ///
@@ -86,8 +86,8 @@ impl Member {
     }
 
     /// Begins to join as [`Member::join`] does, but starts no thread and waits for nothing. The caller has
-    /// [`Joining::turn`], and then [`Member::turn`], do what is due. `clock` tells when that is, and `passed` is the clock
-    /// of the lease: the time since some beginning. Such a server can be simulated: to drop it is a crash.
+    /// [`Joining::turn`], and then [`Member::turn`], do what is due. `clock` tells when that is, and `passed` is the
+    /// clock of the lease: the time since some beginning. Such a server can be simulated: to drop it is a crash.
     ///
     /// # Errors
     ///
@@ -129,9 +129,9 @@ impl Member {
         })
     }
 
-    /// Does what is due, of a server without a thread: keeps the lease three times in its length, or takes another one if
-    /// it has ended, and writes the server's key if that has more to tell. Returns for how long nothing is due then, if
-    /// nothing is told to the server meanwhile; none once it has left.
+    /// Does what is due, of a server without a thread: keeps the lease three times in its length, or takes another one
+    /// if it has ended, and writes the server's key if that has more to tell. Returns for how long nothing is due then,
+    /// if nothing is told to the server meanwhile; none once it has left.
     pub fn turn(&self) -> Option<Duration> {
         self.inner.turn()
     }
@@ -167,7 +167,7 @@ impl Member {
         self.inner.seen().changes
     }
 
-    /// The process that leads, as it was seen last; none where none does.
+    /// The process that leads, as it was seen last; none if none does.
     pub fn leader(&self) -> Option<u64> {
         self.inner.seen().leader.map(|it| it.0)
     }
@@ -179,14 +179,14 @@ impl Member {
         seen.led < elected || leader.is_some_and(|it| it.1 >= elected)
     }
 
-    /// Leaves: others see at once that this server isn't there any more. Where the lease can't be ended now it ends by
+    /// Leaves: others see at once that this server isn't there any more. If the lease can't be ended now, it ends by
     /// itself.
     pub fn leave(&self) {
         self.inner.end();
         self.inner.end_lease();
     }
 
-    /// The lease, where the server's key lies under it: what is written under it is gone when this process is.
+    /// The lease, if the server's key lies under it: what is written under it is gone when this process is.
     pub fn lease(&self) -> Option<LeaseId> {
         let state = self.inner.state();
         state.lease.filter(|_| state.written > Revision::NEVER)
@@ -288,7 +288,7 @@ impl Member {
         self.inner.store.submit(transaction, Box::new(|_| {}));
     }
 
-    /// Tells others that this process goes by all records up to this revision: at once where one of them is awaited by
+    /// Tells others that this process goes by all records up to this revision: at once if one of them is awaited by
     /// whoever leads, and else soon.
     pub(crate) fn follow(&self, revision: Revision, is_awaited: bool) {
         let mut state = self.inner.state();

@@ -14,8 +14,20 @@ pub fn judge(keyspace: &Keyspace, keys: &[Vec<u8>], record: &Record) -> Result<(
     let Some((told, ended)) = &record.told else {
         return Err(broken("what is asked is answered or refused", record));
     };
-    let span = (record.begun, *ended);
-    let verdict = match (&record.asked, told) {
+    let is_kept = is_true(keyspace, keys, record, (told, *ended));
+    let verdict = is_kept.and_then(|()| is_done_if_steady(told, record));
+    verdict.map_err(|law| broken(law, record))
+}
+
+/// Whether what was told until this revision is true.
+fn is_true(
+    keyspace: &Keyspace,
+    keys: &[Vec<u8>],
+    record: &Record,
+    (told, ended): (&Told, u64),
+) -> Verdict {
+    let span = (record.begun, ended);
+    match (&record.asked, told) {
         (Asked::Make(transaction), Told::Became(became)) => {
             is_true_outcome(keyspace, transaction, became, span)
         }
@@ -35,12 +47,31 @@ pub fn judge(keyspace: &Keyspace, keys: &[Vec<u8>], record: &Record) -> Result<(
             are_true_keys(keyspace, of, found, span)
         }
         (_, Told::Kept(kept)) => is_true_of_lease(kept, record),
-        (_, Told::Revoked(Err(LeaseError::Ended(_)))) if record.is_there => {
+        (_, Told::Revoked(Ok(()) | Err(LeaseError::Ended(_)))) if record.is_there => {
             Err("a lease that goes on isn't told as ended")
         }
+        (_, Told::Granted(Ok(_))) if !record.is_there => Err("a lease that is granted is there"),
         _ => Ok(()),
+    }
+}
+
+/// All is done that is asked while members answer and calls aren't harmed, except under a lease that has ended. Whether
+/// room is given back isn't judged.
+fn is_done_if_steady(told: &Told, record: &Record) -> Verdict {
+    let is_done = match told {
+        Told::Became(became) => matches!(became, Ok(_) | Err(WriteError::LeaseEnded)),
+        Told::Read(read) => read.is_ok(),
+        Told::Keys(read) => read.is_ok(),
+        Told::Granted(granted) => granted.is_ok(),
+        Told::Kept(ended) | Told::Revoked(ended) => {
+            matches!(ended, Ok(()) | Err(LeaseError::Ended(_)))
+        }
+        Told::Compacted => true,
     };
-    verdict.map_err(|law| broken(law, record))
+    match is_done || !record.is_steady {
+        true => Ok(()),
+        false => Err("what is asked while nothing is wrong is done"),
+    }
 }
 
 fn broken(law: &'static str, record: &Record) -> Broken {
@@ -77,30 +108,8 @@ fn is_true_outcome(
     span: (u64, u64),
 ) -> Verdict {
     let made = revisions_of(keyspace, transaction);
-    let is_within = |it: Revision| span.0 <= it.0 && it.0 <= span.1;
     match became {
-        Ok(Outcome::Made(revision)) if transaction.writes() => {
-            match made == [revision.0] && holds_at(keyspace, transaction, revision.0 - 1) {
-                true if is_within(*revision) => Ok(()),
-                _ => Err("what is told as made was made once, as its compares held"),
-            }
-        }
-        Ok(Outcome::Made(revision)) => {
-            match is_within(*revision) && holds_at(keyspace, transaction, revision.0) {
-                true => Ok(()),
-                false => Err("compares that are told to hold held after they were asked"),
-            }
-        }
-        Ok(Outcome::Lost(reading)) => {
-            let held = holds_at(keyspace, transaction, reading.revision.0);
-            match made.is_empty() && is_within(reading.revision) && !held {
-                true => {
-                    let of = transaction.reads.iter();
-                    is_true_reading(keyspace, of, usize::MAX, reading, span)
-                }
-                false => Err("what is told as lost wasn't made, as its compares didn't hold"),
-            }
-        }
+        Ok(outcome) => is_true_ending(keyspace, transaction, &made, outcome, span),
         Err(WriteError::Unknown(_)) if made.len() <= 1 => Ok(()),
         Err(WriteError::Full(_)) if was_deleted(keyspace, transaction, &made, span.1) => Ok(()),
         Err(WriteError::Unknown(_)) => Err("nothing is made twice"),
@@ -120,8 +129,43 @@ fn is_true_outcome(
     }
 }
 
-/// Whether a key that the transaction made was deleted until then. Of a full store the client looks whether the key lies
-/// as it was compared: if it was to be new, it doesn't see that it was made and deleted meanwhile.
+/// Whether a transaction that was made at these revisions ended so.
+fn is_true_ending(
+    keyspace: &Keyspace,
+    transaction: &Transaction,
+    made: &[u64],
+    outcome: &Outcome,
+    span: (u64, u64),
+) -> Verdict {
+    let is_within = |it: Revision| span.0 <= it.0 && it.0 <= span.1;
+    match outcome {
+        Outcome::Made(revision) if transaction.writes() => {
+            match made == [revision.0] && holds_at(keyspace, transaction, revision.0 - 1) {
+                true if is_within(*revision) => Ok(()),
+                _ => Err("what is told as made was made once, as its compares held"),
+            }
+        }
+        Outcome::Made(revision) => {
+            match is_within(*revision) && holds_at(keyspace, transaction, revision.0) {
+                true => Ok(()),
+                false => Err("compares that are told to hold held after they were asked"),
+            }
+        }
+        Outcome::Lost(reading) => {
+            let held = holds_at(keyspace, transaction, reading.revision.0);
+            match made.is_empty() && is_within(reading.revision) && !held {
+                true => {
+                    let of = transaction.reads.iter();
+                    is_true_reading(keyspace, of, usize::MAX, reading, span)
+                }
+                false => Err("what is told as lost wasn't made, as its compares didn't hold"),
+            }
+        }
+    }
+}
+
+/// Whether a key that the transaction made was deleted until then. If a store is full, the client looks whether the key
+/// is as it was compared: if it was to be new, the client doesn't see that it was made and deleted meanwhile.
 fn was_deleted(keyspace: &Keyspace, transaction: &Transaction, made: &[u64], until: u64) -> bool {
     let mut compares = transaction.compares.iter();
     let is_gone = |key: &[u8]| match made {

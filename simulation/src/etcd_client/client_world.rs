@@ -18,6 +18,7 @@ use crate::time::Time;
 use crate::timeline::{Column, Timeline};
 use durkenzo_store::{EtcdClient, KeyChange, LeaseId, NoAnswer, Revision, Seen, Transaction};
 use std::collections::VecDeque;
+use std::num::NonZeroUsize;
 use std::sync::{Arc, Mutex};
 use std::time::Duration;
 
@@ -153,7 +154,8 @@ impl ClientWorld {
                 place,
                 members: (first..first + MEMBERS).map(|it| it % MEMBERS).collect(),
             };
-            EtcdClient::new(Arc::new(environment), MEMBERS, PATIENCE, None)
+            let members = NonZeroUsize::new(MEMBERS).expect("there are members");
+            EtcdClient::new(Arc::new(environment), members, PATIENCE, None)
         };
         let clients = (0..CLIENTS).map(&mut client).collect();
         ClientWorld {
@@ -222,31 +224,11 @@ impl ClientWorld {
     fn ask(&mut self) {
         let asked = self.asked();
         let place = self.chance.below(CLIENTS as u64) as usize;
-        let lease = match &asked {
-            Asked::Keep(lease) | Asked::Revoke(lease) => Some(*lease),
-            _ => None,
-        };
-        let (store, time) = (self.store.clone(), self.time.clone());
-        let is_there = move |store: &SharedStore| {
-            lease.is_some_and(|it| locked(store).keyspace.keys_of(it).is_some())
-        };
-        let begun = locked(&store).revision();
-        let was_there = is_there(&store);
-        let mut records = self.records.lock().expect("no panic");
-        records.push(Record {
-            asked: asked.clone(),
-            begun,
-            begun_at: time.passed(),
-            was_there,
-            told: None,
-            is_there: false,
-            is_due: false,
-        });
-        let at = records.len() - 1;
-        drop(records);
+        let at = self.note_asked(&asked);
         self.timeline.note(Column::Process(place), || {
             format!("{at} asks {}", asked.shown())
         });
+        let (store, time) = (self.store.clone(), self.time.clone());
         let (client, records) = (self.clients[place].clone(), self.records.clone());
         let (steady, timeline) = (self.steady_since.clone(), self.timeline.clone());
         self.tasks.add(async move {
@@ -254,11 +236,40 @@ impl ClientWorld {
             timeline.note(Column::Process(place), || format!("{at} {}", told.shown()));
             let record = &mut records.lock().expect("no panic")[at];
             let revision = locked(&store).revision();
+            record.is_there = ClientWorld::has_lease(&store, &asked, Some(&told));
             record.told = Some((told, revision));
-            record.is_there = is_there(&store);
             let since = steady.lock().expect("no panic")[place];
             record.is_due = time.passed().saturating_sub(since.max(record.begun_at)) >= STEADY;
+            record.is_steady = since < record.begun_at;
         });
+    }
+
+    /// Notes what a client is asked for, and returns its place.
+    fn note_asked(&mut self, asked: &Asked) -> usize {
+        let was_there = ClientWorld::has_lease(&self.store, asked, None);
+        let begun = locked(&self.store).revision();
+        let mut records = self.records.lock().expect("no panic");
+        records.push(Record {
+            asked: asked.clone(),
+            begun,
+            begun_at: self.time.passed(),
+            was_there,
+            told: None,
+            is_there: false,
+            is_due: false,
+            is_steady: false,
+        });
+        records.len() - 1
+    }
+
+    /// Whether the lease of what is asked, or of what was told of it, is there.
+    fn has_lease(store: &SharedStore, asked: &Asked, told: Option<&Told>) -> bool {
+        let lease = match (asked, told) {
+            (_, Some(Told::Granted(Ok(lease)))) => Some(*lease),
+            (Asked::Keep(lease) | Asked::Revoke(lease), _) => Some(*lease),
+            _ => None,
+        };
+        lease.is_some_and(|it| locked(store).keyspace.keys_of(it).is_some())
     }
 
     fn asked(&mut self) -> Asked {
@@ -339,6 +350,9 @@ impl ClientWorld {
         };
         let column = Column::Process(place);
         let is_there = locked_calls(&self.calls).is_awaited(number);
+        if reached != Reached::Answers {
+            self.harm(place);
+        }
         match reached {
             Reached::IsGone if is_there => {
                 let why = NoAnswer::Unreachable("the member is gone".to_owned());
@@ -398,6 +412,9 @@ impl ClientWorld {
             (call.path, call.asked.clone())
         };
         let mut answer = locked(&self.store).answer(member, path, &asked);
+        if locked(&self.store).is_full() {
+            self.harm(place);
+        }
         let column = Column::Process(place);
         if path == "/v3/kv/txn" && self.fails(Fault::SentTwice, 12, column) {
             // What comes of the copy nobody learns.
@@ -408,6 +425,7 @@ impl ClientWorld {
             return self.break_call(number, place);
         }
         if path == "/v3/kv/txn" && self.fails(Fault::FullThoughMade, 30, column) {
+            self.harm(place);
             answer = GatewayAnswer::Whole(REFUSED, json::refusal(EtcdRefusal::NoSpace));
         }
         match answer {

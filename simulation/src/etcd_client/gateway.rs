@@ -27,28 +27,11 @@ impl SimulatedStore {
         let asked: Value = serde_json::from_slice(asked).expect("JSON of the client");
         match path {
             "/v3/kv/txn" => self.answer_transaction(member, &json::transaction(&asked)),
+            path if path.starts_with("/v3/lease/") => self.answer_of_lease(path, &asked),
             "/v3/kv/range" => {
                 let found = self.keyspace.range(&json::range_query(&asked));
                 let revision = self.revision();
                 whole(found.map(|it| json::range_reply(revision, &it, &asked)))
-            }
-            "/v3/lease/grant" => {
-                let seconds = json::number(&asked["TTL"]);
-                let granted = self.grant(Duration::from_secs(seconds));
-                let granted = granted.ok_or(EtcdRefusal::NoSpace);
-                let revision = self.revision();
-                whole(granted.map(|it| json::lease(revision, it, seconds)))
-            }
-            "/v3/lease/keepalive" => {
-                let lease = LeaseId(json::number(&asked["ID"]) as i64);
-                let seconds = u64::from(self.keep(lease));
-                GatewayAnswer::Line(json::lease(self.revision(), lease, seconds))
-            }
-            "/v3/lease/revoke" => {
-                let is_ended = self.revoke(LeaseId(json::number(&asked["ID"]) as i64));
-                let ended = is_ended.then_some(()).ok_or(EtcdRefusal::NoLease);
-                let revision = self.revision();
-                whole(ended.map(|()| json::nothing(revision)))
             }
             "/v3/watch" => {
                 let asked = &asked["create_request"];
@@ -62,6 +45,30 @@ impl SimulatedStore {
             }
             // A member gives back its room, and has no alarm.
             _ => GatewayAnswer::Whole(DONE, json::nothing(self.revision())),
+        }
+    }
+
+    /// Grants a lease, keeps it, or else ends it.
+    fn answer_of_lease(&mut self, path: &str, asked: &Value) -> GatewayAnswer {
+        let lease = LeaseId(json::number(&asked["ID"]) as i64);
+        match path {
+            "/v3/lease/grant" => {
+                let seconds = json::number(&asked["TTL"]);
+                let granted = self.grant(Duration::from_secs(seconds));
+                let granted = granted.ok_or(EtcdRefusal::NoSpace);
+                let revision = self.revision();
+                whole(granted.map(|it| json::lease(revision, it, seconds)))
+            }
+            "/v3/lease/keepalive" => {
+                let seconds = u64::from(self.keep(lease));
+                GatewayAnswer::Line(json::lease(self.revision(), lease, seconds))
+            }
+            _ => {
+                let is_ended = self.revoke(lease);
+                let ended = is_ended.then_some(()).ok_or(EtcdRefusal::NoLease);
+                let revision = self.revision();
+                whole(ended.map(|()| json::nothing(revision)))
+            }
         }
     }
 

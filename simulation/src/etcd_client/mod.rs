@@ -1,5 +1,5 @@
-//! The client of etcd as it ships, which asks the simulated etcd by the JSON of its gateway, byte for byte. It isn't told
-//! by these schedules what the processes of the others do: those have ways to members of their own.
+//! The client of etcd as it ships, which asks the simulated etcd by the JSON of its gateway, byte for byte. It isn't
+//! told by these schedules what the processes of the others do: those have ways to members of their own.
 mod calls;
 mod client_environment;
 mod client_law;

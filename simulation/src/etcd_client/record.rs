@@ -107,6 +107,8 @@ pub struct Record {
     pub is_there: bool,
     /// Whether nothing was wrong for so long that it has to be done.
     pub is_due: bool,
+    /// Whether nothing was wrong since it was asked.
+    pub is_steady: bool,
 }
 
 /// What a watch told.

@@ -35,8 +35,8 @@ impl World {
         }
     }
 
-    /// A process starts at this place, unless one runs or begins there. Mostly it doesn't if another process has the key
-    /// of its server, for which it would wait.
+    /// A process starts at this place, unless one runs or begins there. Mostly it doesn't if another process has the
+    /// key of its server, for which it would wait.
     pub(super) fn start_at(&mut self, at: usize) {
         let is_free = self.processes[at].is_none() && self.beginnings[at].is_none();
         let key = format!("server/{:05}", server_of(at));

@@ -12,6 +12,7 @@ use crate::{
 };
 use serde::de::IgnoredAny;
 use std::fmt;
+use std::num::NonZeroUsize;
 use std::sync::Arc;
 use std::time::Duration;
 
@@ -20,12 +21,12 @@ const MOST_OPERATIONS: usize = 128;
 
 /// How many pairs are asked for at a time.
 const PAGE: usize = 512;
-/// How many keys are, where what lies there isn't.
+/// How many keys are, if their values aren't.
 const KEYS: usize = 8_192;
 
 /// The client of etcd by which a store on it asks its members. It decides which member is asked, how long, and how
-/// often; it has no threads, no sockets and no clock of its own, so whoever gives it an [`Environment`] and polls it can
-/// simulate it.
+/// often; it has no threads, no sockets and no clock of its own, so whoever gives it an [`Environment`] and polls it
+/// can simulate it.
 ///
 /// Each call is as the one of [`Store`](crate::Store) by its name.
 #[derive(Clone)]
@@ -34,15 +35,15 @@ pub struct EtcdClient {
 }
 
 impl EtcdClient {
-    /// Returns a client of so many members, one at least, which waits so long for an answer, and is known to etcd by this
-    /// name and password, if it asks for them.
+    /// Returns a client of so many members, which waits so long for an answer. The user is a name and a password, if
+    /// etcd asks for them.
     pub fn new(
         environment: Arc<dyn Environment>,
-        members: usize,
+        members: NonZeroUsize,
         patience: Duration,
         user: Option<(String, String)>,
     ) -> EtcdClient {
-        let gateway = Gateway::new(environment, members, patience, user);
+        let gateway = Gateway::new(environment, members.get(), patience, user);
         EtcdClient {
             gateway: Arc::new(gateway),
         }
@@ -52,7 +53,8 @@ impl EtcdClient {
     ///
     /// # Errors
     ///
-    /// As [`WriteError`] says. Only after [`WriteError::Unknown`] may it have been made.
+    /// As [`WriteError`] says. Only after [`WriteError::Unknown`] may it have been made, and after [`WriteError::Full`]
+    /// if it made a new key that was deleted before the client could look.
     pub async fn make(&self, transaction: &Transaction) -> Result<Outcome, WriteError> {
         let request = TransactionRequest::of(transaction);
         let found = self
@@ -171,7 +173,8 @@ impl fmt::Debug for EtcdClient {
 }
 
 /// Whether a transaction wasn't made that was refused for want of room: etcd may make one that takes the last of it,
-/// and says so all the same. Where a key that it compares and writes is as it was, it wasn't.
+/// and still refuse it. If a key that it compares and writes is as it was, it wasn't made. A new key may also have been
+/// made and deleted since, which the client can't see.
 async fn is_unmade(gateway: &Gateway, transaction: &Transaction) -> bool {
     let is_written = |key: &[u8]| transaction.puts.iter().any(|it| it.key == key);
     let Some(compared) = transaction.compares.iter().find(|it| is_written(&it.key)) else {

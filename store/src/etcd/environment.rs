@@ -1,4 +1,5 @@
 //! What the client of etcd needs around it: members that answer calls, and time.
+use std::fmt;
 use std::future::Future;
 use std::pin::Pin;
 use std::time::Instant;
@@ -9,7 +10,7 @@ pub type Later<'a, T> = Pin<Box<dyn Future<Output = T> + Send + 'a>>;
 
 /// Calls members of etcd, and tells the time. A program calls them by sockets; a simulation by what it has.
 pub trait Environment: Send + Sync + 'static {
-    /// Posts a call to a member. The call may be dropped before it is answered; the member may have done it all the same.
+    /// Posts a call to a member. The call may be dropped before it is answered; the member may still have done it.
     fn call(&self, call: MemberCall) -> Later<'static, Result<MemberAnswer, NoAnswer>>;
 
     /// Returns this moment.
@@ -20,7 +21,7 @@ pub trait Environment: Send + Sync + 'static {
 }
 
 /// A call of a member's JSON gateway.
-#[derive(Clone, Debug)]
+#[derive(Clone)]
 pub struct MemberCall {
     /// Which of the members is called, from 0 on.
     pub member: usize,
@@ -32,6 +33,17 @@ pub struct MemberCall {
     pub needs_leader: bool,
     /// What is asked, in JSON.
     pub asked: Vec<u8>,
+}
+
+impl fmt::Debug for MemberCall {
+    /// Without the token, and without what is asked, which may hold a password.
+    fn fmt(&self, f: &mut fmt::Formatter<'_>) -> fmt::Result {
+        f.debug_struct("MemberCall")
+            .field("member", &self.member)
+            .field("path", &self.path)
+            .field("needs_leader", &self.needs_leader)
+            .finish_non_exhaustive()
+    }
 }
 
 /// What a member answers.
@@ -64,4 +76,23 @@ pub enum NoAnswer {
     /// It may have done it.
     #[error("{0}")]
     Broken(String),
+}
+
+#[cfg(test)]
+mod tests {
+    use super::MemberCall;
+
+    #[test]
+    fn a_call_is_shown_without_secrets() {
+        let call = MemberCall {
+            member: 1,
+            path: "/v3/auth/authenticate",
+            token: Some("a secret token".to_owned()),
+            needs_leader: false,
+            asked: b"7-8-9".to_vec(),
+        };
+        let wanted =
+            r#"MemberCall { member: 1, path: "/v3/auth/authenticate", needs_leader: false, .. }"#;
+        assert_eq!(format!("{call:?}"), wanted);
+    }
 }

@@ -24,7 +24,7 @@ impl Etcd {
     ///
     /// # Errors
     ///
-    /// Where an address can't be read, a file of certificates can't be used, or the system gives no thread.
+    /// If an address can't be read, a file of certificates can't be used, or the system gives no thread.
     pub fn new(access: Access) -> Result<Etcd, StartError> {
         let keeper = MemberCaller::new("leases", access.clone())?;
         let caller = Arc::new(MemberCaller::new("etcd", access)?);

@@ -2,6 +2,7 @@ use super::client::EtcdClient;
 use super::sockets::Sockets;
 use super::{Access, StartError};
 use std::future::Future;
+use std::num::NonZeroUsize;
 use std::sync::mpsc;
 use std::sync::Arc;
 use tokio::runtime::{Builder, Handle, Runtime};
@@ -18,7 +19,7 @@ pub(super) struct MemberCaller {
 impl MemberCaller {
     pub(super) fn new(thread: &str, access: Access) -> Result<MemberCaller, StartError> {
         let sockets = Sockets::new(&access)?;
-        let members = sockets.members();
+        let members = NonZeroUsize::new(sockets.members()).ok_or(StartError::NoEndpoint)?;
         let client = EtcdClient::new(Arc::new(sockets), members, access.patience, access.user);
         // A second thread would be woken for each call, and find nothing to do.
         let runtime = Builder::new_multi_thread()
