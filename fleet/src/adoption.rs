@@ -79,7 +79,8 @@ impl<S: Service> FleetInner<S> {
         let room = self.room().ok_or(NotCopied::NoRoom)?;
         let body = changes.begin_body(shard);
         let body = body.map_err(|it| NotCopied::Failed(it.to_string()))?;
-        let mut copy = IncomingBody::new(generation, Content::Copy(body), room);
+        let name = self.named_copy(place.known().view.joined());
+        let mut copy = IncomingBody::new(generation, Content::Copy(name, body), room);
         let mut progress = CopyProgress::new();
         loop {
             if place.known().record().generation != generation || self.is_stopping() {
@@ -88,12 +89,15 @@ impl<S: Service> FleetInner<S> {
             let request = Request::Copy {
                 shard: shard.number(),
                 generation,
+                name,
                 at: copy.bytes(),
             };
+            let before = copy.bytes();
             let left = self.fetch(owner, &request, &mut copy, changes);
             let left = left.map_err(NotCopied::Failed)?;
             let is_full = copy.bytes() >= self.options.body;
-            if progress.is_enough(left, self.options.piece) || is_full {
+            let came = copy.bytes() - before;
+            if progress.is_enough(left, came, self.options.piece) || is_full {
                 return Ok(copy);
             }
         }
@@ -139,7 +143,9 @@ impl<S: Service> FleetInner<S> {
         self.await_record(place, frame.hand.generation);
         // The body is locked first.
         let body = frame.is_last.then(|| place.body());
+        let mut incoming = place.incoming();
         {
+            // As the record changes, what comes is dropped under its lock.
             let known = place.known();
             if !self.is_meant(&known, frame) {
                 let why = "it isn't for this process, by the record that it has read";
@@ -150,12 +156,7 @@ impl<S: Service> FleetInner<S> {
                 return Ok(());
             }
         }
-        let mut incoming = place.incoming();
-        let taken = self.take_piece(place, &mut incoming, frame);
-        if matches!(taken, Err(NotTaken::NoCopy(_))) {
-            *incoming = None;
-        }
-        taken?;
+        self.take_piece(place, &mut incoming, frame)?;
         match (body, incoming.take_if(|_| frame.is_last)) {
             (Some(body), Some(whole)) => {
                 drop(incoming);
@@ -171,26 +172,31 @@ impl<S: Service> FleetInner<S> {
         incoming: &mut Option<IncomingBody<S::Body>>,
         frame: &HandFrame<'_>,
     ) -> Result<(), NotTaken> {
-        if frame.at == 0 {
+        let is_later = |it: &IncomingBody<S::Body>| it.is_before(frame);
+        if frame.at == 0 && incoming.as_ref().is_none_or(is_later) {
             *incoming = None;
             *incoming = Some(self.begun(place, frame)?);
         }
         let none = NotTaken::NoCopy("there is nothing here that it continues");
         let it = incoming.as_mut().filter(|it| it.is_of(frame)).ok_or(none)?;
-        let most = match frame.is_copy {
-            true => self.most_of_copy(),
-            false => self.options.body,
+        let most = match frame.copy {
+            Some(_) => self.most_of_copy(),
+            None => self.options.body,
         };
         let add = |body: &mut S::Body, piece: &[u8]| match self.service.changes() {
             Some(changes) => changes.add_piece(body, piece),
             None => Err("the service notes no changes".into()),
         };
-        it.take(frame.at, frame.bytes, most, add)
-            .map_err(|fault| match fault {
-                PieceFault::Unexpected => none,
-                PieceFault::TooLong => NotTaken::Again("it is longer than --body lets it be"),
-                PieceFault::Service(_) => NotTaken::NoCopy(warned(frame.shard, &fault.to_string())),
-            })
+        let taken = it.take(frame.at, frame.bytes, most, add);
+        taken.map_err(|fault| match fault {
+            PieceFault::Unexpected => none,
+            PieceFault::TooLong => NotTaken::Again("it is longer than --body lets it be"),
+            PieceFault::Service(_) => {
+                // It may have been added in part.
+                *incoming = None;
+                NotTaken::NoCopy(warned(frame.shard, &fault.to_string()))
+            }
+        })
     }
 
     /// Begins to take a body.
@@ -201,14 +207,18 @@ impl<S: Service> FleetInner<S> {
     ) -> Result<IncomingBody<S::Body>, NotTaken> {
         let full = NotTaken::Again("as many bodies come to this process as may");
         let room = self.room().ok_or(full)?;
-        let content = match frame.is_copy {
-            false => Content::Whole(Vec::new()),
-            true => {
+        let content = match frame.copy {
+            None => Content::Whole(Vec::new()),
+            // The next owner named it, and has it no more.
+            Some(name) if name.server != frame.hand.server => {
+                return Err(NotTaken::NoCopy("that copy isn't here"));
+            }
+            Some(name) => {
                 let none = NotTaken::NoCopy("the next owner's service notes no changes");
                 let changes = self.service.changes().ok_or(none)?;
                 let shard = Shard::new(frame.shard, place.known().fence());
                 let made = changes.begin_body(shard);
-                Content::Copy(made.map_err(|it| not_added(frame.shard, &it))?)
+                Content::Copy(name, made.map_err(|it| not_added(frame.shard, &it))?)
             }
         };
         let prepared = frame.hand.generation.saturating_sub(1);
@@ -265,10 +275,10 @@ impl<S: Service> FleetInner<S> {
     fn added(&self, shard: Shard, content: Content<S::Body>) -> Result<S::Body, NotTaken> {
         let added = match (content, self.service.changes()) {
             (Content::Whole(bytes), _) => self.service.add(shard, Came::Handed(&bytes)),
-            (Content::Copy(mut body), Some(changes)) => {
+            (Content::Copy(_, mut body), Some(changes)) => {
                 changes.end_body(shard, &mut body).map(|()| body)
             }
-            (Content::Copy(body), None) => Ok(body),
+            (Content::Copy(_, body), None) => Ok(body),
         };
         added.map_err(|it| not_added(shard.number(), &it))
     }

@@ -1,5 +1,6 @@
 use crate::body_lock::BodyInUse;
 use crate::connections::Connections;
+use crate::copy_name::CopyName;
 use crate::follower::{self, Notices};
 use crate::host;
 use crate::introduction::Introduction;
@@ -23,7 +24,7 @@ use durkenzo_store_sys::ShardView;
 use std::fmt;
 use std::io;
 use std::net::SocketAddr;
-use std::sync::atomic::{AtomicBool, Ordering};
+use std::sync::atomic::{AtomicBool, AtomicU64, Ordering};
 use std::sync::mpsc::{sync_channel, Receiver, Sender};
 use std::sync::{Arc, Mutex, PoisonError};
 use std::thread;
@@ -59,6 +60,8 @@ pub(crate) struct FleetInner<S: Service> {
     pub(crate) connections: Arc<Connections>,
     /// Room for bodies that come to this process.
     pub(crate) moves: Arc<Semaphore>,
+    /// How many copies this process has named.
+    copies: AtomicU64,
     /// The control of this process; none once it has left.
     pub(crate) control: Mutex<Option<Sender<Asked>>>,
     pub(crate) stopping: Arc<AtomicBool>,
@@ -275,6 +278,7 @@ impl<S: Service> FleetInner<S> {
             member,
             durable: Arc::new(durable),
             moves: Arc::new(Semaphore::new(usize::from(options.moves))),
+            copies: AtomicU64::new(0),
             options,
             sharding,
             settings,
@@ -287,6 +291,15 @@ impl<S: Service> FleetInner<S> {
 
     pub(crate) fn server(&self) -> u16 {
         self.member.server()
+    }
+
+    /// Returns a name for a copy, later than each one before. This process's key is of that revision.
+    pub(crate) fn named_copy(&self, joined: u64) -> CopyName {
+        CopyName {
+            server: self.server(),
+            joined,
+            count: self.copies.fetch_add(1, Ordering::Relaxed),
+        }
     }
 
     pub(crate) fn is_stopping(&self) -> bool {

@@ -1,6 +1,7 @@
 //! Several processes of a service that counts, in one process of a test. Its clients know which count comes next, so a
 //! count that is lost or made twice is found, and so is each wrong rule that is planted.
 use crate::connections::{Connections, NotAnswered};
+use crate::copy_name::CopyName;
 use crate::frame::{CallFrame, HandFrame, Request, Response};
 use crate::introduction::Introduction;
 use crate::plant::Plant;
@@ -527,6 +528,34 @@ fn a_migration_that_is_given_up_leaves_no_copy_and_ends_the_owners() {
 }
 
 #[test]
+fn a_request_for_an_earlier_copy_that_comes_late_forgets_no_change() {
+    let (trial, [shard, _]) = copying();
+    let router = Router::watch(&*trial.store).unwrap();
+    trial.prepare(shard, 3, Some(3));
+    // The copy has the first count, and this one has changed since.
+    assert_eq!(count(&router, &key_of(&router, shard)), 2);
+    let owner = &trial.fleets[0].inner;
+    let name = {
+        let known = owner.places[usize::from(shard)].known();
+        known.copy.as_ref().unwrap().name()
+    };
+    let ask = |name| {
+        let mut out = Vec::new();
+        owner.copy(shard, (trial.generation(shard), name), 0, &mut out);
+        matches!(Response::read(&out[4..]), Ok(Response::Piece { .. }))
+    };
+    let (joined, server) = (name.joined - 1, 2);
+    assert!(!ask(CopyName { joined, ..name }) && !ask(CopyName { server, ..name }));
+    // It is the piece that was made last, and is told again.
+    assert!(ask(name));
+    trial.step(shard, &["PREPARE_DROP", &shard.to_string()], Some(1));
+    trial.add(shard);
+    assert_eq!(count(&router, &key_of(&router, shard)), 3);
+    assert!(trial.came.lock().unwrap().contains(&"copied"));
+    trial.end();
+}
+
+#[test]
 fn the_owner_goes_on_if_the_next_one_fails_with_its_copy() {
     let (trial, [shard, _]) = copying();
     trial.prepare(shard, 3, Some(3));
@@ -695,11 +724,11 @@ fn what_another_process_hands_over_is_refused() {
         generation: 1,
         server: 3,
     };
-    let (is_copy, at, is_last, bytes) = (false, 0, true, &b"x"[..]);
+    let (copy, at, is_last, bytes) = (None, 0, true, &b"x"[..]);
     let frame = HandFrame {
         shard: 0,
         hand,
-        is_copy,
+        copy,
         at,
         is_last,
         bytes,
@@ -823,7 +852,7 @@ fn an_owner_that_gets_a_shard_back_after_it_handed_over_begins_without_its_body(
             generation: trial.generation(shard) - 1,
             server: 1,
         },
-        is_copy: false,
+        copy: None,
         at: 0,
         is_last: true,
         bytes: b"",
