@@ -41,6 +41,8 @@ const ASK_AGAIN: Duration = Duration::from_millis(250);
 const MEET: Duration = Duration::from_secs(3);
 /// How long a server that was stopped forwards what still comes.
 const LINGER: Duration = Duration::from_millis(500);
+/// How long a process that leaves waits at most for calls that are under way.
+const UNDER_WAY: Duration = Duration::from_secs(5);
 
 /// A process of a fleet. It follows records, holds bodies, and answers clients and other processes, until it leaves.
 pub struct Fleet<S: Service> {
@@ -212,12 +214,14 @@ impl<S: Service> Fleet<S> {
         told
     }
 
-    /// Leaves at once. Others take this server's shards over, and what it kept of them in memory is lost.
+    /// Leaves once no call is under way, or after 5 seconds. Others take this server's shards over, and what it kept of
+    /// them in memory is lost.
     pub fn leave(&self) {
         let inner = &self.inner;
         inner.stopping.store(true, Ordering::Release);
         inner.end_views();
         *inner.control.lock().unwrap_or_else(PoisonError::into_inner) = None;
+        inner.await_bodies();
         inner.member.leave();
         self.listener.end(self.address);
         inner.left.notify_one();
@@ -320,6 +324,15 @@ impl<S: Service> FleetInner<S> {
         };
         let places = self.places.iter();
         places.map(|it| it.known().record().stand).any(names)
+    }
+
+    /// Waits until nothing uses a body, or for as long as a process that leaves may.
+    fn await_bodies(&self) {
+        let end = end_of(UNDER_WAY);
+        let is_any_in_use = || self.places.iter().any(Place::is_in_use);
+        while is_any_in_use() && Instant::now() < end {
+            thread::sleep(LOOK);
+        }
     }
 
     /// Ends all views: calls that are under way find that they hold no permit any more.

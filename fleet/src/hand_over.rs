@@ -39,8 +39,8 @@ impl<S: Service> FleetInner<S> {
         }
     }
 
-    /// Writes such a piece, if this process is the owner by the record of this generation, and who named the copy is the
-    /// next one.
+    /// Writes such a piece, if this process is the owner by the record of this generation, and the next owner named the
+    /// copy.
     fn copied(
         &self,
         shard: u16,
@@ -136,7 +136,7 @@ impl<S: Service> FleetInner<S> {
     /// sends the whole body.
     fn send(&self, place: &Place<S::Body>, body: &mut S::Body, to: Recipient) -> Sent {
         let Some(changes) = self.service.changes() else {
-            return self.send_whole(body, to);
+            return self.send_whole(place, body, to);
         };
         let begun = place.known().copy.take();
         let is_begun = begun.is_some();
@@ -155,7 +155,7 @@ impl<S: Service> FleetInner<S> {
         match is_begun {
             // A copy from the beginning is sent at once.
             true => Sent::NotYet,
-            false => self.send_whole(body, to),
+            false => self.send_whole(place, body, to),
         }
     }
 
@@ -192,9 +192,21 @@ impl<S: Service> FleetInner<S> {
         }
     }
 
-    /// Sends the body as the service hands it over, in frames.
-    fn send_whole(&self, body: &mut S::Body, to: Recipient) -> Sent {
-        let bytes = self.service.hand_over(body);
+    /// Sends the body as the service hands it over. What the next owner doesn't take yet is kept until it does.
+    fn send_whole(&self, place: &Place<S::Body>, body: &mut S::Body, to: Recipient) -> Sent {
+        let generation = to.hand.generation;
+        let kept = place.known().spelled.take();
+        let kept = kept.filter(|it| it.0 == generation);
+        let bytes = kept.map_or_else(|| self.service.hand_over(body), |it| it.1);
+        let sent = self.send_bytes(&bytes, to);
+        if sent != Sent::All {
+            place.known().spelled = Some((generation, bytes));
+        }
+        sent
+    }
+
+    /// Sends the bytes of a whole body, in frames.
+    fn send_bytes(&self, bytes: &[u8], to: Recipient) -> Sent {
         let mut at = 0;
         loop {
             let end = (at + CHUNK).min(bytes.len());

@@ -1,6 +1,7 @@
 use crate::copy_name::CopyName;
 use crate::frame::HandFrame;
 use crate::Fault;
+use std::sync::Arc;
 use thiserror::Error;
 use tokio::sync::OwnedSemaphorePermit;
 
@@ -12,7 +13,7 @@ pub(crate) struct IncomingBody<B> {
     bytes: u64,
     content: Content<B>,
     /// As many bodies come to this process at once as may.
-    _place: OwnedSemaphorePermit,
+    room: Arc<OwnedSemaphorePermit>,
 }
 
 /// What has come.
@@ -39,14 +40,28 @@ impl<B> IncomingBody<B> {
     pub(crate) fn new(
         generation: u64,
         content: Content<B>,
-        place: OwnedSemaphorePermit,
+        room: Arc<OwnedSemaphorePermit>,
     ) -> IncomingBody<B> {
         IncomingBody {
             generation,
             bytes: 0,
             content,
-            _place: place,
+            room,
         }
+    }
+
+    /// Returns room for a body of which nothing has come.
+    pub(crate) fn reserved(generation: u64, room: Arc<OwnedSemaphorePermit>) -> IncomingBody<B> {
+        IncomingBody::new(generation, Content::Whole(Vec::new()), room)
+    }
+
+    pub(crate) fn generation(&self) -> u64 {
+        self.generation
+    }
+
+    /// Returns the room that it has. It is given back once nobody has it.
+    pub(crate) fn room(&self) -> Arc<OwnedSemaphorePermit> {
+        self.room.clone()
     }
 
     /// Returns how many bytes have come.
@@ -59,8 +74,8 @@ impl<B> IncomingBody<B> {
         self.generation + 1 == frame.hand.generation && self.name() == frame.copy
     }
 
-    /// Returns whether the first piece that is handed over begins a body anew. One of the same copy or of an earlier one
-    /// has come late.
+    /// Returns whether the first piece that is handed over begins a body anew. One of the same copy, or of an earlier
+    /// one, has come late.
     pub(crate) fn is_before(&self, frame: &HandFrame<'_>) -> bool {
         let is_late = match (self.name(), frame.copy) {
             (Some(own), Some(other)) => own.server == other.server && !other.is_later_than(own),
@@ -118,7 +133,7 @@ mod tests {
 
     fn body(content: Content<Vec<u8>>) -> IncomingBody<Vec<u8>> {
         let place = Arc::new(Semaphore::new(1)).try_acquire_owned();
-        IncomingBody::new(7, content, place.unwrap())
+        IncomingBody::new(7, content, Arc::new(place.unwrap()))
     }
 
     fn add(body: &mut Vec<u8>, piece: &[u8]) -> Result<(), Fault> {

@@ -290,6 +290,11 @@ impl Trial {
 
     /// Begins such a fleet over this store.
     fn over(store: Arc<dyn Store>, lease: u64, keeps_changes: bool, plant: Option<Plant>) -> Trial {
+        Trial::with(store, keeps_changes, |server| options(server, lease, plant))
+    }
+
+    /// Begins a fleet over this store, each process of which has these options.
+    fn with(store: Arc<dyn Store>, keeps_changes: bool, options: impl Fn(u16) -> Options) -> Trial {
         let came = Arc::<Mutex<Vec<_>>>::default();
         let cuts: Vec<Arc<Cut>> = (0..SERVERS).map(|_| Arc::default()).collect();
         let fleets = (1..=SERVERS).zip(&cuts).map(|(server, cut)| {
@@ -301,7 +306,7 @@ impl Trial {
                 keeps_changes,
                 came: came.clone(),
             };
-            Fleet::join_over(counter, options(server, lease, plant), seen).unwrap()
+            Fleet::join_over(counter, options(server), seen).unwrap()
         });
         let fleets = fleets.collect();
         let (stops, clients) = Default::default();
@@ -552,6 +557,82 @@ fn a_request_for_an_earlier_copy_that_comes_late_forgets_no_change() {
     trial.add(shard);
     assert_eq!(count(&router, &key_of(&router, shard)), 3);
     assert!(trial.came.lock().unwrap().contains(&"copied"));
+    trial.end();
+}
+
+/// Begins a fleet that takes bodies of so many bytes, with a shard of the first server that has a longer one.
+fn with_long_body(keeps_changes: bool, body: u64) -> (Trial, Router, u16) {
+    let trial = Trial::with(Arc::new(Embedded::in_memory()), keeps_changes, |server| {
+        let options = options(server, 30, None);
+        Options { body, ..options }
+    });
+    let router = Router::watch(&*trial.store).unwrap();
+    let shard = (0..SHARDS).find(|it| trial.owner(*it) == Some(1)).unwrap();
+    assert_eq!(count(&router, &key_of(&router, shard)), 1);
+    (trial, router, shard)
+}
+
+#[test]
+fn a_body_that_is_too_long_stays_with_its_owner_which_answers() {
+    let (trial, router, shard) = with_long_body(true, 2);
+    trial.prepare(shard, 3, None);
+    trial.wait_until("it is found too long", || {
+        let place = &trial.fleets[2].inner.places[usize::from(shard)];
+        let prepared = place.known().prepared;
+        prepared.again.is_some() && prepared.generation == trial.generation(shard)
+    });
+    assert_eq!(count(&router, &key_of(&router, shard)), 2);
+    let member = &trial.fleets[0].inner.member;
+    assert!(member.acked(shard, 3) != Some(trial.generation(shard)));
+    assert!(!trial.has_copy(shard, 3));
+    trial.end();
+}
+
+#[test]
+fn a_whole_body_that_is_too_long_is_taken_because_its_owner_has_let_go() {
+    let (trial, router, shard) = with_long_body(false, 2);
+    trial.migrate(shard, 3);
+    assert_eq!(count(&router, &key_of(&router, shard)), 2);
+    trial.end();
+}
+
+#[test]
+fn a_shard_has_its_room_from_its_preparation_until_it_has_come() {
+    let trial = Trial::new(30, false, None);
+    let shard = (0..SHARDS).find(|it| trial.owner(*it) == Some(1)).unwrap();
+    let moves = &trial.fleets[2].inner.moves;
+    trial.wait_until("nothing comes", || moves.available_permits() == 1);
+    trial.prepare(shard, 3, Some(3));
+    assert_eq!(moves.available_permits(), 0);
+    trial.step(shard, &["PREPARE_DROP", &shard.to_string()], Some(1));
+    trial.add(shard);
+    assert_eq!(moves.available_permits(), 1);
+    trial.end();
+}
+
+#[test]
+fn a_process_that_leaves_waits_for_the_calls_that_are_under_way() {
+    let trial = Trial::new(30, false, None);
+    let shard = (0..SHARDS).find(|it| trial.owner(*it) == Some(2)).unwrap();
+    let fleet = &trial.fleets[1];
+    let mut entered = fleet.enter(shard, Mode::Direct);
+    while !matches!(entered, Enter::Here(_)) {
+        drop(entered);
+        entered = fleet.enter(shard, Mode::Direct);
+    }
+    let is_there = || trial.fleets[0].inner.member.members().contains_key(&2);
+    thread::scope(|scope| {
+        let leaves = scope.spawn(|| fleet.leave());
+        trial.wait_until("it leaves", || fleet.inner.is_stopping());
+        let Enter::Here(permit) = entered else {
+            panic!()
+        };
+        trial.wait_until("its permits end", || !permit.holds());
+        assert!(is_there() && !leaves.is_finished());
+        drop(permit);
+        leaves.join().unwrap();
+    });
+    trial.wait_until("it has left", || !is_there());
     trial.end();
 }
 
