@@ -32,6 +32,8 @@ MOST = 40
 CALM = (0.5, 2.5)
 # How many milliseconds pass between two migrations.
 MOVES = 20
+# How many bytes a piece of a body has: a few keys.
+PIECE = 400
 HEAD = (
     "| nemesis | faults | calls | unsure | refused | lost as told | longest until all are answered, ms |\n"
     "|---|---|---|---|---|---|---|"
@@ -229,7 +231,8 @@ class FleetTrial:
         if "full" in self.kinds:
             etcd_options = ["--quota-backend-bytes", str(fleet_nemeses.QUOTA)]
         env = self.plant.env if self.plant else {}
-        options = [str(it) for it in ("--shards", given.shards, "--lease", given.lease, *given.option)]
+        sizes = ("--shards", given.shards, "--lease", given.lease, "--piece", PIECE)
+        options = [str(it) for it in (*sizes, *given.option)]
         how = {"options": options, "etcd_options": etcd_options, "env": lambda number: dict(env), "relays": relays}
         disturbed = fleet_nemeses.Disturbed(room)
         return ServiceFleet(room, program, disturbed, members=given.members, servers=given.servers, **how)

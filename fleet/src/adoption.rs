@@ -2,21 +2,25 @@
 use crate::body_lock::BodyInUse;
 use crate::copy_progress::CopyProgress;
 use crate::fleet::FleetInner;
-use crate::frame::{HandFrame, Request, Response};
+use crate::frame::{HandFrame, Request, Response, MOST};
 use crate::hand_over::PIECE;
 use crate::incoming_body::{Content, IncomingBody, PieceFault};
-use crate::place::{Known, Place};
+use crate::place::{Known, Place, Preparation};
 use crate::{Came, Changes, Fault, Service, Shard};
 use durkenzo::Stand;
+use std::sync::Arc;
+use std::time::{Duration, Instant};
 use tokio::sync::OwnedSemaphorePermit;
 
 /// How often a copy is fetched from its beginning, until the shard goes on without a copy.
 const TRIES: u32 = 3;
+/// How long it is waited until a body that is too long is asked for again.
+const LATER: Duration = Duration::from_secs(2);
 
 /// Why there is no copy of a body.
 enum NotCopied {
-    /// As many bodies come to this process as may: it is tried again.
-    NoRoom,
+    /// It is longer than it may be: it stays with its owner.
+    TooLong,
     Failed(String),
 }
 
@@ -38,33 +42,70 @@ impl<S: Service> FleetInner<S> {
         place: &Place<S::Body>,
         (owner, generation): (u16, u64),
     ) -> bool {
-        let (fence, is_first) = {
+        let Some(named) = self.begin_to_prepare(shard, place, (owner, generation)) else {
+            return false;
+        };
+        // It is tried again until there is room.
+        let Some(room) = self.room() else {
+            return false;
+        };
+        let (Some(changes), of) = (self.service.changes(), (named, owner, generation)) else {
+            *place.incoming() = Some(IncomingBody::reserved(generation, room));
+            return true;
+        };
+        let came = match self.fetched(place, changes, of, room.clone()) {
+            Ok(copy) => Some(copy),
+            Err(why) => self
+                .may_go_without(shard, place, why)
+                .then(|| IncomingBody::reserved(generation, room)),
+        };
+        let may_go = came.is_some();
+        if may_go {
+            *place.incoming() = came;
+        }
+        may_go
+    }
+
+    /// Has the service prepare, if it hasn't by this record. Returns the shard, unless its body was too long just now.
+    fn begin_to_prepare(
+        &self,
+        shard: u16,
+        place: &Place<S::Body>,
+        (owner, generation): (u16, u64),
+    ) -> Option<Shard> {
+        let (fence, is_first, again) = {
             let mut known = place.known();
-            let is_first = known.prepared.0 != generation;
+            let is_first = known.prepared.generation != generation;
             if is_first {
-                known.prepared = (generation, 0);
+                known.prepared = Preparation::new(generation);
             }
-            (known.fence(), is_first)
+            (known.fence(), is_first, known.prepared.again)
         };
         let named = Shard::new(shard, fence);
         if is_first {
             self.service.prepare_add(named, Some(owner));
         }
-        let Some(changes) = self.service.changes() else {
-            return true;
-        };
-        match self.fetched(place, changes, (named, owner, generation)) {
-            Ok(copy) => {
-                *place.incoming() = Some(copy);
-                true
+        again.is_none_or(|it| Instant::now() >= it).then_some(named)
+    }
+
+    /// Whether all of the body is handed over at once, because there was no copy so often.
+    fn may_go_without(&self, shard: u16, place: &Place<S::Body>, why: NotCopied) -> bool {
+        let mut known = place.known();
+        match why {
+            NotCopied::TooLong => {
+                let most = self.options.body;
+                tracing::warn!(
+                    shard,
+                    most,
+                    "the body is longer than --body lets it be, and stays with its owner"
+                );
+                known.prepared.again = Some(Instant::now() + LATER);
+                false
             }
-            Err(NotCopied::NoRoom) => false,
-            Err(NotCopied::Failed(why)) => {
+            NotCopied::Failed(why) => {
                 tracing::info!(shard, why, "there is no copy of the body");
-                let mut known = place.known();
-                known.prepared.1 += 1;
-                // All of it is handed over then.
-                known.prepared.1 >= TRIES
+                known.prepared.failures += 1;
+                known.prepared.failures >= TRIES
             }
         }
     }
@@ -75,11 +116,12 @@ impl<S: Service> FleetInner<S> {
         place: &Place<S::Body>,
         changes: &dyn Changes<S::Body>,
         (shard, owner, generation): (Shard, u16, u64),
+        room: Arc<OwnedSemaphorePermit>,
     ) -> Result<IncomingBody<S::Body>, NotCopied> {
-        let room = self.room().ok_or(NotCopied::NoRoom)?;
         let body = changes.begin_body(shard);
         let body = body.map_err(|it| NotCopied::Failed(it.to_string()))?;
-        let mut copy = IncomingBody::new(generation, Content::Copy(body), room);
+        let name = self.named_copy(place.known().view.joined());
+        let mut copy = IncomingBody::new(generation, Content::Copy(name, body), room);
         let mut progress = CopyProgress::new();
         loop {
             if place.known().record().generation != generation || self.is_stopping() {
@@ -88,12 +130,18 @@ impl<S: Service> FleetInner<S> {
             let request = Request::Copy {
                 shard: shard.number(),
                 generation,
+                name,
                 at: copy.bytes(),
             };
+            let before = copy.bytes();
             let left = self.fetch(owner, &request, &mut copy, changes);
             let left = left.map_err(NotCopied::Failed)?;
             let is_full = copy.bytes() >= self.options.body;
-            if progress.is_enough(left, self.options.piece) || is_full {
+            let came = copy.bytes() - before;
+            if came.saturating_add(left) > self.options.body {
+                return Err(NotCopied::TooLong);
+            }
+            if progress.is_enough(left, came, self.options.piece) || is_full {
                 return Ok(copy);
             }
         }
@@ -122,14 +170,21 @@ impl<S: Service> FleetInner<S> {
         }
     }
 
-    /// Returns how many bytes of a copy come at most: those of a body while the owner answers, and as many behind.
+    /// Returns how many bytes of a copy should come at most: those of a body and a piece while the owner answers, and
+    /// those of a body behind.
     fn most_of_copy(&self) -> u64 {
-        self.options.body.saturating_mul(2)
+        let most = self.options.body.saturating_mul(2);
+        most.saturating_add(MOST as u64)
+    }
+
+    /// Returns how many bytes come at most once the owner has let go: if they don't, the shard stops.
+    fn most_handed_over(&self) -> u64 {
+        self.most_of_copy().saturating_mul(2)
     }
 
     /// Returns room for one more body that comes, if there is any.
-    fn room(&self) -> Option<OwnedSemaphorePermit> {
-        self.moves.clone().try_acquire_owned().ok()
+    fn room(&self) -> Option<Arc<OwnedSemaphorePermit>> {
+        self.moves.clone().try_acquire_owned().ok().map(Arc::new)
     }
 
     /// Takes a piece of what the owner hands over. The last one has the shard begin.
@@ -139,7 +194,9 @@ impl<S: Service> FleetInner<S> {
         self.await_record(place, frame.hand.generation);
         // The body is locked first.
         let body = frame.is_last.then(|| place.body());
+        let mut incoming = place.incoming();
         {
+            // As the record changes, what comes is dropped under its lock.
             let known = place.known();
             if !self.is_meant(&known, frame) {
                 let why = "it isn't for this process, by the record that it has read";
@@ -150,19 +207,20 @@ impl<S: Service> FleetInner<S> {
                 return Ok(());
             }
         }
-        let mut incoming = place.incoming();
-        let taken = self.take_piece(place, &mut incoming, frame);
-        if matches!(taken, Err(NotTaken::NoCopy(_))) {
-            *incoming = None;
+        self.take_piece(place, &mut incoming, frame)?;
+        let whole = incoming.take_if(|_| frame.is_last);
+        let (Some(mut body), Some(whole)) = (body, whole) else {
+            return Ok(());
+        };
+        let (generation, room) = (whole.generation(), whole.room());
+        let adopted = self.adopt(place, &mut body, frame, whole.into_content());
+        if adopted.is_err() {
+            // It is sent again.
+            *incoming = Some(IncomingBody::reserved(generation, room));
         }
-        taken?;
-        match (body, incoming.take_if(|_| frame.is_last)) {
-            (Some(body), Some(whole)) => {
-                drop(incoming);
-                self.adopt(place, body, frame, whole.into_content())
-            }
-            _ => Ok(()),
-        }
+        drop((incoming, body));
+        place.queue.wake();
+        adopted
     }
 
     fn take_piece(
@@ -171,48 +229,89 @@ impl<S: Service> FleetInner<S> {
         incoming: &mut Option<IncomingBody<S::Body>>,
         frame: &HandFrame<'_>,
     ) -> Result<(), NotTaken> {
-        if frame.at == 0 {
-            *incoming = None;
-            *incoming = Some(self.begun(place, frame)?);
+        let is_later = |it: &IncomingBody<S::Body>| it.is_before(frame);
+        if frame.at == 0 && incoming.as_ref().is_none_or(is_later) {
+            self.begin_to_take(place, incoming, frame)?;
         }
         let none = NotTaken::NoCopy("there is nothing here that it continues");
         let it = incoming.as_mut().filter(|it| it.is_of(frame)).ok_or(none)?;
-        let most = match frame.is_copy {
-            true => self.most_of_copy(),
-            false => self.options.body,
-        };
         let add = |body: &mut S::Body, piece: &[u8]| match self.service.changes() {
             Some(changes) => changes.add_piece(body, piece),
             None => Err("the service notes no changes".into()),
         };
-        it.take(frame.at, frame.bytes, most, add)
-            .map_err(|fault| match fault {
-                PieceFault::Unexpected => none,
-                PieceFault::TooLong => NotTaken::Again("it is longer than --body lets it be"),
-                PieceFault::Service(_) => NotTaken::NoCopy(warned(frame.shard, &fault.to_string())),
-            })
+        match it.take(frame.at, frame.bytes, self.most_handed_over(), add) {
+            Ok(()) => {
+                self.warn_of_long(frame, it.bytes());
+                Ok(())
+            }
+            Err(PieceFault::Unexpected) => Err(none),
+            Err(PieceFault::TooLong) => {
+                let (shard, most) = (frame.shard, self.options.body);
+                let why = "it is longer by far than --body lets it be";
+                tracing::warn!(shard, most, why, "a shard stops until its next owner ends");
+                Err(NotTaken::Again(why))
+            }
+            Err(fault @ PieceFault::Service(_)) => {
+                // It may have been added in part.
+                *incoming = Some(IncomingBody::reserved(prepared_by(frame), it.room()));
+                Err(NotTaken::NoCopy(warned(frame.shard, &fault.to_string())))
+            }
+        }
     }
 
-    /// Begins to take a body.
+    /// Begins to take what is handed over. The shard keeps its room if that can't begin.
+    fn begin_to_take(
+        &self,
+        place: &Place<S::Body>,
+        incoming: &mut Option<IncomingBody<S::Body>>,
+        frame: &HandFrame<'_>,
+    ) -> Result<(), NotTaken> {
+        let full = NotTaken::Again("as many bodies come to this process as may");
+        let room = incoming.take().map(|it| it.room());
+        let room = room.or_else(|| self.room()).ok_or(full)?;
+        let prepared = prepared_by(frame);
+        *incoming = Some(IncomingBody::reserved(prepared, room.clone()));
+        let content = self.begun(place, frame)?;
+        *incoming = Some(IncomingBody::new(prepared, content, room));
+        Ok(())
+    }
+
+    /// Warns of a body that is longer than it may be, and was taken, because its owner has let go.
+    fn warn_of_long(&self, frame: &HandFrame<'_>, bytes: u64) {
+        let most = match frame.copy {
+            Some(_) => self.most_of_copy(),
+            None => self.options.body,
+        };
+        if frame.is_last && bytes > most {
+            let (shard, most) = (frame.shard, self.options.body);
+            tracing::warn!(
+                shard,
+                bytes,
+                most,
+                "a body is longer than --body lets it be"
+            );
+        }
+    }
+
+    /// Begins what is handed over, of which nothing has come.
     fn begun(
         &self,
         place: &Place<S::Body>,
         frame: &HandFrame<'_>,
-    ) -> Result<IncomingBody<S::Body>, NotTaken> {
-        let full = NotTaken::Again("as many bodies come to this process as may");
-        let room = self.room().ok_or(full)?;
-        let content = match frame.is_copy {
-            false => Content::Whole(Vec::new()),
-            true => {
-                let none = NotTaken::NoCopy("the next owner's service notes no changes");
-                let changes = self.service.changes().ok_or(none)?;
-                let shard = Shard::new(frame.shard, place.known().fence());
-                let made = changes.begin_body(shard);
-                Content::Copy(made.map_err(|it| not_added(frame.shard, &it))?)
-            }
+    ) -> Result<Content<S::Body>, NotTaken> {
+        let Some(name) = frame.copy else {
+            return Ok(Content::Whole(Vec::new()));
         };
-        let prepared = frame.hand.generation.saturating_sub(1);
-        Ok(IncomingBody::new(prepared, content, room))
+        if name.server != frame.hand.server {
+            // This process named it, and has it no more.
+            return Err(NotTaken::NoCopy("that copy isn't here"));
+        }
+        let none = NotTaken::NoCopy("the next owner's service notes no changes");
+        let changes = self.service.changes().ok_or(none)?;
+        let shard = Shard::new(frame.shard, place.known().fence());
+        let made = changes.begin_body(shard);
+        let body = made.map_err(|it| not_added(frame.shard, &it))?;
+        Ok(Content::Copy(name, body))
     }
 
     /// Whether the shard comes to this process by the record, from the process that this names. That one has let go by
@@ -231,11 +330,11 @@ impl<S: Service> FleetInner<S> {
     fn adopt(
         &self,
         place: &Place<S::Body>,
-        mut body: BodyInUse<'_, S::Body>,
+        body: &mut BodyInUse<'_, S::Body>,
         frame: &HandFrame<'_>,
         content: Content<S::Body>,
     ) -> Result<(), NotTaken> {
-        self.drop_stale(frame.shard, place, &mut body);
+        self.drop_stale(frame.shard, place, body);
         let shard = Shard::new(frame.shard, place.known().fence());
         let made = match body.is_some() {
             true => None,
@@ -243,7 +342,7 @@ impl<S: Service> FleetInner<S> {
         };
         let mut known = place.known();
         if !self.is_meant(&known, frame) {
-            drop((known, body));
+            drop(known);
             made.into_iter()
                 .for_each(|it| self.service.dropped(shard, it));
             return Err(NotTaken::Again("the record has changed since"));
@@ -254,10 +353,8 @@ impl<S: Service> FleetInner<S> {
         known.hand = Some(frame.hand);
         if made.is_some() {
             (known.body_is_of, known.had_body) = (Some(known.holding()), true);
-            *body = made;
+            **body = made;
         }
-        drop((known, body));
-        place.queue.wake();
         Ok(())
     }
 
@@ -265,13 +362,18 @@ impl<S: Service> FleetInner<S> {
     fn added(&self, shard: Shard, content: Content<S::Body>) -> Result<S::Body, NotTaken> {
         let added = match (content, self.service.changes()) {
             (Content::Whole(bytes), _) => self.service.add(shard, Came::Handed(&bytes)),
-            (Content::Copy(mut body), Some(changes)) => {
+            (Content::Copy(_, mut body), Some(changes)) => {
                 changes.end_body(shard, &mut body).map(|()| body)
             }
-            (Content::Copy(body), None) => Ok(body),
+            (Content::Copy(_, body), None) => Ok(body),
         };
         added.map_err(|it| not_added(shard.number(), &it))
     }
+}
+
+/// Returns the generation of the record by which this process prepared for what is handed over.
+fn prepared_by(frame: &HandFrame<'_>) -> u64 {
+    frame.hand.generation.saturating_sub(1)
 }
 
 fn not_added(shard: u16, error: &Fault) -> NotTaken {

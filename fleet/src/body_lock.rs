@@ -93,6 +93,11 @@ impl<B> BodyLock<B> {
         (body, is_lost)
     }
 
+    /// Whether somebody uses it.
+    pub(crate) fn is_in_use(&self) -> bool {
+        self.state().kept.is_none()
+    }
+
     /// Whether nobody uses it, and no task waits.
     #[cfg(all(test, feature = "tokio"))]
     pub(crate) fn is_free(&self) -> bool {

@@ -1,5 +1,6 @@
 use crate::body_lock::BodyInUse;
 use crate::connections::Connections;
+use crate::copy_name::CopyName;
 use crate::follower::{self, Notices};
 use crate::host;
 use crate::introduction::Introduction;
@@ -23,7 +24,7 @@ use durkenzo_store_sys::ShardView;
 use std::fmt;
 use std::io;
 use std::net::SocketAddr;
-use std::sync::atomic::{AtomicBool, Ordering};
+use std::sync::atomic::{AtomicBool, AtomicU64, Ordering};
 use std::sync::mpsc::{sync_channel, Receiver, Sender};
 use std::sync::{Arc, Mutex, PoisonError};
 use std::thread;
@@ -40,6 +41,8 @@ const ASK_AGAIN: Duration = Duration::from_millis(250);
 const MEET: Duration = Duration::from_secs(3);
 /// How long a server that was stopped forwards what still comes.
 const LINGER: Duration = Duration::from_millis(500);
+/// How long a process that leaves waits at most for calls that are under way.
+const UNDER_WAY: Duration = Duration::from_secs(5);
 
 /// A process of a fleet. It follows records, holds bodies, and answers clients and other processes, until it leaves.
 pub struct Fleet<S: Service> {
@@ -59,6 +62,8 @@ pub(crate) struct FleetInner<S: Service> {
     pub(crate) connections: Arc<Connections>,
     /// Room for bodies that come to this process.
     pub(crate) moves: Arc<Semaphore>,
+    /// How many copies this process has named.
+    copies: AtomicU64,
     /// The control of this process; none once it has left.
     pub(crate) control: Mutex<Option<Sender<Asked>>>,
     pub(crate) stopping: Arc<AtomicBool>,
@@ -216,12 +221,14 @@ impl<S: Service> Fleet<S> {
         Some(told)
     }
 
-    /// Leaves at once. Others take this server's shards over, and what it kept of them in memory is lost.
+    /// Leaves once no call is under way, or after 5 seconds. Others take this server's shards over, and what it kept of
+    /// them in memory is lost.
     pub fn leave(&self) {
         let inner = &self.inner;
         inner.stopping.store(true, Ordering::Release);
         inner.end_views();
         *inner.control.lock().unwrap_or_else(PoisonError::into_inner) = None;
+        inner.await_bodies();
         inner.member.leave();
         self.listener.end(self.address);
         inner.left.notify_one();
@@ -282,6 +289,7 @@ impl<S: Service> FleetInner<S> {
             member,
             durable: Arc::new(durable),
             moves: Arc::new(Semaphore::new(usize::from(options.moves))),
+            copies: AtomicU64::new(0),
             options,
             sharding,
             settings,
@@ -294,6 +302,15 @@ impl<S: Service> FleetInner<S> {
 
     pub(crate) fn server(&self) -> u16 {
         self.member.server()
+    }
+
+    /// Returns a name for a copy, later than each one before. This process's key is of that revision.
+    pub(crate) fn named_copy(&self, joined: u64) -> CopyName {
+        CopyName {
+            server: self.server(),
+            joined,
+            count: self.copies.fetch_add(1, Ordering::Relaxed),
+        }
     }
 
     pub(crate) fn is_stopping(&self) -> bool {
@@ -314,6 +331,15 @@ impl<S: Service> FleetInner<S> {
         };
         let places = self.places.iter();
         places.map(|it| it.known().record().stand).any(names)
+    }
+
+    /// Waits until nothing uses a body, or for as long as a process that leaves may.
+    fn await_bodies(&self) {
+        let end = end_of(UNDER_WAY);
+        let is_any_in_use = || self.places.iter().any(Place::is_in_use);
+        while is_any_in_use() && Instant::now() < end {
+            thread::sleep(LOOK);
+        }
     }
 
     /// Ends all views: calls that are under way find that they hold no permit any more.

@@ -1,5 +1,6 @@
 //! What clients and servers of a fleet send each other: frames with a length, a kind and fields, the greatest byte
 //! first.
+use crate::copy_name::CopyName;
 use durkenzo_control::links::{Fields, WireFault};
 use durkenzo_store_sys::HandOver;
 use std::io::{self, Read};
@@ -27,6 +28,7 @@ pub(crate) enum Request<'a> {
     Copy {
         shard: u16,
         generation: u64,
+        name: CopyName,
         at: u64,
     },
     /// The owner hands over a piece of what the next owner needs.
@@ -56,8 +58,8 @@ pub(crate) struct CallFrame<'a> {
 pub(crate) struct HandFrame<'a> {
     pub(crate) shard: u16,
     pub(crate) hand: HandOver,
-    /// Whether it is a piece of a copy, and not of the bytes of a whole body.
-    pub(crate) is_copy: bool,
+    /// The copy that it is a piece of; none if it is of the bytes of a whole body.
+    pub(crate) copy: Option<CopyName>,
     /// How many bytes came before it.
     pub(crate) at: u64,
     pub(crate) is_last: bool,
@@ -100,6 +102,22 @@ impl CallFrame<'_> {
     }
 }
 
+impl CopyName {
+    fn write(&self, out: &mut Vec<u8>) {
+        out.extend(self.server.to_be_bytes());
+        out.extend(self.joined.to_be_bytes());
+        out.extend(self.count.to_be_bytes());
+    }
+
+    fn read(fields: &mut Fields<'_>) -> Result<CopyName, WireFault> {
+        Ok(CopyName {
+            server: fields.short()?,
+            joined: fields.long()?,
+            count: fields.long()?,
+        })
+    }
+}
+
 impl HandFrame<'_> {
     fn write(&self, out: &mut Vec<u8>) {
         out.push(3);
@@ -107,7 +125,10 @@ impl HandFrame<'_> {
         out.extend(self.hand.server.to_be_bytes());
         out.extend(self.hand.joined.to_be_bytes());
         out.extend(self.hand.generation.to_be_bytes());
-        out.push(u8::from(self.is_copy));
+        out.push(u8::from(self.copy.is_some()));
+        if let Some(name) = &self.copy {
+            name.write(out);
+        }
         out.extend(self.at.to_be_bytes());
         out.push(u8::from(self.is_last));
         out.extend(self.bytes);
@@ -121,11 +142,13 @@ impl<'a> Request<'a> {
             Request::Copy {
                 shard,
                 generation,
+                name,
                 at,
             } => {
                 out.push(2);
                 out.extend(shard.to_be_bytes());
                 out.extend(generation.to_be_bytes());
+                name.write(out);
                 out.extend(at.to_be_bytes());
             }
             Request::Hand(hand) => hand.write(out),
@@ -155,6 +178,7 @@ impl<'a> Request<'a> {
             2 => Request::Copy {
                 shard: fields.short()?,
                 generation: fields.long()?,
+                name: CopyName::read(&mut fields)?,
                 at: fields.long()?,
             },
             3 => Request::Hand(HandFrame {
@@ -164,7 +188,10 @@ impl<'a> Request<'a> {
                     joined: fields.long()?,
                     generation: fields.long()?,
                 },
-                is_copy: fields.flag()?,
+                copy: match fields.flag()? {
+                    true => Some(CopyName::read(&mut fields)?),
+                    false => None,
+                },
                 at: fields.long()?,
                 is_last: fields.flag()?,
                 bytes: fields.rest(),
@@ -380,6 +407,21 @@ mod tests {
             generation: 9,
             server: 2,
         };
+        let name = CopyName {
+            server: 4,
+            joined: 6,
+            count: 5,
+        };
+        let handed = |copy| {
+            Request::Hand(HandFrame {
+                shard: 3,
+                hand,
+                copy,
+                at: 4,
+                is_last: true,
+                bytes: b"abc",
+            })
+        };
         for request in [
             Request::Call(CallFrame {
                 shard: 3,
@@ -392,16 +434,11 @@ mod tests {
             Request::Copy {
                 shard: 3,
                 generation: 8,
+                name,
                 at: 1 << 33,
             },
-            Request::Hand(HandFrame {
-                shard: 3,
-                hand,
-                is_copy: true,
-                at: 4,
-                is_last: true,
-                bytes: b"abc",
-            }),
+            handed(Some(name)),
+            handed(None),
             Request::Command {
                 is_passed_on: true,
                 words: b"x",

@@ -1,4 +1,5 @@
 //! What a shard's owner gives the next owner: a copy while it answers calls, and the rest once it has let go.
+use crate::copy_name::CopyName;
 use crate::fleet::FleetInner;
 use crate::frame::{HandFrame, Request, Response, CHUNK};
 use crate::outgoing_copy::OutgoingCopy;
@@ -31,18 +32,19 @@ enum Sent {
 }
 
 impl<S: Service> FleetInner<S> {
-    /// Answers the piece of a copy behind `at` bytes. The first piece begins the copy.
-    pub(crate) fn copy(&self, shard: u16, generation: u64, at: u64, out: &mut Vec<u8>) {
-        if let Err(why) = self.copied(shard, generation, at, out) {
+    /// Answers the piece of this copy behind `at` bytes. The first piece begins the copy, if it is a later one.
+    pub(crate) fn copy(&self, shard: u16, named: (u64, CopyName), at: u64, out: &mut Vec<u8>) {
+        if let Err(why) = self.copied(shard, named, at, out) {
             Response::Again(why).write(out);
         }
     }
 
-    /// Writes such a piece, if this process is the owner by the record of this generation.
+    /// Writes such a piece, if this process is the owner by the record of this generation, and the next owner named the
+    /// copy.
     fn copied(
         &self,
         shard: u16,
-        generation: u64,
+        (generation, name): (u64, CopyName),
         at: u64,
         out: &mut Vec<u8>,
     ) -> Result<(), &'static str> {
@@ -53,21 +55,22 @@ impl<S: Service> FleetInner<S> {
         self.await_record(place, generation);
         let mut body = place.body();
         let record = place.known().record();
-        let is_owner =
-            matches!(record.stand, Stand::Prepared { owner, .. } if owner == self.server());
-        if !is_owner || record.generation != generation {
-            return Err("this process isn't the owner by that record");
+        let stand = Stand::Prepared {
+            owner: self.server(),
+            next: name.server,
+        };
+        if record.stand != stand || record.generation != generation {
+            return Err("no shard goes from this process to that one by that record");
         }
         self.drop_stale(shard, place, &mut body);
         let body = body.as_mut().ok_or("the owner has no body yet")?;
-        if at == 0 {
+        let named = (generation, name);
+        let is_later = |it: &OutgoingCopy| it.is_before(named);
+        if at == 0 && place.known().copy.as_ref().is_none_or(is_later) {
             changes.begin_copy(body);
-            place.known().copy = Some(OutgoingCopy::new(generation));
+            place.known().copy = Some(OutgoingCopy::new(generation, name));
         }
-        let copy = place
-            .known()
-            .copy
-            .take_if(|it| it.generation() == generation);
+        let copy = place.known().copy.take_if(|it| it.is(named));
         let mut copy = copy.ok_or("there is no copy that this continues")?;
         let piece = copy.piece_at(at, || changes.next_piece(body, self.options.piece));
         let written = piece.map(|it| {
@@ -133,13 +136,14 @@ impl<S: Service> FleetInner<S> {
     /// sends the whole body.
     fn send(&self, place: &Place<S::Body>, body: &mut S::Body, to: Recipient) -> Sent {
         let Some(changes) = self.service.changes() else {
-            return self.send_whole(body, to);
+            return self.send_whole(place, body, to);
         };
         let begun = place.known().copy.take();
         let is_begun = begun.is_some();
         let mut copy = begun.unwrap_or_else(|| {
             changes.begin_copy(body);
-            OutgoingCopy::new(to.hand.generation - 1)
+            let name = self.named_copy(to.hand.joined);
+            OutgoingCopy::new(to.hand.generation - 1, name)
         });
         let sent = self.send_pieces((changes, body), &mut copy, to);
         if sent != Sent::NoCopy {
@@ -151,7 +155,7 @@ impl<S: Service> FleetInner<S> {
         match is_begun {
             // A copy from the beginning is sent at once.
             true => Sent::NotYet,
-            false => self.send_whole(body, to),
+            false => self.send_whole(place, body, to),
         }
     }
 
@@ -174,7 +178,7 @@ impl<S: Service> FleetInner<S> {
             let frame = HandFrame {
                 shard: to.shard,
                 hand: to.hand,
-                is_copy: true,
+                copy: Some(copy.name()),
                 at: copy.at(),
                 is_last,
                 bytes: copy.bytes(),
@@ -188,16 +192,28 @@ impl<S: Service> FleetInner<S> {
         }
     }
 
-    /// Sends the body as the service hands it over, in frames.
-    fn send_whole(&self, body: &mut S::Body, to: Recipient) -> Sent {
-        let bytes = self.service.hand_over(body);
+    /// Sends the body as the service hands it over. What the next owner doesn't take yet is kept until it does.
+    fn send_whole(&self, place: &Place<S::Body>, body: &mut S::Body, to: Recipient) -> Sent {
+        let generation = to.hand.generation;
+        let kept = place.known().spelled.take();
+        let kept = kept.filter(|it| it.0 == generation);
+        let bytes = kept.map_or_else(|| self.service.hand_over(body), |it| it.1);
+        let sent = self.send_bytes(&bytes, to);
+        if sent != Sent::All {
+            place.known().spelled = Some((generation, bytes));
+        }
+        sent
+    }
+
+    /// Sends the bytes of a whole body, in frames.
+    fn send_bytes(&self, bytes: &[u8], to: Recipient) -> Sent {
         let mut at = 0;
         loop {
             let end = (at + CHUNK).min(bytes.len());
             let frame = HandFrame {
                 shard: to.shard,
                 hand: to.hand,
-                is_copy: false,
+                copy: None,
                 at: at as u64,
                 is_last: end == bytes.len(),
                 bytes: &bytes[at..end],

@@ -1,5 +1,7 @@
+use crate::copy_name::CopyName;
 use crate::frame::HandFrame;
 use crate::Fault;
+use std::sync::Arc;
 use thiserror::Error;
 use tokio::sync::OwnedSemaphorePermit;
 
@@ -11,15 +13,15 @@ pub(crate) struct IncomingBody<B> {
     bytes: u64,
     content: Content<B>,
     /// As many bodies come to this process at once as may.
-    _place: OwnedSemaphorePermit,
+    room: Arc<OwnedSemaphorePermit>,
 }
 
 /// What has come.
 pub(crate) enum Content<B> {
     /// A part of the bytes of [`Service::hand_over`](crate::Service::hand_over).
     Whole(Vec<u8>),
-    /// A body to which the service adds pieces.
-    Copy(B),
+    /// A body to which the service adds the pieces of this copy.
+    Copy(CopyName, B),
 }
 
 /// Why a piece isn't taken.
@@ -38,14 +40,28 @@ impl<B> IncomingBody<B> {
     pub(crate) fn new(
         generation: u64,
         content: Content<B>,
-        place: OwnedSemaphorePermit,
+        room: Arc<OwnedSemaphorePermit>,
     ) -> IncomingBody<B> {
         IncomingBody {
             generation,
             bytes: 0,
             content,
-            _place: place,
+            room,
         }
+    }
+
+    /// Returns room for a body of which nothing has come.
+    pub(crate) fn reserved(generation: u64, room: Arc<OwnedSemaphorePermit>) -> IncomingBody<B> {
+        IncomingBody::new(generation, Content::Whole(Vec::new()), room)
+    }
+
+    pub(crate) fn generation(&self) -> u64 {
+        self.generation
+    }
+
+    /// Returns the room that it has. It is given back once nobody has it.
+    pub(crate) fn room(&self) -> Arc<OwnedSemaphorePermit> {
+        self.room.clone()
     }
 
     /// Returns how many bytes have come.
@@ -55,8 +71,24 @@ impl<B> IncomingBody<B> {
 
     /// Returns whether the piece that is handed over is of this body.
     pub(crate) fn is_of(&self, frame: &HandFrame<'_>) -> bool {
-        let is_copy = matches!(self.content, Content::Copy(_));
-        self.generation + 1 == frame.hand.generation && is_copy == frame.is_copy
+        self.generation + 1 == frame.hand.generation && self.name() == frame.copy
+    }
+
+    /// Returns whether the first piece that is handed over begins a body anew. One of the same copy, or of an earlier
+    /// one, has come late.
+    pub(crate) fn is_before(&self, frame: &HandFrame<'_>) -> bool {
+        let is_late = match (self.name(), frame.copy) {
+            (Some(own), Some(other)) => own.server == other.server && !other.is_later_than(own),
+            (None, _) | (_, None) => false,
+        };
+        self.generation + 1 != frame.hand.generation || !is_late
+    }
+
+    fn name(&self) -> Option<CopyName> {
+        match self.content {
+            Content::Whole(_) => None,
+            Content::Copy(name, _) => Some(name),
+        }
     }
 
     /// Takes the piece behind `at` bytes, if it is the next one, and no more than `most` bytes have come then. A piece
@@ -80,7 +112,7 @@ impl<B> IncomingBody<B> {
         }
         match &mut self.content {
             Content::Whole(bytes) => bytes.extend(piece),
-            Content::Copy(body) => add(body, piece).map_err(PieceFault::Service)?,
+            Content::Copy(_, body) => add(body, piece).map_err(PieceFault::Service)?,
         }
         self.bytes = end;
         Ok(())
@@ -101,7 +133,7 @@ mod tests {
 
     fn body(content: Content<Vec<u8>>) -> IncomingBody<Vec<u8>> {
         let place = Arc::new(Semaphore::new(1)).try_acquire_owned();
-        IncomingBody::new(7, content, place.unwrap())
+        IncomingBody::new(7, content, Arc::new(place.unwrap()))
     }
 
     fn add(body: &mut Vec<u8>, piece: &[u8]) -> Result<(), Fault> {
@@ -112,9 +144,36 @@ mod tests {
         Ok(())
     }
 
+    fn named(count: u64) -> CopyName {
+        CopyName {
+            server: 3,
+            joined: 1,
+            count,
+        }
+    }
+
+    fn copy(count: u64) -> Content<Vec<u8>> {
+        Content::Copy(named(count), Vec::new())
+    }
+
+    fn frame(generation: u64, copy: Option<CopyName>) -> HandFrame<'static> {
+        HandFrame {
+            shard: 0,
+            hand: HandOver {
+                joined: 1,
+                generation,
+                server: 3,
+            },
+            copy,
+            at: 0,
+            is_last: true,
+            bytes: b"",
+        }
+    }
+
     #[test]
     fn pieces_are_taken_in_their_order_and_once() {
-        for content in [Content::Whole(Vec::new()), Content::Copy(Vec::new())] {
+        for content in [Content::Whole(Vec::new()), copy(7)] {
             let mut body = body(content);
             let mut take = |at, piece: &[u8]| body.take(at, piece, 5, add);
             assert!(matches!(take(2, b"cd"), Err(PieceFault::Unexpected)));
@@ -123,32 +182,33 @@ mod tests {
             assert!(matches!(take(2, b"cdef"), Err(PieceFault::TooLong)));
             assert!(take(2, b"cde").is_ok() && take(5, b"").is_ok());
             assert_eq!(body.bytes(), 5);
-            let (Content::Whole(bytes) | Content::Copy(bytes)) = body.into_content();
+            let (Content::Whole(bytes) | Content::Copy(_, bytes)) = body.into_content();
             assert_eq!(bytes, b"abcde");
         }
-        let refused = body(Content::Copy(Vec::new())).take(0, b"bad", 5, add);
+        let refused = body(copy(7)).take(0, b"bad", 5, add);
         assert!(matches!(refused, Err(PieceFault::Service(_))));
     }
 
     #[test]
     fn a_piece_is_of_the_body_whose_record_comes_before() {
-        let body = body(Content::Copy(Vec::new()));
-        let of = |generation, is_copy| {
-            let hand = HandOver {
-                joined: 1,
-                generation,
-                server: 3,
-            };
-            let (shard, at, is_last, bytes) = (0, 0, true, &b""[..]);
-            body.is_of(&HandFrame {
-                shard,
-                hand,
-                is_copy,
-                at,
-                is_last,
-                bytes,
-            })
+        let body = body(copy(7));
+        let of = |generation, copy| body.is_of(&frame(generation, copy));
+        assert!(of(8, Some(named(7))) && !of(8, Some(named(8))) && !of(8, None));
+        assert!(!of(7, Some(named(7))) && !of(9, Some(named(7))));
+    }
+
+    #[test]
+    fn a_piece_of_an_earlier_copy_that_comes_late_begins_nothing() {
+        let before = |content, copy| body(content).is_before(&frame(8, copy));
+        assert!(before(copy(7), Some(named(8))) && before(copy(7), None));
+        assert!(!before(copy(7), Some(named(7))) && !before(copy(7), Some(named(6))));
+        assert!(before(Content::Whole(Vec::new()), Some(named(1))));
+        assert!(body(copy(7)).is_before(&frame(9, Some(named(6)))));
+        // The owner sends a copy, because the one that was fetched isn't continued.
+        let name = CopyName {
+            server: 4,
+            ..named(1)
         };
-        assert!(of(8, true) && !of(8, false) && !of(7, true) && !of(9, true));
+        assert!(before(copy(7), Some(name)));
     }
 }

@@ -64,7 +64,7 @@ impl Guest {
             Request::Call(call) if call.from != NO_SERVER => self == Guest::Server(call.from),
             Request::Call(call) => is_server || call.hops == 0,
             Request::Hand(frame) => self == Guest::Server(frame.hand.server),
-            Request::Copy { .. } => is_server,
+            Request::Copy { name, .. } => self == Guest::Server(name.server),
             Request::Command { is_passed_on, .. } => is_server || !is_passed_on,
             Request::Routes => true,
         }
@@ -74,6 +74,7 @@ impl Guest {
 #[cfg(test)]
 mod tests {
     use super::*;
+    use crate::copy_name::CopyName;
     use crate::frame::{CallFrame, HandFrame};
     use durkenzo_store_sys::HandOver;
 
@@ -96,6 +97,11 @@ mod tests {
         let copy = Request::Copy {
             shard: 0,
             generation: 1,
+            name: CopyName {
+                server: 2,
+                joined: 1,
+                count: 0,
+            },
             at: 0,
         };
         let hand = Request::Hand(HandFrame {
@@ -105,7 +111,7 @@ mod tests {
                 generation: 1,
                 server: 2,
             },
-            is_copy: false,
+            copy: None,
             at: 0,
             is_last: true,
             bytes: b"",
@@ -116,7 +122,7 @@ mod tests {
             (call(2, 0), false, true, false),
             (call(2, 1), false, true, false),
             (hand, false, true, false),
-            (copy, false, true, true),
+            (copy, false, true, false),
             (command(false), true, true, true),
             (command(true), false, true, true),
             (Request::Routes, true, true, true),

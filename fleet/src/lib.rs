@@ -55,6 +55,7 @@ mod calls;
 mod changes;
 mod commands;
 mod connections;
+mod copy_name;
 mod copy_progress;
 mod enter;
 mod fleet;

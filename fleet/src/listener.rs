@@ -414,8 +414,9 @@ fn answer<S: Service>(
         Request::Copy {
             shard,
             generation,
+            name,
             at,
-        } => fleet.copy(*shard, *generation, *at, out),
+        } => fleet.copy(*shard, (*generation, *name), *at, out),
         Request::Hand(frame) => match fleet.take_hand_over(frame) {
             Ok(()) => Response::Taken.write(out),
             Err(NotTaken::Again(why)) => Response::Again(why).write(out),

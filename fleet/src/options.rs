@@ -157,7 +157,7 @@ pub struct Options {
     )]
     pub waiting: usize,
 
-    /// How many bytes the next owner of a shard takes of its body at most, and of what changes meanwhile
+    /// How many bytes a shard's body should have at most that comes here, and what changes of it meanwhile
     #[arg(
         long,
         env = "DURKENZO_BODY",

@@ -1,3 +1,4 @@
+use crate::copy_name::CopyName;
 use crate::frame::MOST;
 use crate::Piece;
 
@@ -5,6 +6,7 @@ use crate::Piece;
 pub(crate) struct OutgoingCopy {
     /// The generation of the record by which the next owner prepares.
     generation: u64,
+    name: CopyName,
     /// The piece that was made last, which is kept until the next owner has it.
     piece: Piece,
     /// How many bytes came before that piece.
@@ -14,10 +16,11 @@ pub(crate) struct OutgoingCopy {
 }
 
 impl OutgoingCopy {
-    /// Returns a copy without pieces, for the next owner by the record of this generation.
-    pub(crate) fn new(generation: u64) -> OutgoingCopy {
+    /// Returns a copy of this name without pieces, for the next owner by the record of this generation.
+    pub(crate) fn new(generation: u64, name: CopyName) -> OutgoingCopy {
         OutgoingCopy {
             generation,
+            name,
             piece: Piece::default(),
             at: 0,
             is_pending: false,
@@ -26,6 +29,20 @@ impl OutgoingCopy {
 
     pub(crate) fn generation(&self) -> u64 {
         self.generation
+    }
+
+    pub(crate) fn name(&self) -> CopyName {
+        self.name
+    }
+
+    /// Returns whether it is this copy, for the next owner by the record of this generation.
+    pub(crate) fn is(&self, (generation, name): (u64, CopyName)) -> bool {
+        self.generation == generation && self.name == name
+    }
+
+    /// Returns whether that copy is a later one. A request for an earlier one has come late.
+    pub(crate) fn is_before(&self, (generation, name): (u64, CopyName)) -> bool {
+        self.generation != generation || name.is_later_than(self.name)
     }
 
     /// Returns how many bytes came before the piece that was made last.
@@ -89,9 +106,25 @@ mod tests {
         Piece { bytes, left }
     }
 
+    fn named(count: u64) -> CopyName {
+        CopyName {
+            server: 2,
+            joined: 3,
+            count,
+        }
+    }
+
+    #[test]
+    fn a_later_copy_is_told_from_an_earlier_one() {
+        let copy = OutgoingCopy::new(4, named(7));
+        assert!(copy.is((4, named(7))) && !copy.is((4, named(6))) && !copy.is((5, named(7))));
+        assert!(copy.is_before((4, named(8))) && copy.is_before((5, named(1))));
+        assert!(!copy.is_before((4, named(7))) && !copy.is_before((4, named(6))));
+    }
+
     #[test]
     fn a_piece_is_made_once_and_sent_until_it_is_taken() {
-        let mut copy = OutgoingCopy::new(4);
+        let mut copy = OutgoingCopy::new(4, named(1));
         let first = piece(b"abc", 2);
         assert_eq!(copy.piece_at(0, || first.clone()), Some(&first));
         let again = || -> Piece { panic!("it is made") };
@@ -113,7 +146,7 @@ mod tests {
 
     #[test]
     fn a_piece_that_goes_on_without_bytes_or_is_too_long_isnt_sent() {
-        let mut copy = OutgoingCopy::new(4);
+        let mut copy = OutgoingCopy::new(4, named(1));
         assert_eq!(copy.piece(|| piece(b"", 1)), None);
         copy.note_taken();
         assert_eq!(copy.piece(|| piece(&vec![0; MOST + 1], 0)), None);

@@ -7,6 +7,7 @@ use durkenzo_driver::ShardReading;
 use durkenzo_store::Revision;
 use durkenzo_store_sys::{Code, HandOver, ShardView};
 use std::sync::{Mutex, MutexGuard, PoisonError};
+use std::time::Instant;
 
 /// A shard in this process: what is known of it, its body, and who waits for it.
 ///
@@ -37,8 +38,9 @@ pub(crate) struct Known {
     pub(crate) let_go: u64,
     /// What is copied to the next owner.
     pub(crate) copy: Option<OutgoingCopy>,
-    /// The generation of the record by which this process prepares, and how often it got no copy since.
-    pub(crate) prepared: (u64, u32),
+    /// What the service's `hand_over` returned by the record of this generation, until the next owner has it.
+    pub(crate) spelled: Option<(u64, Vec<u8>)>,
+    pub(crate) prepared: Preparation,
     /// By what the body is of this moment, if it is. No call uses another body, and the settler drops it.
     pub(crate) body_is_of: Option<Holding>,
     /// Whether this process has ever had a body of the shard.
@@ -47,6 +49,27 @@ pub(crate) struct Known {
     pub(crate) settles: bool,
     /// The word by which that was done, and whether the owner before had let go.
     pub(crate) settled: Option<(u64, bool)>,
+}
+
+/// How far this process is as it prepares for a shard.
+#[derive(Clone, Copy, Debug)]
+pub(crate) struct Preparation {
+    /// The generation of the record by which it prepares.
+    pub(crate) generation: u64,
+    /// How often it got no copy since.
+    pub(crate) failures: u32,
+    /// When it asks again for a body that was too long.
+    pub(crate) again: Option<Instant>,
+}
+
+impl Preparation {
+    pub(crate) fn new(generation: u64) -> Preparation {
+        Preparation {
+            generation,
+            failures: 0,
+            again: None,
+        }
+    }
 }
 
 /// What is seen of a shard without a reading. If it changes, the shard is read again.
@@ -77,7 +100,8 @@ impl<B> Place<B> {
             handed: 0,
             let_go: 0,
             copy: None,
-            prepared: (0, 0),
+            spelled: None,
+            prepared: Preparation::new(0),
             body_is_of: None,
             had_body: false,
             settles: false,
@@ -111,6 +135,11 @@ impl<B> Place<B> {
         body
     }
 
+    /// Whether a call uses the body, or it is handed over.
+    pub(crate) fn is_in_use(&self) -> bool {
+        self.body.is_in_use()
+    }
+
     /// Whether nobody uses the body.
     #[cfg(all(test, feature = "tokio"))]
     pub(crate) fn is_free(&self) -> bool {
@@ -132,7 +161,8 @@ impl<B> Place<B> {
     fn note_lost(&self, is_lost: bool) {
         if is_lost {
             let mut known = self.known();
-            (known.body_is_of, known.settled, known.copy) = (None, None, None);
+            (known.body_is_of, known.settled) = (None, None);
+            (known.copy, known.spelled) = (None, None);
         }
     }
 

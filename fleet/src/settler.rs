@@ -86,6 +86,7 @@ impl<S: Service> FleetInner<S> {
             let holding = known.holding();
             let of_before = |it: &mut OutgoingCopy| it.generation() < holding.generation;
             let copy = known.copy.take_if(of_before);
+            known.spelled = None;
             (holding, known.is_new(), known.fence(), copy)
         };
         if let Some(body) = body.as_mut() {
@@ -150,7 +151,7 @@ impl<S: Service> FleetInner<S> {
         if known.record().generation != generation {
             return;
         }
-        (known.body_is_of, known.copy) = (None, None);
+        (known.body_is_of, known.copy, known.spelled) = (None, None, None);
         let (fence, dropped, came) = (known.fence(), body.take(), incoming.take());
         drop((known, incoming, body));
         drop(came);

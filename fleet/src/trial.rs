@@ -1,6 +1,7 @@
 //! Several processes of a service that counts, in one process of a test. Its clients know which count comes next, so a
 //! count that is lost or made twice is found, and so is each wrong rule that is planted.
 use crate::connections::{Connections, NotAnswered};
+use crate::copy_name::CopyName;
 use crate::frame::{CallFrame, HandFrame, Request, Response};
 use crate::introduction::Introduction;
 use crate::plant::Plant;
@@ -533,6 +534,110 @@ fn a_migration_that_is_given_up_leaves_no_copy_and_ends_the_owners() {
 }
 
 #[test]
+fn a_request_for_an_earlier_copy_that_comes_late_forgets_no_change() {
+    let (trial, [shard, _]) = copying();
+    let router = Router::watch(&*trial.store).unwrap();
+    trial.prepare(shard, 3, Some(3));
+    // The copy has the first count, and this one has changed since.
+    assert_eq!(count(&router, &key_of(&router, shard)), 2);
+    let owner = &trial.fleets[0].inner;
+    let name = {
+        let known = owner.places[usize::from(shard)].known();
+        known.copy.as_ref().unwrap().name()
+    };
+    let ask = |name| {
+        let mut out = Vec::new();
+        owner.copy(shard, (trial.generation(shard), name), 0, &mut out);
+        matches!(Response::read(&out[4..]), Ok(Response::Piece { .. }))
+    };
+    let (joined, server) = (name.joined - 1, 2);
+    assert!(!ask(CopyName { joined, ..name }) && !ask(CopyName { server, ..name }));
+    // It is the piece that was made last, and is told again.
+    assert!(ask(name));
+    trial.step(shard, &["PREPARE_DROP", &shard.to_string()], Some(1));
+    trial.add(shard);
+    assert_eq!(count(&router, &key_of(&router, shard)), 3);
+    assert!(trial.came.lock().unwrap().contains(&"copied"));
+    trial.end();
+}
+
+/// Begins a fleet that takes bodies of so many bytes, with a shard of the first server that has a longer one.
+fn with_long_body(keeps_changes: bool, body: u64) -> (Trial, Router, u16) {
+    let trial = Trial::with(Arc::new(Embedded::in_memory()), keeps_changes, |server| {
+        let options = options(server, 30, None);
+        Options { body, ..options }
+    });
+    let router = Router::watch(&*trial.store).unwrap();
+    let shard = (0..SHARDS).find(|it| trial.owner(*it) == Some(1)).unwrap();
+    assert_eq!(count(&router, &key_of(&router, shard)), 1);
+    (trial, router, shard)
+}
+
+#[test]
+fn a_body_that_is_too_long_stays_with_its_owner_which_answers() {
+    let (trial, router, shard) = with_long_body(true, 2);
+    trial.prepare(shard, 3, None);
+    trial.wait_until("it is found too long", || {
+        let place = &trial.fleets[2].inner.places[usize::from(shard)];
+        let prepared = place.known().prepared;
+        prepared.again.is_some() && prepared.generation == trial.generation(shard)
+    });
+    assert_eq!(count(&router, &key_of(&router, shard)), 2);
+    let member = &trial.fleets[0].inner.member;
+    assert!(member.acked(shard, 3) != Some(trial.generation(shard)));
+    assert!(!trial.has_copy(shard, 3));
+    trial.end();
+}
+
+#[test]
+fn a_whole_body_that_is_too_long_is_taken_because_its_owner_has_let_go() {
+    let (trial, router, shard) = with_long_body(false, 2);
+    trial.migrate(shard, 3);
+    assert_eq!(count(&router, &key_of(&router, shard)), 2);
+    trial.end();
+}
+
+#[test]
+fn a_shard_has_its_room_from_its_preparation_until_it_has_come() {
+    let trial = Trial::new(30, false, None);
+    let shard = (0..SHARDS).find(|it| trial.owner(*it) == Some(1)).unwrap();
+    let moves = &trial.fleets[2].inner.moves;
+    trial.wait_until("nothing comes", || moves.available_permits() == 1);
+    trial.prepare(shard, 3, Some(3));
+    assert_eq!(moves.available_permits(), 0);
+    trial.step(shard, &["PREPARE_DROP", &shard.to_string()], Some(1));
+    trial.add(shard);
+    assert_eq!(moves.available_permits(), 1);
+    trial.end();
+}
+
+#[test]
+fn a_process_that_leaves_waits_for_the_calls_that_are_under_way() {
+    let trial = Trial::new(30, false, None);
+    let shard = (0..SHARDS).find(|it| trial.owner(*it) == Some(2)).unwrap();
+    let fleet = &trial.fleets[1];
+    let mut entered = fleet.enter(shard, Mode::Direct);
+    while !matches!(entered, Enter::Here(_)) {
+        drop(entered);
+        entered = fleet.enter(shard, Mode::Direct);
+    }
+    let is_there = || trial.fleets[0].inner.member.members().contains_key(&2);
+    thread::scope(|scope| {
+        let leaves = scope.spawn(|| fleet.leave());
+        trial.wait_until("it leaves", || fleet.inner.is_stopping());
+        let Enter::Here(permit) = entered else {
+            panic!()
+        };
+        trial.wait_until("its permits end", || !permit.holds());
+        assert!(is_there() && !leaves.is_finished());
+        drop(permit);
+        leaves.join().unwrap();
+    });
+    trial.wait_until("it has left", || !is_there());
+    trial.end();
+}
+
+#[test]
 fn the_owner_goes_on_if_the_next_one_fails_with_its_copy() {
     let (trial, [shard, _]) = copying();
     trial.prepare(shard, 3, Some(3));
@@ -701,11 +806,11 @@ fn what_another_process_hands_over_is_refused() {
         generation: 1,
         server: 3,
     };
-    let (is_copy, at, is_last, bytes) = (false, 0, true, &b"x"[..]);
+    let (copy, at, is_last, bytes) = (None, 0, true, &b"x"[..]);
     let frame = HandFrame {
         shard: 0,
         hand,
-        is_copy,
+        copy,
         at,
         is_last,
         bytes,
@@ -863,7 +968,7 @@ fn an_owner_that_gets_a_shard_back_after_it_handed_over_begins_without_its_body(
             generation: trial.generation(shard) - 1,
             server: 1,
         },
-        is_copy: false,
+        copy: None,
         at: 0,
         is_last: true,
         bytes: b"",

@@ -1,17 +1,23 @@
 //! The service of the trial: it counts calls by key, and keeps the numbers of the last ones.
 use crate::message::{now, numbers, spelled, Asked, Told, LAST};
-use durkenzo_fleet::{Call, Came, Fault, Service, Shard};
-use std::collections::{BTreeMap, VecDeque};
+use durkenzo_fleet::{Call, Came, Changes, Fault, Piece, Service, Shard};
+use std::collections::{BTreeMap, BTreeSet, VecDeque};
 
 pub struct Counting {
     process: u64,
+    moves_in_pieces: bool,
 }
+
+/// How many bytes a key has in a piece at most.
+const KEY: usize = 8 * (3 + LAST);
 
 /// What is kept of a shard.
 pub struct Counts {
     origin: u64,
     is_new: bool,
     keys: BTreeMap<u32, Count>,
+    /// The keys that aren't copied to the next owner, or were counted since, if there is a copy.
+    uncopied: Option<BTreeSet<u32>>,
 }
 
 #[derive(Default)]
@@ -26,9 +32,12 @@ pub fn began_at(origin: u64) -> u64 {
 }
 
 impl Counting {
-    pub fn new() -> Counting {
+    pub fn new(moves_in_pieces: bool) -> Counting {
         let process = now() << 8 | u64::from(std::process::id() as u8);
-        Counting { process }
+        Counting {
+            process,
+            moves_in_pieces,
+        }
     }
 
     /// Returns what is kept of a shard that begins.
@@ -40,14 +49,16 @@ impl Counting {
             origin,
             is_new,
             keys,
+            uncopied: None,
         }
     }
 }
 
 impl Counts {
-    fn bytes(&self) -> Vec<u8> {
+    /// Returns the bytes that spell these keys of it.
+    fn bytes(&self, keys: &BTreeSet<u32>) -> Vec<u8> {
         let mut all = vec![self.origin, u64::from(self.is_new)];
-        for (key, it) in &self.keys {
+        for (key, it) in self.keys.iter().filter(|it| keys.contains(it.0)) {
             all.extend([u64::from(*key), it.count, it.last.len() as u64]);
             all.extend(&it.last);
         }
@@ -70,6 +81,7 @@ impl Counts {
             origin,
             is_new,
             keys,
+            uncopied: None,
         })
     }
 }
@@ -92,6 +104,9 @@ impl Service for Counting {
             return Vec::new();
         };
         let counted = counts.keys.entry(asked.key).or_default();
+        if let Some(uncopied) = &mut counts.uncopied {
+            uncopied.insert(asked.key);
+        }
         if asked.number > 0 {
             counted.count += 1;
             counted.last.push_back(asked.number);
@@ -111,6 +126,40 @@ impl Service for Counting {
     }
 
     fn hand_over(&self, counts: &mut Counts) -> Vec<u8> {
-        counts.bytes()
+        counts.bytes(&counts.keys.keys().copied().collect())
+    }
+
+    fn changes(&self) -> Option<&dyn Changes<Counts>> {
+        self.moves_in_pieces.then_some(self as _)
+    }
+}
+
+impl Changes<Counts> for Counting {
+    fn begin_copy(&self, counts: &mut Counts) {
+        counts.uncopied = Some(counts.keys.keys().copied().collect());
+    }
+
+    fn next_piece(&self, counts: &mut Counts, most: usize) -> Piece {
+        let mut keys = counts.uncopied.take().unwrap_or_default();
+        let rest = keys.iter().nth((most / KEY).max(1)).copied();
+        let uncopied = rest.map_or_else(BTreeSet::new, |it| keys.split_off(&it));
+        let (bytes, left) = (counts.bytes(&keys), (uncopied.len() * KEY) as u64);
+        counts.uncopied = Some(uncopied);
+        Piece { bytes, left }
+    }
+
+    fn end_copy(&self, counts: &mut Counts) {
+        counts.uncopied = None;
+    }
+
+    fn begin_body(&self, _: Shard) -> Result<Counts, Fault> {
+        Ok(self.begun(false))
+    }
+
+    fn add_piece(&self, counts: &mut Counts, piece: &[u8]) -> Result<(), Fault> {
+        let read = Counts::read(piece).ok_or("a piece ends too early")?;
+        (counts.origin, counts.is_new) = (read.origin, read.is_new);
+        counts.keys.extend(read.keys);
+        Ok(())
     }
 }

@@ -30,7 +30,10 @@ fn serve(words: Vec<String>) -> Result<ExitCode, Box<dyn Error>> {
         .with_ansi(false)
         .with_max_level(tracing_subscriber::filter::LevelFilter::DEBUG)
         .init();
-    let fleet = Fleet::join(Counting::new(), Options::parse_from(words))?;
+    let options = Options::parse_from(words);
+    // So bodies move in pieces between some servers, and as a whole between others.
+    let moves_in_pieces = options.name % 2 == 1;
+    let fleet = Fleet::join(Counting::new(moves_in_pieces), options)?;
     println!("server {} at {}", fleet.server(), fleet.address());
     fleet.serve()?;
     Ok(ExitCode::SUCCESS)

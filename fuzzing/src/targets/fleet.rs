@@ -30,9 +30,9 @@ impl Target for FleetFrames {
 
     fn seeds(&mut self) -> Vec<Vec<u8>> {
         let call = [&[1, 0, 3, 0, 1, 2][..], &[0; 8], &[0, 0, 1, 244], b"hit"].concat();
-        let hand = [&[3, 0, 3, 0, 2][..], &[0; 16], &[1], &[0; 16], b"piece"].concat();
+        let hand = [&[3, 0, 3, 0, 2][..], &[0; 16], &[1], &[0; 34], b"piece"].concat();
         let words = [&[4, 0][..], self.words()[0], self.words()[1]].concat();
-        let copy = [&[2, 0, 3][..], &[0; 16]].concat();
+        let copy = [&[2, 0, 3][..], &[0; 34]].concat();
         let answered = [&[1, 0, 2, 1][..], &[0; 8], b"answer"].concat();
         let all = [
             &call[..],
