@@ -433,6 +433,7 @@ fn answer<S: Service>(
 #[cfg(test)]
 mod tests {
     use super::*;
+    use crate::copy_name::CopyName;
     use crate::frame::CallFrame;
 
     #[test]
@@ -455,9 +456,15 @@ mod tests {
                 request: b"",
             })
         };
+        let name = CopyName {
+            server: 1,
+            joined: 1,
+            count: 1,
+        };
         let copy = Request::Copy {
             shard: 0,
             generation: 1,
+            name,
             at: 0,
         };
         let words = b"";
