@@ -1,4 +1,4 @@
--- What the logic has of bytes.
+-- Bytes in the logic.
 use mathlib.Core.Path.{refl}
 use denote.Builtin.{u8}
 use denote.Param.Laws.{Laws, of_field}

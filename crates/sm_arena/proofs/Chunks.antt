@@ -1,4 +1,4 @@
--- What a piece that is written into a chunk leaves of the others, and how many bytes chunks can have.
+-- The other chunks after a piece is written into one, and how many bytes chunks can have.
 use Rattle.std.proofs.Common.{◌≡◌, ℕ, zero, suc, ◌+◌, ◌*◌, ◌^◌, ◌<◌, ◌≤◌, ◌-◌, List, [], ◌∷◌, ◌++◌, length, take, drop}
 use Rattle.std.proofs.Common.{get_or, set, replicate, refl, sym, ap, subst, ◌∙◌, arith, inl, inr, ◌⊎◌}
 use Rattle.std.proofs.Math.Seq.{drop-append_seam, take-add}
@@ -178,7 +178,7 @@ module _ (old : List ArenaBlock) (place : ℕ) (piece : List ℕ) (inside : plac
     joined = flat_set (λ (b : ArenaBlock). joined_size b.memory) old place block block' at joined;
   }
 
--- what lies in an earlier block
+-- the bytes in an earlier block
 pub reads_earlier : (blocks : List ArenaBlock) (place : ℕ) (s : Span) → s.chunk < place
     → bytes_at (chunks_in (take place blocks)) s ≡ bytes_at (chunks_in blocks) s
 reads_earlier blocks place s lt =
@@ -255,7 +255,7 @@ pub writes_next : (old new : List ArenaBlock) (place : ℕ) (piece : List ℕ) �
 writes_next old new place piece inside filled =
     writes (chunks_in old) old new 0 place piece (sym (append-nil (chunks_in old))) inside filled
 
--- what is written into a block keeps all that lay
+-- a write into a block keeps all earlier bytes
 pub fills_keep : (old new : List ArenaBlock) (place : ℕ) (piece : List ℕ) → place < length old
     → IsFilled old place piece new → (s : Span) → length (bytes_at (chunks_in old) s) ≡ s.length
     → bytes_at (chunks_in new) s ≡ bytes_at (chunks_in old) s
@@ -327,7 +327,7 @@ chunk_fits [] i = omega arith
 chunk_fits (b ∷ bs) zero = omega (arith, b.written, b.filled, b.small)
 chunk_fits (b ∷ bs) (suc i) = chunk_fits bs i
 
--- a span of bytes ends where a number still says it
+-- the end of a span of bytes is still a number of its type
 pub span_fits : (bs : List ArenaBlock) (span : Span) → length (bytes_at (chunks_in bs) span) ≡ span.length
     → 0 < span.length → span.start + span.length < 2 ^ 32
 span_fits bs span full some =

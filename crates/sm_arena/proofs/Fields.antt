@@ -11,7 +11,7 @@ use denote.RawPtr.{Ptr, RawPtr, ptr_val}
 use denote.Shadow.{shadow, makes_shadow}
 use denote.Struct.Struct.{Struct}
 
--- what a struct owns does not read its name
+-- the ownership of a struct does not read its name
 abbrev empty_row : RattleType
 empty_row = Struct (record { name = []; args = []; types = []; fields = [] })
 

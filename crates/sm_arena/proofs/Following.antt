@@ -1,5 +1,5 @@
--- What the proofs of a chunk's functions share: their arguments, what they may call, a parameter by its place, and what
--- follows a part of a body. Assumes `Logic`.
+-- Shared by the proofs of a chunk's functions: their arguments, the calls that they may make, a parameter by its place,
+-- and the rest of a body after a part of it. Assumes `Logic`.
 use Rattle.std.proofs.Common.{ℕ, zero, suc, List, [], ◌∷◌}
 use seplogic.Ra.Ura.{Ura}
 use mir.Syntax.{Args, Body, Dict, a_type, dcons, dnil}

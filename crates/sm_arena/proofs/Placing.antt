@@ -1,4 +1,4 @@
--- Pieces by their spans: what lies at one, and what placing or forgetting one changes in the two sums.
+-- Pieces by their spans: the bytes at a span, and the two sums after a piece is placed or forgotten.
 use Rattle.std.proofs.Common.{◌≡◌, ℕ, suc, Bool, true, false, cond, ◌+◌, ◌-◌, eqb, ◌<◌, ◌≤◌, List, [], ◌∷◌, ◌++◌}
 use Rattle.std.proofs.Common.{length, get_or, count_by, unwrap_or, Option, Some, None, IsSome, All, refl, sym, ap}
 use Rattle.std.proofs.Common.{subst, ◌∙◌, arith, inl, inr, ◌⊎◌}
@@ -28,7 +28,7 @@ flipped a b e = by (same_span b a) refl
 abbrev once : Bool → ℕ
 once b = cond b 1 0
 
--- ---- what lies at a span
+-- ---- the bytes at a span
 
 found : (cs : List (List ℕ)) (e : Span × List ℕ) (es : Places) (s : Span) (y : Bool) → same_span e.0 s ≡ y → Lies cs e
     → (IsPlaced es s → (piece_of es s ≡ Some (bytes_at cs s)) × (length (bytes_at cs s) ≡ s.length))
@@ -38,14 +38,14 @@ found cs e es s true same lies more is = subst (λ (t : Span). (Some e.1 ≡ Som
     × (length (bytes_at cs t) ≡ t.length)) (span_of_same e.0 s same) (ap Some (sym lies.0), ap length lies.0 ∙ lies.1)
 found cs e es s false same lies more is = more is
 
--- where a piece was placed, it lies
+-- a piece that was placed is at its span
 pub lies_at : (cs : List (List ℕ)) (es : Places) (s : Span) → All (Lies cs) es → IsPlaced es s
     → (piece_of es s ≡ Some (bytes_at cs s)) × (length (bytes_at cs s) ≡ s.length)
 lies_at cs [] s all is = absurd (false≢true is)
 lies_at cs (e ∷ es) s all is = found cs e es s (same_span e.0 s) refl (all 0 e (omega arith))
     (lies_at cs es s (λ k d lt. all (suc k) d (omega (arith, lt)))) is
 
--- a new span reads what is placed at it
+-- a new span reads the piece that is placed at it
 new_reads : (es : Places) (s : Span) (piece : List ℕ) → piece_of es s ≡ None
     → piece_of (es ++ (s, piece) ∷ []) s ≡ Some piece
 new_reads [] s piece none = rw (same_itself s) refl
@@ -236,7 +236,7 @@ module _ (cs more : List (List ℕ)) (sizes sizes' joined joined' : List ℕ) (h
 
 -- ---- forgetting
 
--- what is forgotten was live, exactly
+-- a piece that is forgotten was live, with exactly its length
 module _ (times more : Span → ℕ) (s : Span) (none : times s ≡ 0)
     (up : (t : Span) → more t ≡ times t + once (same_span s t)) where
   abbrev before : Span × List ℕ → ℕ
@@ -267,7 +267,7 @@ module _ (times more : Span → ℕ) (s : Span) (none : times s ≡ 0)
   live_less (x ∷ es) =
       omega (arith, sum_by-cons after x es, sum_by-cons before x es, sum_by-cons there x es, one x, live_less es)
 
--- the pieces at a span, where there is at most one
+-- the pieces at a span, if there is at most one
 no_lengths : (es : Places) (s : Span) → times_placed es s ≡ 0
     → sum_by (λ (e : Span × List ℕ). cond (same_span e.0 s) (length e.1) 0) es ≡ 0
 no_lengths [] s none = refl

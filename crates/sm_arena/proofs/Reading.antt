@@ -1,4 +1,4 @@
--- What a `&` to a chunk shows: each of its fields, and the bytes. Assumes `Logic`.
+-- A `&` to a chunk shows each of its fields, and the bytes. Assumes `Logic`.
 use mathlib.Core.Path.{refl, sym, ap, ◌∙◌}
 use mathlib.Core.List.{List, [], ◌∷◌}
 use Prim.Native.Nat.{ℕ, ◌+◌, ◌<◌, ◌^◌}
@@ -62,8 +62,8 @@ module _ (A : RattleType) (g : Ghosts A.Denot) where
     shows_used = qed 𝓛 (‵ shown ∷ []) ∵ shr_dup ! Fields fields_laws (fields_of c) b o κ $ unhide ! $ fsplit ! $ fsplit
         ! $ drop ! $ fsplit ! $ drop ! $ fsplit ! $ hide ! $ keep ! (0 ∷ 3 ∷ []) $ done !
 
--- A number or a pointer behind a `&` is opened for a read, and shut again: [the cell; the way back; what shows the
--- `&`].
+-- A number or a pointer behind a `&` is opened for a read, and shut again: [the cell; the way back; the facts that
+-- show the `&`].
 module _ {M : Type 1} {𝓤 : Ura M} {𝓛 : Logic 𝓤} {K : Type 0} {Γ : List (Item 𝓤)} {G : Goal 𝓤 𝓛.H} where
   pub opens_number : K → Soaks G → {κ : Lft} {q : Share} {S : Fml} (n b at : ℕ)
       → ent 𝓤 (sem 𝓛 S) (sep 𝓤 (sem 𝓛 (hidden_shr usize κ n b at)) (sem 𝓛 S))

@@ -72,7 +72,7 @@ module _ {M : Type 1} {𝓤 : Ura M} (𝓛 : Logic 𝓤) where
       use1 𝓛 (‵ (part_at (Array u8 (n + 1)) full_share (xs ++ x ∷ []) b o))
       (bytes_whole 𝓛 full_share (n + 1) (xs ++ x ∷ []) b o) $ done !)
 
-  -- what is written and what is left are the whole chunk
+  -- the written bytes and the room left are the whole chunk
   pub all_room : (n used b o : ℕ) (xs : List ℕ) → used ≤ n
       → ent 𝓤 (sep 𝓤 (sem 𝓛 (part_at (Array u8 used) full_share xs b o)) (H.room (chunk_type (n - used)) b (o + used)))
       (H.room (chunk_type n) b o)

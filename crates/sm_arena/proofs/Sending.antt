@@ -1,4 +1,4 @@
--- What a chunk owns names no thread, so a chunk may go to any thread where its allocator frees from any.
+-- A chunk owns nothing that names a thread. So if its allocator frees from any thread, it may go to any thread.
 use Prim.Native.Nat.{◌-◌}
 use mir.Syntax.{Ty}
 use base.Fraction.{full_share}
@@ -52,7 +52,7 @@ inside null_ptr F k = tt
 seen : (R : RattleType) → IsSync R → (p : Ptr) (x : R.Denot) → Common (lent_at R p x)
 seen R s p x κ = (inside p ftrue tt, s.shared x (block_of p) (count_of p) κ)
 
--- What a `&` to it lends names none either.
+-- A `&` to it lends nothing that names a thread either.
 pub chunk_sync : (A : RattleType) (g : Ghosts A.Denot) → IsSync (the_row A g)
 chunk_sync A g =
     let O = the_type A g in

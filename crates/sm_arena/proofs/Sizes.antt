@@ -1,4 +1,4 @@
--- Chunks grow, and hold what is written.
+-- Chunks grow, and hold the bytes written to them.
 use Rattle.std.proofs.Common.{◌≡◌, ℕ, zero, suc, ◌+◌, ◌*◌, ◌^◌, ◌<◌, ◌≤◌, List, [], ◌∷◌, ◌++◌, length, get_or, set}
 use Rattle.std.proofs.Common.{flat_map, fold, sum, refl, sym, ap, ◌∙◌, arith}
 use Rattle.std.proofs.lemmas.List.{append-nil}
@@ -75,12 +75,12 @@ module _ (bs : List ArenaBlock) (block : ArenaBlock) where
       sum_by_push (λ (n : ℕ). n) (joined_in bs) (size_in block.memory),
     )
 
--- what may be written lies in the memory
+-- the bytes that may be written fit in the memory
 limit_fits : (m : Memory) → limit_in m ≤ size_in m
 limit_fits (Made owned) = omega arith
 limit_fits (Joined piece) = omega (arith, piece.ok.0, piece.ok.1)
 
--- so what is written does
+-- so the written bytes do
 pub written_fits : (block : ArenaBlock) → length (written_in block) ≤ size_in block.memory
 written_fits block = omega (arith, limit_fits block.memory, block.written, block.filled, block.limited)
 

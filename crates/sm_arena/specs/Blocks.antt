@@ -15,11 +15,11 @@ written_in block = bytes_in block.memory
 abbrev pub chunks_in : List ArenaBlock → List (List ℕ)
 chunks_in blocks = map written_in blocks
 
--- the last block is of a piece that joined
+-- the last block is that of a piece that joined
 abbrev pub EndsJoined : List ArenaBlock → Type 0
 EndsJoined blocks = (d : ArenaBlock) → IsJoined (slice_index_or blocks (length blocks - 1) d).memory
 
--- what lies at a span of these chunks
+-- the bytes at a span of these chunks
 abbrev pub bytes_at : List (List ℕ) → Span → List ℕ
 bytes_at chunks s = take s.length (drop s.start (slice_index_or chunks s.chunk []))
 
@@ -36,13 +36,13 @@ abbrev pub IsSame : List ArenaBlock → List ArenaBlock → Type 0
 IsSame old new =
     (chunks_in new ≡ chunks_in old) × (sizes_in new ≡ sizes_in old) × (joined_in new ≡ joined_in old)
 
--- so many bytes can still be written into the block at that place
+-- this many bytes can still be written into the block at that place
 abbrev pub HasSpace : List ArenaBlock → ℕ → ℕ → Type 0
 HasSpace blocks place count =
     (place < length blocks) ×
     ((d : ArenaBlock) → let block = slice_index_or blocks place d in length (written_in block) + count ≤ block.limit)
 
--- where so many bytes more would lie in the chunk at that place
+-- the span of this many more bytes in the chunk at that place
 abbrev pub next_span : List (List ℕ) → ℕ → ℕ → Span
 next_span chunks place count = record { chunk = place; start = length (slice_index_or chunks place []); length = count }
 
@@ -53,7 +53,7 @@ pub record IsFilled (old : List ArenaBlock) (place : ℕ) (piece : List ℕ) (ne
   pub sizes : sizes_in new ≡ sizes_in old
   pub joined : joined_in new ≡ joined_in old
 
--- new is old with the piece written at the span, where nothing was written before
+-- new is old with the piece written at the span, at which nothing was written before
 pub record IsWriting (old : List (List ℕ)) (piece : List ℕ) (span : Span) (new : List (List ℕ)) : Type 0 where
   pub keeps : (s : Span) → length (bytes_at old s) ≡ s.length → bytes_at new s ≡ bytes_at old s
   pub reads : bytes_at new span ≡ piece
@@ -61,7 +61,7 @@ pub record IsWriting (old : List (List ℕ)) (piece : List ℕ) (span : Span) (n
   pub fresh : bytes_at old span ≡ []
   pub total : total new ≡ total old + length piece
 
--- new is old with both pieces written, one after the other, each where nothing was written before
+-- new is old with both pieces written, one after the other, each at a span at which nothing was written before
 pub record IsWritingPair (old : List (List ℕ)) (first second : List ℕ) (spans : Span × Span)
     (new : List (List ℕ)) : Type 0 where
   pub middle : List (List ℕ)

@@ -28,7 +28,7 @@ abbrev pub limit_in : Memory → ℕ
 limit_in (Made owned) = owned.chunk.size
 limit_in (Joined piece) = length piece.items
 
--- it is that of a piece that joined
+-- it is the memory of a piece that joined
 abbrev pub IsJoined : Memory → Type 0
 IsJoined (Made owned) = ⊥
 IsJoined (Joined piece) = ⊤

@@ -1,4 +1,4 @@
--- What a chunk of raw memory owns and lends. t is the allocator's right to free a block.
+-- The memory that a chunk owns and lends. t is the allocator's right to free a block.
 use Rattle.std.specs.Prelude.{ℕ, ◌-◌, List}
 use base.Fraction.{full_share}
 use base.Fml.{Fml, Lft, fsep}
@@ -18,6 +18,6 @@ chunk_owns t p size used xs =
     fsep (lies_at (Array u8 used) full_share p xs)
     (fsep (room_for (chunk_type (size - used)) (p +ₚ used)) (t (chunk_type size) p))
 
--- what a `&` to a chunk lends: the bytes written so far
+-- the bytes that a `&` to a chunk lends: those written so far
 abbrev pub chunk_lends : Ptr → ℕ → List ℕ → Lft → Fml
 chunk_lends p used xs = lent_at (Array u8 used) p xs

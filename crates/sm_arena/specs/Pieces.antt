@@ -3,7 +3,7 @@ use Rattle.std.specs.Prelude.{ℕ, Bool, ◌&&◌, ◌==◌, List, [], Option, I
 use Rattle.std.specs.Option.{option_map}
 use Rattle.sm_arena.specs.declared.span.Span.{Span}
 
--- the spans are one
+-- the spans are the same
 abbrev pub same_span : Span → Span → Bool
 same_span s t = (s.chunk == t.chunk) && ((s.start == t.start) && (s.length == t.length))
 
@@ -19,6 +19,6 @@ piece_of places s = option_map (λ place. place.1) (find (λ place. same_span pl
 abbrev pub IsPlaced : Places → Span → Type 0
 IsPlaced places s = IsSome (piece_of places s)
 
--- its bytes, or none
+-- the bytes of the piece at a span, or none
 abbrev pub bytes_of : Places → Span → List ℕ
 bytes_of places s = unwrap_or (piece_of places s) []

@@ -8,12 +8,12 @@ use Rattle.sm_arena.specs.Memory.{made_size, joined_size}
 abbrev pub chunk_sizes : List ℕ
 chunk_sizes = 1024 ∷ 2048 ∷ 4096 ∷ 8192 ∷ 16384 ∷ 32768 ∷ 65536 ∷ []
 
--- the least of them that holds so many bytes; more bytes than all of them hold have a chunk of just their size
+-- the least of them that holds this many bytes; if none does, exactly this many
 abbrev pub size_holding : ℕ → ℕ
 size_holding count = unwrap_or (find (λ size. nat_le count size) chunk_sizes) count
 
--- the least size of the chunk after one of this size, where it was `least` for that one: twice the size at least, up to
--- 65,536. A chunk that has more counts for nothing.
+-- the least size of the chunk after one of this size, if it was `least` for that one: at least twice the size, up to
+-- 65,536; a larger chunk doesn't count
 abbrev pub least_after : ℕ → ℕ → ℕ
 least_after least size = cond (nat_le size 65536) (max least (min 65536 (2 * size))) least
 
@@ -21,11 +21,11 @@ least_after least size = cond (nat_le size 65536) (max least (min 65536 (2 * siz
 abbrev pub next_size : List ℕ → ℕ
 next_size sizes = fold least_after 1024 sizes
 
--- the size of the chunk that is made for so many bytes
+-- the size of the chunk that is made for this many bytes
 abbrev pub size_for : List ℕ → ℕ → ℕ
 size_for sizes count = size_holding (max (next_size sizes) count)
 
--- new is old, with a chunk more at most, and that one made for so many bytes
+-- new is old with at most one more chunk, made for this many bytes
 abbrev pub HasGrown : List ℕ → ℕ → List ℕ → Type 0
 HasGrown old count new = (new ≡ old) ⊎ ((0 < count) × (new ≡ old ++ size_for old count ∷ []))
 

@@ -10,14 +10,14 @@ use sm_trace::trace::Trace;
 use std::alloc::{AllocError, Global};
 use std::marker::Model;
 
-/// Memory for pieces of bytes: a piece stays where it was placed, and reads the same, until the arena is dropped.
+/// Memory for pieces of bytes. A piece stays at its place, and reads the same, until the arena is dropped.
 ///
-/// Contracts see an arena as the pieces that were placed, by their spans, the list of the spans that were forgotten,
-/// the sizes of the chunks that it made, and the capacities of the pieces that joined, in bytes. The first chunk has
-/// 1,024 bytes, and each next one at least twice as many as any before of up to 65,536, and at most so many; a size
-/// that doesn't hold the piece, or the pair, is skipped. A piece or a pair of more than 65,536 bytes has a chunk of
-/// just its size. If a piece joins, its memory is a chunk of its own, on which no size of a later one depends. A piece
-/// of 2^32 bytes or more, or more than 2^32 chunks, is refused as memory is.
+/// In contracts an arena is the pieces that were placed, by their spans, the list of the spans that were forgotten, the
+/// sizes of the chunks that it made, and the capacities of the pieces that joined, in bytes. The first chunk has 1,024
+/// bytes. Each next one has at least twice as many as any earlier chunk of up to 65,536 bytes, and at most 65,536. If a
+/// size doesn't hold the piece or the pair, it is skipped. A piece or a pair of more than 65,536 bytes has a chunk of
+/// exactly its size. If a piece joins, its memory is a chunk of its own, on which no size of a later one depends. A
+/// piece of 2^32 bytes or more, or more than 2^32 chunks, are refused like memory.
 #[derive(Drop)]
 pub struct Arena {
     blocks: Blocks,
@@ -40,7 +40,7 @@ impl Model for Arena {
 }
 
 impl Arena {
-    /// An arena in which nothing was placed. It has no chunk yet.
+    /// Makes an empty arena. It has no chunk yet.
     pub fn new(alloc: Global) -> Arena
         ensures placed { (result.placed ≡ []) × (result.forgotten ≡ []) }
         ensures sizes { (result.sizes ≡ []) × (result.joined ≡ []) }
@@ -54,12 +54,12 @@ impl Arena {
         }
     }
 
-    /// Places a copy of the piece, and answers the span that reads it from now on. The span of a piece that isn't empty
+    /// Places a copy of the piece, and returns the span that reads it from now on. If the piece isn't empty, the span
     /// is a new one.
     ///
     /// # Errors
     ///
-    /// `AllocError` where memory is refused, or the piece has 2^32 bytes or more; the arena is then as it was.
+    /// `AllocError` if memory is refused, or if the piece has 2^32 bytes or more. The arena then doesn't change.
     pub fn place(&mut self, piece: &[u8]) -> Result<Span, AllocError>
         ensures placed { IfOk result (λ span. IsPlacing self.old piece.now span self.new) }
         ensures sizes { OnOk result (HasGrown self.old.sizes (length piece.now) self.new.sizes) }
@@ -72,11 +72,11 @@ impl Arena {
         Ok(span)
     }
 
-    /// Places copies of both pieces as [`Arena::place`] does, or neither, and answers their spans.
+    /// Places copies of both pieces as [`Arena::place`] does, or neither, and returns their spans.
     ///
     /// # Errors
     ///
-    /// `AllocError` where memory is refused, or both have 2^32 bytes or more together; the arena is then as it was.
+    /// `AllocError` if memory is refused, or if both have 2^32 bytes or more together. The arena then doesn't change.
     pub fn place_pair(&mut self, first: &[u8], second: &[u8]) -> Result<(Span, Span), AllocError>
         ensures placed { IfOk result (λ spans. IsPlacingPair self.old first.now second.now spans self.new) }
         ensures sizes { OnOk result (HasGrown self.old.sizes (length first.now + length second.now) self.new.sizes) }
@@ -91,13 +91,13 @@ impl Arena {
         Ok((first_span, second_span))
     }
 
-    /// Places the piece as [`Arena::place`] does, and makes its memory a chunk of the arena instead of a copy.
-    /// It is held with its whole capacity, its spare room stays free, and no later chunk's size depends on it.
+    /// Places the piece as [`Arena::place`] does, but makes its memory a chunk of the arena instead of copying it. The
+    /// arena holds the piece's whole capacity, its spare room stays free, and no later chunk's size depends on it.
     ///
     /// # Errors
     ///
-    /// `AllocError` with the piece where memory is refused, or the piece has 2^32 bytes or more; the arena is
-    /// then as it was.
+    /// `AllocError` with the piece if memory is refused, or if the piece has 2^32 bytes or more. The arena then doesn't
+    /// change.
     pub fn join(&mut self, piece: Vec<u8>) -> Result<Span, (Vec<u8>, AllocError)>
         ensures placed { IfOk result (λ span. IsPlacing self.old piece.items span self.new) }
         ensures sizes { OnOk result (self.new.sizes ≡ self.old.sizes) }
@@ -112,13 +112,13 @@ impl Arena {
         Ok(span)
     }
 
-    /// Places the one piece as [`Arena::join`] does and the other as [`Arena::place`] does, or neither, and answers
-    /// their spans.
+    /// Places one piece as [`Arena::join`] does and the other as [`Arena::place`] does, or neither, and returns their
+    /// spans.
     ///
     /// # Errors
     ///
-    /// `AllocError` with the piece that was to join where memory is refused, it has 2^32 bytes or more, or the
-    /// other has so many bytes; the arena is then as it was.
+    /// `AllocError` with the piece that was to join, if memory is refused, or if this piece or the other one has 2^32
+    /// bytes or more. The arena then doesn't change.
     pub fn join_and_place(
         &mut self,
         joined: Vec<u8>,
@@ -139,12 +139,12 @@ impl Arena {
         Ok((joined_span, placed_span))
     }
 
-    /// Places a copy of the piece at the span followed by the tail, as one piece, and answers the span that reads it
-    /// from now on. The span of a piece that isn't empty is a new one, and the piece at the old one stays.
+    /// Places a copy of the piece at the span, followed by the tail, as one piece, and returns the span that reads it
+    /// from now on. If the piece isn't empty, the span is a new one. The piece at the old span stays.
     ///
     /// # Errors
     ///
-    /// `AllocError` where memory is refused, or the whole has 2^32 bytes or more; the arena is then as it was.
+    /// `AllocError` if memory is refused, or if the whole has 2^32 bytes or more. The arena then doesn't change.
     pub fn concat(&mut self, head: Span, tail: &[u8]) -> Result<Span, AllocError>
         requires { IsPlaced self.old.placed head }
         ensures placed { IfOk result
@@ -160,7 +160,7 @@ impl Arena {
         Ok(span)
     }
 
-    /// The bytes of the piece at the span, also where it was forgotten.
+    /// Returns the bytes of the piece at the span, even if it was forgotten.
     pub fn get(&self, span: Span) -> &[u8]
         requires { IsPlaced self.now.placed span }
         ensures { result.now ≡ bytes_of self.now.placed span }
@@ -168,7 +168,7 @@ impl Arena {
         self.blocks.piece(span)
     }
 
-    /// Counts the piece at the span, which wasn't forgotten before, as dead; its bytes stay. An empty piece is never
+    /// Counts the piece at the span as dead. It must not be forgotten yet. Its bytes stay. An empty piece is never
     /// dead.
     pub fn forget(&mut self, span: Span)
         requires placed { IsPlaced self.old.placed span }
@@ -182,14 +182,14 @@ impl Arena {
         }
     }
 
-    /// The sum of the lengths of the pieces that were placed and not forgotten.
+    /// Returns the sum of the lengths of the pieces that were placed and not forgotten.
     pub fn bytes(&self) -> u128
         ensures { result ≡ live_of self.now }
     {
         self.live
     }
 
-    /// The sum of the chunks' sizes in bytes; that of a piece that joined is its capacity.
+    /// Returns the sum of the chunks' sizes in bytes. For a piece that joined, this is its capacity.
     pub fn held(&self) -> u128
         ensures value { result ≡ sum self.now.sizes + sum self.now.joined }
         ensures covers { live_of self.now + dead_of self.now ≤ result }
@@ -197,7 +197,7 @@ impl Arena {
         self.blocks.held()
     }
 
-    /// The sum of the lengths of the pieces that were forgotten.
+    /// Returns the sum of the lengths of the pieces that were forgotten.
     pub fn dead(&self) -> u128
         ensures { result ≡ dead_of self.now }
     {

@@ -6,12 +6,12 @@ use crate::memory::Memory;
 use crate::owned_chunk::OwnedChunk;
 use std::alloc::{AllocError, Global};
 
-/// Memory that is filled from its start. It never grows, so what is written stays where it lies.
+/// Memory that is filled from its start. It never grows, so written bytes never move.
 #[derive(Drop)]
 pub(crate) struct ArenaBlock {
     memory: Memory,
     used: u32,
-    // How many bytes may be written in all. In memory that joined, that is the piece alone.
+    // How many bytes may be written in all. In memory that joined, this is only the length of the piece.
     limit: u32,
     ghost written: { used ≡ length (bytes_in memory) },
     ghost filled: { used ≤ limit },
@@ -20,7 +20,7 @@ pub(crate) struct ArenaBlock {
 }
 
 impl ArenaBlock {
-    /// Makes a block of so many bytes, in which nothing is written.
+    /// Makes a block of this many bytes, in which nothing is written.
     pub(crate) fn new(alloc: Global, size: u32) -> Result<ArenaBlock, AllocError>
         ensures limit { IfOk result (λ block. block.limit ≡ size) }
         ensures made { IfOk result (λ block. made_size block.memory ≡ size ∷ []) }
@@ -35,7 +35,7 @@ impl ArenaBlock {
         })
     }
 
-    /// Makes the bytes a block in which all is written. If they are 2^32 or more, they come back.
+    /// Makes the bytes a block that is full. If there are 2^32 or more, they come back.
     pub(crate) fn of(bytes: Vec<u8>) -> Result<ArenaBlock, Vec<u8>>
         ensures memory { IfOk result (λ block. block.memory ≡ Joined bytes) }
         ensures err { IfErr result (λ back. back.items ≡ bytes.items) }
@@ -50,7 +50,7 @@ impl ArenaBlock {
         }
     }
 
-    /// The bytes that joined, with their memory.
+    /// Returns the bytes that joined, with their memory.
     pub(crate) fn into_bytes(self) -> Vec<u8>
         requires { IsJoined self.memory }
         ensures { result.items ≡ bytes_in self.memory }
@@ -66,7 +66,7 @@ impl ArenaBlock {
         }
     }
 
-    /// How many bytes of memory it holds.
+    /// Returns how many bytes of memory it holds.
     pub(crate) fn size(&self) -> usize
         ensures { result ≡ size_in self.now.memory }
     {
@@ -76,28 +76,28 @@ impl ArenaBlock {
         }
     }
 
-    /// The bytes written so far.
+    /// Returns the bytes written so far.
     pub(crate) fn written(&self) -> &[u8]
         ensures { result.now ≡ bytes_in self.now.memory }
     {
         self.memory.bytes()
     }
 
-    /// How many bytes are written so far.
+    /// Returns how many bytes are written so far.
     pub(crate) fn used(&self) -> u32
         ensures { result ≡ length (bytes_in self.now.memory) }
     {
         self.used
     }
 
-    /// How many bytes can still be written.
+    /// Returns how many bytes can still be written.
     pub(crate) fn room(&self) -> usize
         ensures { length (bytes_in self.now.memory) + result ≡ self.now.limit }
     {
         (self.limit - self.used) as usize
     }
 
-    /// Writes the piece after what is written so far, and answers its length.
+    /// Writes the piece after the bytes written so far, and returns its length.
     pub(crate) fn write(&mut self, piece: &[u8]) -> u32
         requires { length (bytes_in self.old.memory) + length piece.now ≤ self.old.limit }
         ensures bytes { bytes_in self.new.memory ≡ bytes_in self.old.memory ++ piece.now }

@@ -13,7 +13,7 @@ use std::alloc::{AllocError, Global};
 pub(crate) struct Blocks {
     alloc: Global,
     pub(crate) blocks: Vec<ArenaBlock>,
-    // The place of the block that short pieces are written into.
+    // The place of the block into which short pieces are written.
     filling: u32,
     // The least size of the next block that is made.
     least: u32,
@@ -31,7 +31,7 @@ const BLOCK_BYTES: u32 = 65_536;
 // How many bytes are copied at once inside the blocks.
 const PART_BYTES: usize = 1_024;
 
-// Where an empty piece lies.
+// The span of an empty piece.
 const NOTHING: Span = Span {
     chunk: 0,
     start: 0,
@@ -39,7 +39,7 @@ const NOTHING: Span = Span {
 };
 
 impl Blocks {
-    /// No blocks.
+    /// Makes an empty list of blocks.
     pub(crate) fn new(alloc: Global) -> Blocks
         ensures { result.blocks.items ≡ [] }
     {
@@ -52,14 +52,14 @@ impl Blocks {
         }
     }
 
-    /// The sum of the blocks' sizes.
+    /// Returns the sum of the blocks' sizes.
     pub(crate) fn held(&self) -> u128
         ensures { result ≡ sum (sizes_in self.now.blocks.items) + sum (joined_in self.now.blocks.items) }
     {
         self.held
     }
 
-    /// Writes the piece where nothing was written yet, and answers where it lies. An empty piece takes no block.
+    /// Writes the piece to a place that nothing was written to, and returns its span. An empty piece takes no block.
     pub(crate) fn write(&mut self, piece: &[u8]) -> Result<Span, AllocError>
         ensures written { IfOk result (λ span.
             IsWriting (chunks_in self.old.blocks.items) piece.now span (chunks_in self.new.blocks.items)) }
@@ -75,8 +75,8 @@ impl Blocks {
         Ok(self.fill(chunk, piece))
     }
 
-    /// Writes both pieces, or neither, where nothing was written yet, and answers where they lie. Empty ones take no
-    /// block.
+    /// Writes both pieces, or neither, to places that nothing was written to, and returns their spans. Empty pieces
+    /// take no block.
     pub(crate) fn write_pair(
         &mut self,
         first: &[u8],
@@ -101,8 +101,8 @@ impl Blocks {
         Ok((first_span, second_span))
     }
 
-    /// Writes the bytes at the span and then the tail, as one piece, where nothing was written yet, and answers where
-    /// it lies.
+    /// Writes the bytes at the span, followed by the tail, as one piece to a place that nothing was written to, and
+    /// returns its span.
     pub(crate) fn write_joined(&mut self, head: Span, tail: &[u8]) -> Result<Span, AllocError>
         requires { length (bytes_at (chunks_in self.old.blocks.items) head) ≡ head.length }
         ensures written { IfOk result (λ span.
@@ -133,7 +133,7 @@ impl Blocks {
         })
     }
 
-    /// Makes the memory of the piece a block, and answers where it lies; or hands it back.
+    /// Makes the memory of the piece a block, and returns its span; or hands the piece back.
     pub(crate) fn join(&mut self, piece: Vec<u8>) -> Result<Span, (Vec<u8>, AllocError)>
         ensures written { IfOk result (λ span.
             IsWriting (chunks_in self.old.blocks.items) piece.items span (chunks_in self.new.blocks.items)) }
@@ -167,8 +167,8 @@ impl Blocks {
         }
     }
 
-    /// Joins the one piece as [`Blocks::join`] does, and writes the other as [`Blocks::write`] does, or neither, and
-    /// answers where they lie.
+    /// Joins one piece as [`Blocks::join`] does and writes the other as [`Blocks::write`] does, or does neither.
+    /// Returns their spans.
     pub(crate) fn join_and_write(
         &mut self,
         joined: Vec<u8>,
@@ -191,7 +191,7 @@ impl Blocks {
         }
     }
 
-    /// The bytes at a span inside the blocks.
+    /// Returns the bytes at a span inside the blocks.
     pub(crate) fn piece(&self, span: Span) -> &[u8]
         requires { length (bytes_at (chunks_in self.now.blocks.items) span) ≡ span.length }
         ensures { result.now ≡ bytes_at (chunks_in self.now.blocks.items) span }
@@ -199,7 +199,7 @@ impl Blocks {
         piece_in(&self.blocks, span)
     }
 
-    // How many bytes are written in a block.
+    // Returns how many bytes are written in a block.
     fn written(&self, place: u32) -> u32
         requires { place < length self.now.blocks.items }
         ensures { result ≡ length (slice_index_or (chunks_in self.now.blocks.items) place []) }
@@ -207,7 +207,7 @@ impl Blocks {
         self.blocks[place as usize].used()
     }
 
-    // Writes the piece into a block that has room for it, and answers where it lies.
+    // Writes the piece into a block, which must have room for it, and returns its span.
     fn fill(&mut self, place: u32, piece: &[u8]) -> Span
         requires { HasSpace self.old.blocks.items place (length piece.now) }
         ensures span { result ≡ next_span (chunks_in self.old.blocks.items) place (length piece.now) }
@@ -222,8 +222,8 @@ impl Blocks {
         }
     }
 
-    // Writes the bytes at a span once more, into a block that has room for them: at once from an earlier block, and
-    // else part by part, as the span may lie in that very block.
+    // Writes the bytes at a span once more, into a block that must have room for them. From an earlier block it copies
+    // them at once. Otherwise it goes part by part, because the span may be in that very block.
     fn copy(&mut self, span: Span, place: u32)
         requires inside { length (bytes_at (chunks_in self.old.blocks.items) span) ≡ span.length }
         requires room { HasSpace self.old.blocks.items place span.length }
@@ -246,7 +246,7 @@ impl Blocks {
         }
     }
 
-    // The same of a short span, by a buffer.
+    // Does the same for a short span, by a buffer.
     fn copy_part(&mut self, part: Span, place: u32)
         requires inside { length (bytes_at (chunks_in self.old.blocks.items) part) ≡ part.length }
         requires room { HasSpace self.old.blocks.items place part.length }
@@ -260,7 +260,7 @@ impl Blocks {
         self.fill(place, bytes);
     }
 
-    // Whether so many bytes can be written into the block that is being filled.
+    // Returns whether this many bytes can be written into the block that is being filled.
     fn has_room(&self, count: usize) -> bool
         ensures { IsTrue result → HasSpace self.now.blocks.items self.now.filling count }
     {
@@ -270,8 +270,8 @@ impl Blocks {
         }
     }
 
-    // The place of a block into which so many bytes can be written: the one that is being filled, or a new one.
-    // Each piece asks for it, so only a new block costs a call.
+    // Returns the place of a block into which this many bytes can be written: the one that is being filled, or a new
+    // one. Only a new block costs a call, because each piece asks for this.
     #[inline(always)]
     fn block_for(&mut self, count: usize) -> Result<u32, AllocError>
         requires { 0 < count }
@@ -287,7 +287,7 @@ impl Blocks {
         self.new_block(count)
     }
 
-    // The place of a new block, into which so many bytes can be written.
+    // Returns the place of a new block, into which this many bytes can be written.
     #[inline(never)]
     fn new_block(&mut self, count: usize) -> Result<u32, AllocError>
         requires { 0 < count }
@@ -309,7 +309,7 @@ impl Blocks {
         Ok(place)
     }
 
-    // Makes one more block, of so many bytes.
+    // Makes one more block of this many bytes.
     fn grow(&mut self, size: u32) -> Result<(), AllocError>
         ensures room { OnOk result (HasSpace self.new.blocks.items (length self.old.blocks.items) size) }
         ensures chunks { OnOk result
@@ -326,7 +326,7 @@ impl Blocks {
         Ok(())
     }
 
-    // Takes the last block's memory back.
+    // Takes back the last block's memory.
     fn part(&mut self) -> Vec<u8>
         requires some { 0 < length self.old.blocks.items }
         requires joined { EndsJoined self.old.blocks.items }
@@ -341,7 +341,7 @@ impl Blocks {
     }
 }
 
-// The bytes at a span inside the blocks.
+// Returns the bytes at a span inside the blocks.
 fn piece_in(blocks: &[ArenaBlock], span: Span) -> &[u8]
     requires { length (bytes_at (chunks_in blocks.now) span) ≡ span.length }
     ensures { result.now ≡ bytes_at (chunks_in blocks.now) span }
@@ -353,7 +353,7 @@ fn piece_in(blocks: &[ArenaBlock], span: Span) -> &[u8]
     &blocks[span.chunk as usize].written()[start..start + span.length as usize]
 }
 
-// Writes the bytes at a span of an earlier block into a block that has room for them.
+// Writes the bytes at a span of an earlier block into a block, which must have room for them.
 fn copy_up(blocks: &mut [ArenaBlock], span: Span, place: u32)
     requires inside { length (bytes_at (chunks_in blocks.old) span) ≡ span.length }
     requires room { HasSpace blocks.old place span.length }
@@ -364,7 +364,7 @@ fn copy_up(blocks: &mut [ArenaBlock], span: Span, place: u32)
     rest[0].write(piece_in(before, span));
 }
 
-// The least of the sizes of blocks that holds so many bytes, or just so many where none does.
+// Returns the least size of blocks that holds this many bytes, or exactly this many if no size does.
 fn block_size(count: u32) -> u32
     ensures value { result ≡ size_holding count }
     ensures holds { (count ≤ result) × (result ≤ max 65536 count) }
@@ -381,7 +381,7 @@ fn block_size(count: u32) -> u32
     }
 }
 
-// The least size of the block after one of this size, where it was `least` for that one.
+// Returns the least size of the block after one of this size, if it was `least` for that one.
 fn next_least(least: u32, size: u32) -> u32
     ensures { result ≡ least_after least size }
 {

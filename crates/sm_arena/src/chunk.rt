@@ -28,7 +28,7 @@ unsafe impl<A: Allocator + Send> Send for Chunk<A> {}
 unsafe impl<A: Allocator + Sync> Sync for Chunk<A> {}
 
 impl<A: Allocator> Chunk<A> {
-    /// Makes a chunk of so many bytes, in which nothing is written. Returns `None` if memory is refused.
+    /// Makes a chunk of this many bytes, in which nothing is written. Returns `None` if memory is refused.
     pub(crate) fn make(alloc: &A, size: usize) -> Option<Chunk<A>>
         requires { size < 2 ^ 63 }
         ensures { IfSome result (λ chunk. (chunk.alloc ≡ alloc.now) × (chunk.size ≡ size) × (chunk.bytes ≡ [])) }
@@ -44,7 +44,7 @@ impl<A: Allocator> Chunk<A> {
         }
     }
 
-    /// Writes the piece after what is written so far.
+    /// Writes the piece after the bytes written so far.
     pub(crate) fn write(&mut self, piece: &[u8])
         requires { length self.old.bytes + length piece.now ≤ self.old.size }
         ensures bytes { self.new.bytes ≡ self.old.bytes ++ piece.now }
@@ -56,8 +56,8 @@ impl<A: Allocator> Chunk<A> {
         unsafe {
             let from = piece.as_ptr();
             let to = self.at.add(used);
-            // LLVM widens this loop to many bytes a turn. `copy_nonoverlapping` moves values out of its source, and
-            // this piece is only lent.
+            // LLVM widens this loop to many bytes a turn. We can't use `copy_nonoverlapping`, because it moves values
+            // out of its source, and this piece is only lent.
             while i < count {
                 to.add(i).write(from.add(i).read());
                 i += 1;
@@ -73,7 +73,7 @@ impl<A: Allocator> Chunk<A> {
         unsafe { std::slice::from_raw_parts(self.at, self.used) }
     }
 
-    /// Gives the memory back to the allocator that it came from.
+    /// Gives the memory back to the allocator that made it.
     pub(crate) fn free(self, alloc: &A)
         requires { self.alloc ≡ alloc.now }
     {

@@ -13,7 +13,7 @@ impl Memory {
     ghost use Rattle.std.specs.Prelude.{◌≡◌};
     ghost use Rattle.sm_arena.specs.Memory.{bytes_in};
 
-    /// The bytes written so far.
+    /// Returns the bytes written so far.
     pub(crate) fn bytes(&self) -> &[u8]
         ensures { result.now ≡ bytes_in self.now }
     {

@@ -18,7 +18,7 @@ impl Drop for OwnedChunk {
 }
 
 impl OwnedChunk {
-    /// Makes a chunk of so many bytes, in which nothing is written.
+    /// Makes a chunk of this many bytes, in which nothing is written.
     pub(crate) fn new(alloc: Global, size: u32) -> Result<OwnedChunk, AllocError>
         ensures { IfOk result (λ owned. (owned.chunk.size ≡ size) × (owned.chunk.bytes ≡ [])) }
     {
@@ -26,14 +26,14 @@ impl OwnedChunk {
         Ok(OwnedChunk { alloc, chunk })
     }
 
-    /// The bytes written so far.
+    /// Returns the bytes written so far.
     pub(crate) fn bytes(&self) -> &[u8]
         ensures { result.now ≡ self.now.chunk.bytes }
     {
         self.chunk.bytes()
     }
 
-    /// Writes the piece after what is written so far.
+    /// Writes the piece after the bytes written so far.
     pub(crate) fn write(&mut self, piece: &[u8])
         requires { length self.old.chunk.bytes + length piece.now ≤ self.old.chunk.size }
         ensures bytes { self.new.chunk.bytes ≡ self.old.chunk.bytes ++ piece.now }

@@ -1,4 +1,4 @@
-/// Where a piece lies in the arena that placed it. It takes 12 bytes.
+/// The location of a piece in the arena that placed it. It takes 12 bytes.
 #[derive(Clone, Copy, PartialEq, Eq)]
 pub struct Span {
     pub(crate) chunk: u32,

@@ -5,7 +5,7 @@ use sm_ranges::server_id::ServerId;
 use std::alloc::{AllocError, Global};
 use std::marker::Model;
 
-/// A body in memory of its own, so that whoever moves it moves a pointer alone. It is a service as that body is.
+/// A body in memory of its own, so that moving it moves only a pointer. It is the same service as the body inside.
 #[derive(Drop)]
 pub struct Boxed<S> {
     body: Box<S>,
@@ -18,7 +18,7 @@ impl<S> Model for Boxed<S> {
 }
 
 impl<S: Service> Boxed<S> {
-    /// The body in memory of its own, or `AllocError` where that is refused, and the body is dropped.
+    /// Puts the body into memory of its own. If that is refused, returns `AllocError`, and the body is dropped.
     pub fn new(alloc: Global, body: S) -> Result<Boxed<S>, AllocError>
         ensures { IfOk result (λ boxed. boxed ≡ body) }
     {

@@ -3,8 +3,8 @@ ghost use Rattle.std.specs.Prelude.{◌≡◌, IfOk};
 use std::alloc::{AllocError, Global};
 use std::marker::Model;
 
-/// Bytes in memory of their own, such as a text. They need not be UTF-8. Contracts see the list of them, so what holds
-/// them is told by what they say, and not by where they lie.
+/// Bytes in memory of their own, such as a text. They don't have to be UTF-8. Contracts see them as a list, so two
+/// values are the same if their bytes are equal, wherever they are in memory.
 #[derive(Clone, Drop)]
 pub struct Bytes {
     bytes: Vec<u8>,
@@ -35,7 +35,7 @@ impl From<Bytes> for Vec<u8> {
 }
 
 impl Bytes {
-    /// A copy of the bytes.
+    /// Returns a copy of the bytes.
     pub fn new(alloc: Global, bytes: &[u8]) -> Result<Bytes, AllocError>
         ensures { IfOk result (λ text. text ≡ bytes.now) }
     {
@@ -44,7 +44,7 @@ impl Bytes {
         })
     }
 
-    /// The bytes.
+    /// Returns the bytes.
     pub fn as_bytes(&self) -> &[u8]
         ensures { result.now ≡ self.now }
     {

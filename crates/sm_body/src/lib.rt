@@ -1,7 +1,7 @@
-//! What a shard's body is: a service that answers requests in turn and keeps each of them. `Machine` is what a user
-//! writes, and `Logged` makes the service of it.
+//! The body of a shard: a service that answers requests in turn and keeps each of them. A user writes a `Machine`, and
+//! `Logged` makes a service from it.
 //!
-//! A body at its limit hands the request back:
+//! If a body is at its limit, it hands the request back:
 //! ```rust
 //! let mut body = CounterText::new(alloc, 1);
 //! for request in [get_of(alloc, b"a")?, get_of(alloc, b"b")?] {

@@ -8,8 +8,8 @@ use sm_trace::trace::Trace;
 use std::alloc::{AllocError, Global};
 use std::marker::Model;
 
-/// The service of a machine: the body that applies requests to it. No call reads a request again once it is applied, so
-/// of the list only the length is in memory; the list itself and the base are values that proofs alone read.
+/// The service of a machine: the body that applies requests to it. No call reads a request again after it is applied,
+/// so only the length of the list is in memory. The list itself and the base are values that only proofs read.
 #[derive(Drop)]
 pub struct Logged<M: Machine> {
     alloc: Global,
@@ -40,7 +40,7 @@ impl<M: Machine> Model for Logged<M> {
 }
 
 impl<M: Machine> Logged<M> {
-    /// The service of a machine that has answered nothing. It keeps at most `limit` requests.
+    /// Makes the service of a machine that has answered nothing. It keeps at most `limit` requests.
     pub fn new(alloc: Global, limit: usize) -> Logged<M>
         ensures base { result.base ≡ M.start }
         ensures before { result.before ≡ 0 }
@@ -60,7 +60,7 @@ impl<M: Machine> Logged<M> {
         }
     }
 
-    /// The machine after the requests that are kept, from the base on.
+    /// Returns the machine after the requests that are kept, from the base on.
     pub fn machine(&self) -> &M
         ensures { result.now ≡ fold M.after self.now.base self.now.requests }
     {

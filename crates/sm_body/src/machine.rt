@@ -2,13 +2,13 @@ ghost use Rattle.std.specs.Prelude.{◌≡◌, List, ℕ, IfOk, IfErr, OnOk, OnE
 
 use std::alloc::{AllocError, Global};
 
-/// What a user of the manager writes: a state that answers requests one at a time. It knows nothing of the requests
-/// before, of limits, places or servers.
+/// The part that a user of the manager writes: a state that answers requests one at a time. It knows nothing of earlier
+/// requests, or of limits, places and servers.
 pub trait Machine: Drop + Send {
-    /// What a client asks.
+    /// A client's request.
     type Request: Drop + Send;
 
-    /// What it is answered.
+    /// The reply to a request.
     type Reply: Drop + Send;
 
     /// The machine before any request.
@@ -23,22 +23,23 @@ pub trait Machine: Drop + Send {
     /// The bytes whose shard executes the request.
     ghost key_of: { Self.Request → List ℕ };
 
-    /// The machine before any request. It can't answer that memory was refused, so it should take none.
+    /// Makes the machine before any request. It should take no memory, because it can't report that memory was refused.
     fn new(alloc: Global) -> Self
         ensures { result ≡ start };
 
-    /// The bytes whose shard executes the request.
+    /// Returns the bytes whose shard executes the request.
     fn key(request: &Self::Request) -> &[u8]
         ensures { result.now ≡ key_of request.now };
 
-    /// Answers the request, or changes nothing where memory is refused.
+    /// Answers the request. If memory is refused, it must change nothing.
     fn answer(&mut self, alloc: Global, request: &Self::Request) -> Result<Self::Reply, AllocError>
         ensures reply { IfOk result (λ made. made ≡ reply self.old request.now) }
         ensures after { OnOk result (self.new ≡ after self.old request.now) }
         ensures err { OnErr result (self.new ≡ self.old) };
 
-    /// Answers the request as [`Machine::answer`] does, and may keep memory of it instead of a copy. Where memory is
-    /// refused the request comes back. A machine that keeps what requests bring writes its own.
+    /// Answers the request as [`Machine::answer`] does, and may keep the request's memory instead of a copy. If memory
+    /// is refused, the request comes back. If a machine keeps memory of its requests, it must write its own version of
+    /// this.
     fn answer_owned(
         &mut self,
         alloc: Global,
@@ -55,8 +56,8 @@ pub trait Machine: Drop + Send {
         }
     }
 
-    /// Is to move the machine into fresh memory, or to leave it in the old where a growth is refused. In both cases its
-    /// value stays the same, and that alone is proved.
+    /// Should move the machine into fresh memory, or leave it in the old memory if a growth is refused. In both cases
+    /// its value must stay the same. Only that is proved.
     fn rebuild(&mut self, alloc: Global) -> Result<(), AllocError>
         ensures { self.new ≡ self.old };
 }

@@ -11,21 +11,22 @@ pub enum ApplyFault {
     /// The body keeps as many requests as its limit allows.
     #[error("the shard keeps as many requests as it may")]
     KeptFull,
-    /// There is room for the request, and memory for it was refused.
+    /// There is room for the request, but memory for it was refused.
     #[error("out of memory")]
     NoMemory,
 }
 
-/// The body of a shard: a state machine with the list of the requests that it applied since a state, its base. Bodies,
-/// requests and replies pass between threads. `Logged` makes one of any `Machine`.
+/// The body of a shard: a state machine with the list of the requests that it has applied since a base, which is an
+/// earlier state. Bodies, requests and replies can be sent between threads. `Logged` makes a service from any
+/// `Machine`.
 pub trait Service: Drop + Send {
-    /// What a client asks.
+    /// A client's request.
     type Request: Drop + Send;
 
-    /// What it is answered.
+    /// The reply to a request.
     type Reply: Drop + Send;
 
-    /// What replies depend on.
+    /// The state on which replies depend.
     ghost State: { Type 0 };
 
     /// The state before any request.
@@ -52,50 +53,51 @@ pub trait Service: Drop + Send {
     /// The most requests that the body keeps.
     ghost limit: { Self → ℕ };
 
-    /// The bytes whose shard executes the request.
+    /// Returns the bytes whose shard executes the request.
     fn key(request: &Self::Request) -> &[u8]
         ensures { result.now ≡ key_of request.now };
 
-    /// How many requests the body keeps.
+    /// Returns how many requests the body keeps.
     fn kept(&self) -> usize
         ensures { result ≡ length (requests self.now) };
 
-    /// How many requests were applied before those that the body keeps.
+    /// Returns how many requests were applied before those that the body keeps.
     fn first(&self) -> u64
         ensures { result ≡ before self.now };
 
     /// Applies the request and keeps it, or hands it back and changes nothing.
     ///
-    /// `KeptFull` comes exactly where the body keeps as many requests as its limit, `NoMemory` only below it.
+    /// It fails with `KeptFull` if and only if the body keeps as many requests as its limit, and with `NoMemory` only
+    /// below the limit.
     fn apply(&mut self, request: Self::Request) -> Result<Self::Reply, (Self::Request, ApplyFault)>
         // An applied request is the last one kept, and its reply is that of the state after those before it.
         ensures kept { OnOk result (requests self.new ≡ requests self.old ++ request ∷ []) }
         ensures reply { IfOk result (λ reply. reply ≡ answer (fold next (base self.old) (requests self.old)) request) }
 
-        // Below the limit it is applied, or its memory is refused; at the limit it is refused as too many.
+        // Below the limit it is applied, or memory for it is refused; at the limit it is refused as too many.
         ensures room { OnOk result (length (requests self.old) < limit self.old) }
         ensures full { IfErr result (λ back.
             back.1 ≡ ApplyFault.KeptFull → limit self.old ≤ length (requests self.old)) }
         ensures no_memory { IfErr result (λ back.
             back.1 ≡ ApplyFault.NoMemory → length (requests self.old) < limit self.old) }
 
-        // A refused request comes back, and nothing has changed.
+        // If a request is refused, it comes back, and nothing has changed.
         ensures handed_back { IfErr result (λ back. back.0 ≡ request) }
         ensures unchanged { OnErr result (requests self.new ≡ requests self.old) }
         ensures base { base self.new ≡ base self.old }
         ensures before { before self.new ≡ before self.old }
         ensures limit { limit self.new ≡ limit self.old };
 
-    /// Is to move the body into fresh memory, where the server isn't the one that it was moved for last and no growth
-    /// is refused. What it keeps stays the same, and that alone is proved.
+    /// Should move the body into fresh memory if this isn't the server for which it was moved last, and if no growth is
+    /// refused. Its contents must stay the same. Only that is proved.
     fn settle(&mut self, server: ServerId)
         ensures base { base self.new ≡ base self.old }
         ensures before { before self.new ≡ before self.old }
         ensures kept { requests self.new ≡ requests self.old }
         ensures limit { limit self.new ≡ limit self.old };
 
-    /// Makes the present state the base, and keeps no request; or changes nothing, where memory is refused. It asks
-    /// that the body has applied fewer than 2^36 requests in all.
+    /// Makes the present state the base, and keeps no requests. If memory is refused, it changes nothing. The body must
+    /// have applied fewer than 2^36 requests in all.
     fn checkpoint(&mut self) -> Result<(), AllocError>
         requires { before self.old + length (requests self.old) < 2 ^ 36 }
         ensures base { OnOk result (base self.new ≡ fold next (base self.old) (requests self.old)) }

@@ -1,4 +1,4 @@
--- Batches: what is read is spelled so, and what is spelled so is read.
+-- Batches: the bytes that are read are the encoding of the value, and the encoding of a value is read.
 use Rattle.std.proofs.Common.{◌≡◌, ℕ, zero, suc, ◌^◌, ◌<◌, List, [], ◌∷◌, ◌++◌, length, All, Result, Ok, Err, refl}
 use Rattle.std.proofs.Common.{sym}
 use Rattle.std.proofs.Common.{ap, subst, ◌∙◌, append-nil, append_assoc}

@@ -1,4 +1,4 @@
--- States of servers: what is read is spelled so, and what is spelled so is read.
+-- States of servers: the bytes that are read are the encoding of the value, and the encoding of a value is read.
 use Rattle.std.proofs.Common.{◌≡◌, ℕ, suc, ◌^◌, ◌<◌, Bool, true, false, List, [], ◌∷◌, ◌++◌, cond, eqb, Option, Some}
 use Rattle.std.proofs.Common.{None, Result, Ok, Err, refl, sym, ap, subst, ◌∙◌, arith, append-nil, inl, inr, ⊎_elim}
 use Rattle.std.specs.Int.{w64, to_be_bytes}
@@ -22,7 +22,7 @@ some_if : (b : Bool) (x y : ServerState) (rest : Option ServerState) (P : Type 0
 some_if true x y rest P e here there = here refl cc
 some_if false x y rest P e here there = there e
 
--- the number of a state that is named is the one that names it
+-- the number of a named state is the number that names it
 pub state_number_is : (n : ℕ) (state : ServerState) → state_named n ≡ Some state → state_number state ≡ n
 state_number_is n state e =
     some_if (eqb n 0) Up state _ _ e (λ b is. ap state_number (sym is) ∙ sym (eqb-true n 0 b)) (λ e1.

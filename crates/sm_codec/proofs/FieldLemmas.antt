@@ -1,4 +1,4 @@
--- A field that is read is the field that was written, and what was written is read again.
+-- A field that is read is the field that was written, and a written field is read again.
 use Rattle.std.proofs.Common.{◌≡◌, ℕ, suc, ◌+◌, ◌^◌, ◌<◌, ◌≤◌, Bool, true, false, cond, ltb, List, [], ◌∷◌, ◌++◌}
 use Rattle.std.proofs.Common.{length, get_or, take, drop, Option, Some, None, Result, Ok, Err, refl, sym, ap, subst}
 use Rattle.std.proofs.Common.{◌∙◌, append_assoc, arith, inl, inr, eqb, ⊎_elim}
@@ -34,7 +34,7 @@ IsBytes-take n bytes h i =
       | inr le ↦ rw (get_or_past (take n bytes) i 0 (omega (arith, length-take n bytes))) (omega arith)
     ]
 
--- what a step that gives a value goes on to
+-- the continuation of a step that returns a value
 pub bind_to : {A B : Type 0} (r : Result A Fault) (x : A) (f : A → Result B Fault) → r ≡ Ok x → (r >>= f) ≡ f x
 bind_to {A = A} r x f e = ap (λ (s : Result A Fault). s >>= f) e
 
@@ -55,7 +55,7 @@ done x = Ok x
 pub ok_is : {A : Type 0} (x y : A) → done x ≡ done y → x ≡ y
 ok_is x y e = cc
 
--- what a reader took from the front
+-- the part that a reader took from the front
 pub record Takes (bytes text rest : List ℕ) : Type 0 where
   pub parts : bytes ≡ text ++ rest
   pub rest_fits : IsBytes rest
@@ -230,7 +230,7 @@ some-inj x y e = cc
 abbrev later : ℕ → Option Mode
 later n = cond (ltb MAX_SERVER n) None (Some (Forwarded n))
 
--- what a number names in bytes that are read
+-- the meaning of a number in bytes that are read
 named_takes : {A : Type 0} (found : Option A) (rest : List ℕ) (x : A × List ℕ) → named_in found rest ≡ Ok x
     → (value : A) × (found ≡ Some value) × (value ≡ x.0) × (rest ≡ x.1)
 named_takes None rest x e = absurd cc

@@ -1,4 +1,5 @@
--- Heads, and pairs of numbers: what is read is spelled so, and what is spelled so is read.
+-- Heads, and pairs of numbers: the bytes that are read are the encoding of the value, and the encoding of a value is
+-- read.
 use Rattle.std.proofs.Common.{◌≡◌, ℕ, ◌^◌, ◌<◌, List, [], ◌∷◌, ◌++◌, Result, Ok, Err, sym, ap, subst, ◌∙◌}
 use Rattle.std.proofs.Common.{append-nil}
 use Rattle.std.specs.Prelude.{IfOk}
@@ -13,7 +14,7 @@ use Rattle.sm_codec.proofs.FieldLemmas.{IsBytes, Takes, Takes-then, bind_ok, end
 use Rattle.sm_codec.proofs.FieldLemmas.{number_takes}
 use Rattle.sm_codec.proofs.FieldLemmas.{bind_to, version_again, version_takes, wide64}
 
--- all of the bytes, where none are left
+-- all of the bytes, if none are left
 pub taken_all : (bytes text rest : List ℕ) → Takes bytes text rest → rest ≡ [] → bytes ≡ text
 taken_all bytes text rest takes none =
     takes.parts ∙ ap (λ (list : List ℕ). text ++ list) none ∙ append-nil text
@@ -117,7 +118,7 @@ pub head_found : (bytes : List ℕ) (result : Result Head ReadError) → IsBytes
 head_found bytes (Ok head) fits given = head_takes bytes head fits given
 head_found bytes (Err error) fits given = tt
 
--- a fault is none of bytes that are read
+-- a fault is not a fault of bytes that are read
 pub fails_apart : {A B : Type 0} (error : ReadError) (read : Result A Fault) (x : A) → read ≡ Ok x
     → IsFault error read → (target : Result B Fault) → IsFault error target
 fails_apart errors.Memory read x is fails target = tt

@@ -8,7 +8,7 @@ use Rattle.sm_codec.specs.declared.fault.ReadError.TheVariants as errors
 use Rattle.sm_store.specs.declared.item.Item.{Item}
 use Rattle.sm_codec.specs.Reading.{◌>>=◌, IsFault, item_in, items_in}
 
--- what was read before, and what is still read
+-- the elements that were read before, and those that are still read
 abbrev pub with_front : List (Item (List ℕ)) → Result (List (Item (List ℕ)) × List ℕ) Fault → Result (List (Item
     (List ℕ)) × List ℕ) Fault
 with_front front read = read >>= λ x. Ok (front ++ x.0, x.1)

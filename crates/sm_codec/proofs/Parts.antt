@@ -1,4 +1,4 @@
--- Parts of bases: what is read is spelled so, and what is spelled so is read.
+-- Parts of bases: the bytes that are read are the encoding of the value, and the encoding of a value is read.
 use Rattle.std.proofs.Common.{◌≡◌, ℕ, ◌^◌, ◌<◌, List, [], ◌∷◌, ◌++◌, length, Result, Ok, Err, sym, ap, subst, ◌∙◌}
 use Rattle.std.proofs.Common.{append-nil}
 use Rattle.std.specs.Prelude.{IfOk}

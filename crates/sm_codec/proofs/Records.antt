@@ -1,4 +1,4 @@
--- Records: what is read is spelled so, and what is spelled so is read.
+-- Records: the bytes that are read are the encoding of the value, and the encoding of a value is read.
 use Rattle.std.proofs.Common.{◌≡◌, ℕ, ◌^◌, ◌<◌, List, Option, Some, None, Ok, sym, ap, ◌∙◌}
 use Rattle.std.proofs.Common.{arith}
 use Rattle.std.proofs.lemmas.Option.{none-some}
@@ -16,7 +16,7 @@ use Rattle.sm_codec.proofs.Heads.{pair_again, pair_takes}
 abbrev pub SamePair : ℕ × ℕ → ℕ × ℕ → Type 0
 SamePair one other = one ≡ other
 
--- the pair that bytes spell is the one that is read
+-- the pair that the bytes encode is the one that is read
 pair_is : (bytes : List ℕ) (first second count ceiling : ℕ) → first < 2 ^ 64 → second < 2 ^ 64
     → bytes ≡ pair_bytes first second → pair_in bytes ≡ Ok (count, ceiling) → SamePair (first, second) (count, ceiling)
 pair_is bytes first second count ceiling one two is read =
@@ -66,6 +66,6 @@ record_same stored state process state_is process_is =
     ap (λ (r : Record). done (record { state = r; process = stored.process })) (some_same stored.state state state_is)
     ∙ ap (λ (n : ℕ). done (record { state = state; process = n })) process_is
 
--- what isn't there isn't some
+-- a missing value isn't some value
 pub unread : {A : Type 0} (value : A) (found : Option A) → found ≡ None → found ≡ Some value → ⊥
 unread value found none some = none-some value (sym none ∙ some)

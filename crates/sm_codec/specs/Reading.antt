@@ -30,12 +30,12 @@ abbrev pub IsFault : {Y : Type 0} → ReadError → Result Y Fault → Type 0
 IsFault errors.Memory read = Unit {0}
 IsFault (errors.Fault fault) read = read ≡ Err fault
 
--- what a function returned, seen by view, is what reading gives, unless memory was refused
+-- a function's result, seen by view, is the result of reading, unless memory was refused
 abbrev pub Decodes : {X Y : Type 0} → (X → Y) → Result X ReadError → Result Y Fault → Type 0
 Decodes view (Ok x) read = read ≡ Ok (view x)
 Decodes view (Err error) read = IsFault error read
 
--- a value, where no bytes are left
+-- a value, if no bytes are left
 abbrev pub all_read : {A : Type 0} → A → List ℕ → Result A Fault
 all_read value rest = if length rest == 0 then Ok value else Err Trailing
 
@@ -55,7 +55,7 @@ number_in w bytes =
     if nat_lt (length bytes) (byte_len w) then Err Short
     else Ok (from_be_bytes w (take (byte_len w) bytes), drop (byte_len w) bytes)
 
--- so many bytes as a number says, and those after them
+-- as many bytes as a number says, and those after them
 unfoldable pub string_in : List ℕ → Result (List ℕ × List ℕ) Fault
 string_in bytes = do
   n ← number_in w32 bytes
@@ -70,7 +70,7 @@ abbrev pub mode_named : ℕ → Option Mode
 mode_named number =
     if number == 0 then Some Direct else if nat_lt MAX_SERVER number then None else Some (Forwarded number)
 
--- what a number names, where it names anything
+-- the meaning of a number, if it has one
 abbrev pub named_in : {A : Type 0} → Option A → List ℕ → Result (A × List ℕ) Fault
 named_in None rest = Err Server
 named_in (Some value) rest = Ok (value, rest)
@@ -114,7 +114,7 @@ state_named number =
     else if number == 4 then Some Failed
     else None
 
--- the state that a number names, where it names one, by this process, of that one
+-- the state with this number, if there is one, by this process, about that one
 abbrev pub state_by : Option ServerState → ℕ → ℕ → Result StoredState Fault
 state_by None process named = Err State
 state_by (Some state) process named =

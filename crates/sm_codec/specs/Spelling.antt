@@ -1,5 +1,5 @@
--- What lies at the store's keys, as bytes: a byte for the version, which is 1, and 2 of a server's state, and then each
--- field, of a number the highest byte first.
+-- The values at the store's keys, as bytes: a byte for the version, which is 1, or 2 for a server's state, and then
+-- each field; numbers are big-endian.
 use Rattle.std.specs.Prelude.{ℕ, ◌≡◌, ◌⊎◌, ◌<◌, ◌^◌, List, ◌∷◌, ◌++◌, length, map}
 use Rattle.std.specs.Global.{Vec}
 use Rattle.std.specs.List.{flat_map, AllByRecursion}
@@ -35,7 +35,7 @@ pair_bytes first second = 1 ∷ (to_be_bytes w64 first ++ to_be_bytes w64 second
 abbrev pub record_bytes : StoredRecord → List ℕ
 record_bytes stored = pair_bytes (word_of stored.state) stored.process
 
--- a process: who leads, or made the latest command
+-- a process: the leader, or the process that made the latest command
 abbrev pub process_bytes : ℕ → List ℕ
 process_bytes process = 1 ∷ to_be_bytes w64 process
 
@@ -64,7 +64,7 @@ abbrev pub SpellsState : List ℕ → StoredState → Type 0
 SpellsState bytes stored =
     (bytes ≡ state_bytes stored) ⊎ ((bytes ≡ nameless_state_bytes stored) × (stored.run.process ≡ 0))
 
--- a number of bytes, and so many bytes
+-- the number of bytes, and then the bytes
 abbrev pub string_bytes : List ℕ → List ℕ
 string_bytes bytes = to_be_bytes w32 (length bytes) ++ bytes
 
@@ -81,12 +81,12 @@ item_bytes item =
     ++ (to_be_bytes w32 (mode_number item.mode)
     ++ (item.hops ∷ (to_be_bytes w64 item.forgets ++ string_bytes item.request))))
 
--- a batch without where it lies in memory: the server that executed it, and its requests
+-- a batch without its place in memory: the server that executed it, and its requests
 pub record Batch : Type 0 where
   pub server : ℕ
   pub items : List (Item (List ℕ))
 
--- a request without where its bytes lie
+-- a request without the place of its bytes
 abbrev pub item_view : Item (Vec ℕ) → Item (List ℕ)
 item_view item =
     record {
@@ -130,8 +130,8 @@ pub record FitsBatch (batch : Batch) : Type 0 where
   pub count : length batch.items < 2 ^ 32
   pub items : AllByRecursion FitsItem batch.items
 
--- a part of a base without where it lies in memory: the number below which clients are forgotten, bytes of the machine,
--- and last requests with their replies
+-- a part of a base without its place in memory: the number below which clients are forgotten, bytes of the machine, and
+-- last requests with their replies
 pub record PartText : Type 0 where
   pub floor : ℕ
   pub state : List ℕ

@@ -15,7 +15,7 @@ use sm_place::ServerState;
 use sm_store::server_run::ServerRun;
 use std::alloc::{AllocError, Global};
 
-/// The bytes of a process: of who leads, or who made the latest command.
+/// Returns the bytes of a process: of the leader, or of the process that made the latest command.
 pub fn write_process(alloc: Global, process: u64) -> Result<Vec<u8>, AllocError>
     ensures { IfOk result (λ bytes. bytes.items ≡ process_bytes process) }
 {
@@ -52,7 +52,7 @@ fn state_named(number: u64) -> Option<ServerState>
     }
 }
 
-/// The bytes of a server's state and the process that it names, and of the process whose command led to it.
+/// Returns the bytes of a server's state and the process that it names, and of the process whose command led to it.
 pub fn write_state(alloc: Global, stored: &StoredState) -> Result<Vec<u8>, AllocError>
     ensures { IfOk result (λ bytes. bytes.items ≡ state_bytes stored.now) }
 {
@@ -122,8 +122,8 @@ fn stored_state_of(bytes: &[u8]) -> Result<StoredState, ReadError>
     }
 }
 
-/// The state that the bytes spell, all of the bytes, with the process that it names, and the process whose command led
-/// to it. A state of version 1 names no process.
+/// Returns the state that the bytes spell, all of the bytes, with the process that it names, and the process whose
+/// command led to it. A state of version 1 names no process.
 pub fn read_state(bytes: &[u8]) -> Result<StoredState, ReadError>
     ensures found { IfOk result (SpellsState bytes.now) }
     ensures only { (stored : StateValue) → stored.process < 2 ^ 64 → stored.run.process < 2 ^ 64

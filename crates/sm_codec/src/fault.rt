@@ -4,7 +4,7 @@ ghost use Rattle.sm_codec.specs.declared.fault.ReadError.TheVariants.{Memory};
 use std::alloc::{AllocError, AllocFailed};
 use thiserror::Error;
 
-/// What is wrong with the bytes at a key: the first fault from left to right, where a word and a state are judged last.
+/// The fault in the bytes at a key: the first one from left to right. A word and a state are judged last.
 #[derive(Clone, Copy, Debug, PartialEq, Eq, Drop, Error)]
 pub enum Fault {
     /// A field passes the end.
@@ -22,7 +22,7 @@ pub enum Fault {
     /// No state of a server has this number.
     #[error("no state of a server has the number")]
     State,
-    /// Bytes stand after the last field.
+    /// There are bytes behind the last field.
     #[error("bytes stand after the last field")]
     Trailing,
 }

@@ -8,7 +8,7 @@ use sm_ranges::limits::MAX_SERVER;
 use sm_ranges::server_id::ServerId;
 use std::alloc::Global;
 
-/// The bytes after the version.
+/// Returns the bytes after the version.
 #[tactic(auto, unfolding(crate::specs::Reading::version_in))]
 pub fn version_of(bytes: &[u8]) -> Result<&[u8], ReadError>
     ensures { Decodes (λ x. x.now) result (version_in bytes.now) }
@@ -20,7 +20,7 @@ pub fn version_of(bytes: &[u8]) -> Result<&[u8], ReadError>
     }
 }
 
-/// One byte, and those after it.
+/// Returns one byte, and those after it.
 pub fn byte_at(bytes: &[u8]) -> Result<(u8, &[u8]), ReadError>
     ensures { Decodes (λ x. (x.0, x.1.now)) result (byte_in bytes.now) }
 {
@@ -30,7 +30,7 @@ pub fn byte_at(bytes: &[u8]) -> Result<(u8, &[u8]), ReadError>
     }
 }
 
-/// A number of 32 bits, and the bytes after it.
+/// Returns a number of 32 bits, and the bytes after it.
 pub fn u32_at(bytes: &[u8]) -> Result<(u32, &[u8]), ReadError>
     ensures { Decodes (λ x. (x.0, x.1.now)) result (number_in w32 bytes.now) }
 {
@@ -42,7 +42,7 @@ pub fn u32_at(bytes: &[u8]) -> Result<(u32, &[u8]), ReadError>
     Ok((number, rest))
 }
 
-/// A number of 64 bits, and the bytes after it.
+/// Returns a number of 64 bits, and the bytes after it.
 pub fn u64_at(bytes: &[u8]) -> Result<(u64, &[u8]), ReadError>
     ensures { Decodes (λ x. (x.0, x.1.now)) result (number_in w64 bytes.now) }
 {
@@ -56,7 +56,7 @@ pub fn u64_at(bytes: &[u8]) -> Result<(u64, &[u8]), ReadError>
     Ok((number, rest))
 }
 
-/// So many bytes as a number says, and those after them.
+/// Returns as many bytes as a number says, and those after them.
 #[tactic(auto, unfolding(crate::specs::Reading::string_in))]
 pub fn string_of(alloc: Global, bytes: &[u8]) -> Result<(Vec<u8>, &[u8]), ReadError>
     ensures { Decodes (λ x. (x.0.items, x.1.now)) result (string_in bytes.now) }
@@ -70,7 +70,7 @@ pub fn string_of(alloc: Global, bytes: &[u8]) -> Result<(Vec<u8>, &[u8]), ReadEr
     Ok((Vec::from_slice(alloc, text)?, rest))
 }
 
-/// The server of this number, if it is one.
+/// Returns the server of this number, if it is one.
 pub fn server_named(number: u32) -> Option<ServerId>
     ensures { result ≡ server_named number }
 {
@@ -80,7 +80,7 @@ pub fn server_named(number: u32) -> Option<ServerId>
     Some(ServerId::of(number as u16))
 }
 
-/// How a request came, by this number, if it stands for that.
+/// Returns how a request came, if this number has that meaning.
 pub fn mode_named(number: u32) -> Option<Mode>
     ensures { result ≡ mode_named number }
 {

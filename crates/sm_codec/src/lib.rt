@@ -1,5 +1,5 @@
-//! What lies at the keys of a shared store, as bytes with a version: what was written is read again, and whatever else
-//! lies there is a named fault.
+//! The encoding of the values at the keys of a shared store, with versions: written values are read again, and all
+//! other bytes are a named fault.
 //!
 //! ```rust
 //! let head = Head {

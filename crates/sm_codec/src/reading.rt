@@ -37,11 +37,11 @@ fn head_of(bytes: &[u8]) -> Result<Head, ReadError>
     })
 }
 
-/// The head that the bytes spell, all of the bytes.
+/// Returns the head that the bytes spell, all of the bytes.
 pub fn read_head(bytes: &[u8]) -> Result<Head, ReadError>
-    // What is read is spelled so.
+    // The bytes that are read are the encoding of the value.
     ensures found { IfOk result (λ head. FitsHead head × (bytes.now ≡ head_bytes head)) }
-    // What is spelled so is read.
+    // If the bytes are the encoding of a value, it is read.
     ensures only { (head : HeadValue) → FitsHead head → bytes.now ≡ head_bytes head
         → Decodes (λ found. found) result (Ok head) }
     // Which fault it is.
@@ -64,7 +64,7 @@ pub(crate) fn pair_of(bytes: &[u8]) -> Result<(u64, u64), ReadError>
     Ok((first, second))
 }
 
-/// The record that the bytes spell, all of the bytes, and the process whose change led to it.
+/// Returns the record that the bytes spell, all of the bytes, and the process whose change led to it.
 pub fn read_record(bytes: &[u8]) -> Result<StoredRecord, ReadError>
     ensures found { IfOk result (λ stored. IsWellFormed stored.state × (bytes.now ≡ record_bytes stored)) }
     ensures only { (stored : StoredValue) → IsWellFormed stored.state → stored.process < 2 ^ 64
@@ -149,12 +149,12 @@ fn batch_of(alloc: Global, bytes: &[u8]) -> Result<StoredBatch, ReadError>
     }
 }
 
-/// The batch that the bytes spell, all of the bytes.
+/// Returns the batch that the bytes spell, all of the bytes.
 pub fn read_batch(alloc: Global, bytes: &[u8]) -> Result<StoredBatch, ReadError>
-    // What is read is spelled so.
+    // The bytes that are read are the encoding of the value.
     ensures found { IfOk result (λ stored. FitsBatch (batch_view stored)
         × (bytes.now ≡ batch_bytes (batch_view stored))) }
-    // What is spelled so is read, unless memory is refused.
+    // If the bytes are the encoding of a value, it is read, unless memory is refused.
     ensures only { (batch : Batch) → FitsBatch batch → bytes.now ≡ batch_bytes batch
         → Decodes (λ stored. batch_view stored) result (Ok batch) }
     // Which fault it is.
@@ -186,12 +186,12 @@ fn part_of(alloc: Global, bytes: &[u8]) -> Result<StoredPart, ReadError>
     }
 }
 
-/// The part of a base that the bytes spell, all of the bytes.
+/// Returns the part of a base that the bytes spell, all of the bytes.
 pub fn read_part(alloc: Global, bytes: &[u8]) -> Result<StoredPart, ReadError>
-    // What is read is spelled so.
+    // The bytes that are read are the encoding of the value.
     ensures found { IfOk result (λ stored. FitsPart (part_view stored)
         × (bytes.now ≡ part_bytes (part_view stored))) }
-    // What is spelled so is read, unless memory is refused.
+    // If the bytes are the encoding of a value, it is read, unless memory is refused.
     ensures only { (part : PartText) → FitsPart part → bytes.now ≡ part_bytes part
         → Decodes (λ stored. part_view stored) result (Ok part) }
     // Which fault it is.

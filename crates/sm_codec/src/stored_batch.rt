@@ -1,7 +1,7 @@
 use sm_ranges::server_id::ServerId;
 use sm_store::item::Item;
 
-/// What lies at a batch: the server that executed it, and its requests as bytes.
+/// The value of a batch: the server that executed it, and its requests as bytes.
 #[derive(Drop)]
 pub struct StoredBatch {
     pub server: ServerId,

@@ -1,7 +1,7 @@
 use sm_store::item::Item;
 
-/// What lies at a part of a base: bytes of the machine, and last requests of clients, each with its reply as the
-/// request.
+/// The value of a part of a base: bytes of the machine, and last requests of clients, each with its reply in place of
+/// the request.
 #[derive(Drop)]
 pub struct StoredPart {
     /// The number below which clients are forgotten.

@@ -1,6 +1,6 @@
 use sm_ownership::record::Record;
 
-/// What lies at a shard's record: the record, and the process whose change led to it.
+/// The value of a shard's record: the record, and the process whose change led to it.
 #[derive(Clone, Copy, PartialEq, Eq, Drop)]
 pub struct StoredRecord {
     pub state: Record,

@@ -15,7 +15,7 @@ use sm_store::item::Item;
 use sm_word::word::pack;
 use std::alloc::{AllocError, Global};
 
-/// The bytes of a head.
+/// Returns the bytes of a head.
 pub fn write_head(alloc: Global, head: &Head) -> Result<Vec<u8>, AllocError>
     ensures { IfOk result (λ bytes. bytes.items ≡ head_bytes head.now) }
 {
@@ -27,7 +27,7 @@ pub fn write_head(alloc: Global, head: &Head) -> Result<Vec<u8>, AllocError>
     Ok(out)
 }
 
-/// The bytes of two numbers.
+/// Returns the bytes of two numbers.
 pub(crate) fn write_pair(alloc: Global, first: u64, second: u64) -> Result<Vec<u8>, AllocError>
     ensures { IfOk result (λ bytes. bytes.items ≡ pair_bytes first second) }
 {
@@ -38,7 +38,7 @@ pub(crate) fn write_pair(alloc: Global, first: u64, second: u64) -> Result<Vec<u
     Ok(out)
 }
 
-/// The bytes of a well-formed record, and of the process whose change led to it.
+/// Returns the bytes of a well-formed record, and of the process whose change led to it.
 pub fn write_record(alloc: Global, stored: &StoredRecord) -> Result<Vec<u8>, AllocError>
     requires { IsWellFormed stored.now.state }
     ensures { IfOk result (λ bytes. bytes.items ≡ record_bytes stored.now) }
@@ -46,7 +46,7 @@ pub fn write_record(alloc: Global, stored: &StoredRecord) -> Result<Vec<u8>, All
     write_pair(alloc, pack(stored.state), stored.process)
 }
 
-// The number that stands for how a request came.
+// Returns the number that encodes how a request came.
 fn mode_code(mode: &Mode) -> u32
     ensures { result ≡ mode_number mode.now }
 {
@@ -73,7 +73,7 @@ fn put_number(out: &mut Vec<u8>, number: u64) -> Result<(), AllocError>
     Ok(())
 }
 
-// Adds a number of bytes, and so many bytes.
+// Writes the number of bytes, and then the bytes.
 fn put_string(out: &mut Vec<u8>, bytes: &[u8]) -> Result<(), AllocError>
     requires { length bytes.now < 2 ^ 32 }
     ensures { OnOk result (out.new.items ≡ out.old.items ++ string_bytes bytes.now) }
@@ -105,7 +105,8 @@ fn put_items(out: &mut Vec<u8>, items: &[Item<Vec<u8>>]) -> Result<(), AllocErro
     Ok(())
 }
 
-/// The bytes of a batch of these requests, fewer than 2 ^ 32, each of fewer bytes than that, which the server executed.
+/// Returns the bytes of a batch of these requests, fewer than 2 ^ 32, each of fewer bytes than that, which the server
+/// executed.
 pub fn write_requests(
     alloc: Global,
     server: ServerId,
@@ -123,8 +124,8 @@ pub fn write_requests(
     Ok(out)
 }
 
-/// The bytes of a part of a base that has fewer than 2 ^ 32 bytes and last requests, each reply of fewer bytes than
-/// that.
+/// Returns the bytes of a part of a base that has fewer than 2 ^ 32 bytes and last requests, each reply of fewer bytes
+/// than that.
 pub fn write_part(alloc: Global, stored: &StoredPart) -> Result<Vec<u8>, AllocError>
     requires { FitsPart (part_view stored.now) }
     ensures { IfOk result (λ bytes. bytes.items ≡ part_bytes (part_view stored.now)) }

@@ -1,4 +1,4 @@
--- What became of an envelope, as the counters of a server tell it.
+-- The fate of an envelope, as the counters of a server tell it.
 use Rattle.std.specs.Prelude.{ℕ}
 use Rattle.sm_ownership.specs.declared.admit_fault.AdmitFault.{AdmitFault}
 use Rattle.sm_ownership.specs.declared.admit_fault.AdmitFault.TheVariants as admit
@@ -34,7 +34,7 @@ fate_of (outcome.Answered answer) = fate.Answered
 fate_of (outcome.Forward server envelope) = fate.Forwarded
 fate_of (outcome.Refused why envelope) = fate_of_refusal why
 
--- of how many servers and shards there are counters
+-- the numbers of servers and shards that have counters
 pub record CountersValue : Type 0 where
   pub servers : ℕ
   pub shards : ℕ

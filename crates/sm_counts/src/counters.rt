@@ -13,9 +13,9 @@ use std::sync::atomic::{AtomicU64, Ordering};
 /// The counters of a cluster, into which its workers, clients and commands count.
 #[derive(Drop)]
 pub struct Counters {
-    // By the servers' rising numbers.
+    // The tallies, by the servers' ascending numbers.
     tallies: Vec<Tally>,
-    // By the shards' numbers.
+    // The numbers of changes, by the shards' numbers.
     changes: Vec<AtomicU64>,
     retried: AtomicU64,
 }
@@ -33,7 +33,7 @@ impl Model for Counters {
 }
 
 impl Counters {
-    /// Counters of so many servers and shards, all at 0; an error is want of memory.
+    /// Makes counters for so many servers and shards, all at 0. It fails only if memory is refused.
     pub fn new(alloc: Global, servers: usize, shards: usize) -> Result<Counters, AllocError>
         ensures { IfOk result (λ made. made ≡ record { servers = servers; shards = shards }) }
     {
@@ -48,14 +48,14 @@ impl Counters {
         })
     }
 
-    /// The tally of the server at this place, by rising numbers; `None` where there is no such place.
+    /// Returns the tally of the server at this place, by ascending numbers; `None` if there is no such place.
     pub fn tally(&self, at: usize) -> Option<&Tally>
         ensures { is_some result ≡ nat_lt at self.now.servers }
     {
         self.tallies.get(at)
     }
 
-    /// Counts a command that was made, where it is a change of a shard.
+    /// Counts a command that was made, if it is a change of a shard.
     pub fn count_command(&self, command: &Command) {
         let Command::Change(k, _) = command else {
             return;
@@ -70,7 +70,7 @@ impl Counters {
         self.retried.fetch_add(1, Ordering::SeqCst);
     }
 
-    /// What was counted of these servers, which stand by rising numbers; an error is want of memory.
+    /// Returns the counts of these servers, which must be in ascending order. It fails only if memory is refused.
     pub fn servers(
         &self,
         alloc: Global,
@@ -86,7 +86,7 @@ impl Counters {
         Ok(rows)
     }
 
-    /// How many changes of the shard were made; 0 for a shard that has no counter.
+    /// Returns how many changes of the shard were made; 0 for a shard that has no counter.
     pub fn changes(&self, k: ShardId) -> u64 {
         match self.changes.get(k.index()) {
             Some(changes) => changes.load(Ordering::SeqCst),
@@ -94,13 +94,13 @@ impl Counters {
         }
     }
 
-    /// How many requests were made anew.
+    /// Returns how many requests were made anew.
     pub fn retried(&self) -> u64 {
         self.retried.load(Ordering::SeqCst)
     }
 }
 
-// So many counters, all at 0.
+// Makes so many counters, all at 0.
 fn zeros(alloc: Global, count: usize) -> Result<Vec<AtomicU64>, AllocError>
     ensures { IfOk result (λ counters. length counters.items ≡ count) }
 {

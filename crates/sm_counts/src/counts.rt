@@ -2,7 +2,7 @@ use crate::fate::{FATES, Fate};
 use sm_ranges::server_id::ServerId;
 use sm_ranges::shard_id::ShardId;
 
-/// What the servers of a cluster did and the shards went through since its start.
+/// The counts of a cluster's servers and shards since its start.
 #[derive(Drop)]
 pub struct Counts {
     /// A row for each server, by rising numbers.
@@ -13,7 +13,7 @@ pub struct Counts {
     pub retried: u64,
 }
 
-/// What became of the envelopes that came to a server.
+/// The fates of the envelopes that came to a server.
 #[derive(Clone, Copy, PartialEq, Eq, Drop)]
 pub struct ServerCounts {
     /// The server.
@@ -23,13 +23,13 @@ pub struct ServerCounts {
 }
 
 impl ServerCounts {
-    /// How many envelopes had this fate.
+    /// Returns how many envelopes had this fate.
     pub fn of(&self, fate: Fate) -> u64 {
         self.by_fate[fate as usize]
     }
 }
 
-/// What a shard went through.
+/// The counts of a shard.
 #[derive(Clone, Copy, PartialEq, Eq, Drop)]
 pub struct ShardCounts {
     /// The shard.

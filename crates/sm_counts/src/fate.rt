@@ -5,7 +5,7 @@ use sm_server::{Outcome, Refusal};
 /// How many fates there are.
 pub const FATES: usize = 14;
 
-/// What became of an envelope that came to a server, as its counters tell it.
+/// The fate of an envelope that came to a server, as its counters tell it.
 #[derive(Clone, Copy, PartialEq, Eq, Drop)]
 pub enum Fate {
     /// It was answered.
@@ -14,19 +14,19 @@ pub enum Fate {
     Forwarded,
     /// It was refused: the board has no such shard, or the key is another shard's.
     WrongShard,
-    /// It was refused: the request had been forwarded as often as it may be.
+    /// It was refused because the request had been forwarded as often as allowed.
     TooManyHops,
-    /// It was refused: nobody owned the shard.
+    /// It was refused because the shard had no owner.
     Vacant,
     /// It was refused: the shard was paused.
     Paused,
     /// It was refused: the server didn't execute the shard's requests.
     NotExecutor,
-    /// It was refused: the server executed so far only what the owner forwarded.
+    /// It was refused because the server so far executed only forwarded requests of the owner.
     NotYet,
     /// It was refused: a server was admitted already.
     Admitted,
-    /// It was refused: the shard's generation had no room for an admission and its end.
+    /// It was refused because the shard's generation had no room for an admission and its end.
     Spent,
     /// Another actor was quicker between the server's look and its admission. Such an envelope doesn't go back: the
     /// server serves it again, and counts it again.
@@ -35,7 +35,7 @@ pub enum Fate {
     KeptFull,
     /// It was refused: memory for the request was refused.
     NoMemory,
-    /// It found the server's door shut, and came to no worker.
+    /// It found the server's door shut, and reached no worker.
     Unreachable,
 }
 
@@ -59,7 +59,7 @@ impl Fate {
         (Fate::Unreachable, "Unreachable"),
     ];
 
-    /// The fate of an envelope by the outcome of the server's step on it.
+    /// Returns the fate of an envelope by the outcome of the server's step on it.
     pub fn of<A, E>(outcome: &Outcome<A, E>) -> Fate
         ensures { result ≡ fate_of outcome.now }
     {

@@ -1,6 +1,6 @@
-//! What a cluster counts: of each server the envelopes that it answered, sent on and refused, and of each shard its
-//! changes. Clauses say whose a row is and which fate a step counts as. None says what a count is, as a counter of
-//! threads has no value that a clause could name; tests do.
+//! The counts of a cluster: for each server the envelopes that it answered, sent on and refused, and for each shard its
+//! changes. Clauses state the owner of a row and the fate of a step. No clause says anything about the counts, because
+//! a counter of threads has no value that a clause could name. Tests do.
 //!
 //! ```rust
 //! let counters = Counters::new(alloc, 2, 1)?;

@@ -8,7 +8,7 @@ use sm_server::Outcome;
 use std::array;
 use std::sync::atomic::{AtomicU64, Ordering};
 
-/// What the workers of a server and its door count.
+/// The counters of a server's workers and its door.
 #[derive(Drop)]
 pub struct Tally {
     // By the fates' places.
@@ -16,7 +16,7 @@ pub struct Tally {
 }
 
 impl Tally {
-    /// A tally of nothing.
+    /// Returns a tally of nothing.
     pub fn new() -> Tally {
         Tally {
             counters: array::from_fn(|_| AtomicU64::new(0)),
@@ -37,7 +37,7 @@ impl Tally {
         self.counters[fate as usize].fetch_add(1, Ordering::SeqCst);
     }
 
-    /// What was counted of this server.
+    /// Returns the counts of this server.
     pub fn counts(&self, server: ServerId) -> ServerCounts
         ensures { result.server ≡ server }
     {

@@ -15,14 +15,14 @@ pub record EnvelopeView (Q N : Type 0) : Type 0 where
   pub request : Q
   pub note : N
 
--- an envelope but for its request and its note
+-- an envelope without its request and its note
 pub record ShellView : Type 0 where
   pub number : ℕ
   pub shard : ℕ
   pub mode : Mode
   pub hops : ℕ
 
--- what an envelope is without its request and its note
+-- the shell of an envelope
 abbrev pub shell_of : {Q N : Type 0} → EnvelopeView Q N → ShellView
 shell_of envelope =
     record { number = envelope.number; shard = envelope.shard; mode = envelope.mode; hops = envelope.hops }
@@ -42,13 +42,13 @@ whole shell request note = record {
 abbrev pub one_hop_more : {Q N : Type 0} → EnvelopeView Q N → ℕ → EnvelopeView Q N
 one_hop_more envelope from = record envelope { mode = Forwarded from; hops = envelope.hops + 1 }
 
--- an envelope that a server forwards, and to whom; it stays where nobody is named, or no hop is left
+-- an envelope that a server forwards, and to whom; it doesn't change if nobody is named or no hop is left
 abbrev pub sent_on : {Q N : Type 0} → EnvelopeView Q N → ℕ → Option ℕ → Result (ℕ × EnvelopeView Q N) (EnvelopeView Q N)
 sent_on envelope from None = Err envelope
 sent_on envelope from (Some to) =
     if nat_lt envelope.hops MOST_HOPS then Ok (to, one_hop_more envelope from) else Err envelope
 
--- what a server makes of an envelope by the shard's record: where it forwards requests and a hop is left, the server to
--- which the envelope goes, and the envelope with that hop; else the envelope as it was
+-- the result of forwarding an envelope by the shard's record: if the server forwards requests and a hop is left, the
+-- server to which the envelope goes, and the envelope with that hop; otherwise the envelope as it was
 abbrev pub forwarded : {Q N : Type 0} → EnvelopeView Q N → Record → ℕ → Result (ℕ × EnvelopeView Q N) (EnvelopeView Q N)
 forwarded envelope state at = sent_on envelope at (forward_to state at)

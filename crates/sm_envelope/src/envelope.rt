@@ -9,11 +9,11 @@ use sm_ranges::server_id::ServerId;
 use sm_ranges::shard_id::ShardId;
 use std::marker::Model;
 
-/// How often a request is forwarded at most.
+/// A request is forwarded at most this often.
 pub const MOST_HOPS: u8 = 4;
 
 /// A request on its way to a shard: its number, its shard, how it came, how often it was forwarded, and a note that
-/// goes with it.
+/// travels with it.
 #[derive(Drop)]
 pub struct Envelope<Q: Drop, N: Drop> {
     shell: Shell,
@@ -30,7 +30,7 @@ impl<Q: Drop, N: Drop> Model for Envelope<Q, N> {
 }
 
 impl<Q: Drop, N: Drop> Envelope<Q, N> {
-    /// A direct request, not forwarded yet, with this note.
+    /// Makes a direct request, not forwarded yet, with this note.
     pub fn new(number: u64, shard: ShardId, request: Q, note: N) -> Envelope<Q, N>
         ensures { result ≡ record {
           number = number;
@@ -48,7 +48,7 @@ impl<Q: Drop, N: Drop> Envelope<Q, N> {
         }
     }
 
-    // The envelope of these parts.
+    // Returns the envelope with these parts.
     pub(crate) fn of_parts(shell: Shell, request: Q, note: N) -> Envelope<Q, N>
         ensures { result ≡ whole shell request note }
     {
@@ -59,50 +59,50 @@ impl<Q: Drop, N: Drop> Envelope<Q, N> {
         }
     }
 
-    /// The number that the sender gave it.
+    /// Returns the number that the sender gave it.
     pub fn number(&self) -> u64
         ensures { result ≡ self.now.number }
     {
         self.shell.number()
     }
 
-    /// The shard that it is for.
+    /// Returns the shard of the request.
     pub fn shard(&self) -> ShardId
         ensures { result ≡ self.now.shard }
     {
         self.shell.shard()
     }
 
-    /// How it came: from a client, or forwarded.
+    /// Returns how it came: from a client, or forwarded.
     pub fn mode(&self) -> Mode
         ensures { result ≡ self.now.mode }
     {
         self.shell.mode()
     }
 
-    /// How often the request was forwarded, 0 to [`MOST_HOPS`].
+    /// Returns how often the request was forwarded, from 0 to [`MOST_HOPS`].
     pub fn hops(&self) -> u8
         ensures { result ≡ self.now.hops }
     {
         self.shell.hops()
     }
 
-    /// The request.
+    /// Returns the request.
     pub fn request(&self) -> &Q
         ensures { result.now ≡ self.now.request }
     {
         &self.request
     }
 
-    /// The note that goes with it.
+    /// Returns the note that travels with it.
     pub fn note(&self) -> &N
         ensures { result.now ≡ self.now.note }
     {
         &self.note
     }
 
-    /// The envelope as the server `at` forwards it, and the server that it goes to. Where the record lets `at` forward
-    /// nothing, or the request was forwarded as often as it may be, the envelope comes back as it was.
+    /// Returns the envelope as the server `at` forwards it, and the server to which it must go. If the record doesn't
+    /// let `at` forward, or the request was forwarded as often as it may be, returns the envelope as it was.
     pub fn forwarded(
         self,
         state: &Record,
@@ -132,7 +132,7 @@ impl<Q: Drop, N: Drop> Envelope<Q, N> {
         }
     }
 
-    /// The request, the note, and the envelope but for them.
+    /// Returns the request, the note, and the rest of the envelope.
     pub fn parts(self) -> (Q, N, Shell)
         ensures request { result.0 ≡ self.request }
         ensures note { result.1 ≡ self.note }

@@ -1,6 +1,6 @@
 //! Requests on their way to a shard, and why one is refused.
 //!
-//! A server that forwards requests on a shard sends an envelope on to the shard's other server, up to [`MOST_HOPS`]
+//! If a server forwards requests on a shard, it sends an envelope on to the shard's other server, up to [`MOST_HOPS`]
 //! times:
 //!
 //! ```rust

@@ -9,7 +9,7 @@ use sm_ranges::server_id::ServerId;
 use sm_ranges::shard_id::ShardId;
 use std::marker::Model;
 
-/// An envelope but for its request and its note. Only `Envelope::parts` gives one.
+/// An envelope without its request and its note. Only `Envelope::parts` makes one.
 #[derive(Drop)]
 pub struct Shell {
     number: u64,
@@ -36,7 +36,7 @@ impl Model for Shell {
 }
 
 impl Shell {
-    // The shell of a request that comes from a client.
+    // Returns the shell of a request that comes from a client.
     pub(crate) fn direct(number: u64, shard: ShardId) -> Shell
         ensures { result ≡ record { number = number; shard = shard; mode = Direct; hops = 0 } }
     {
@@ -48,7 +48,7 @@ impl Shell {
         }
     }
 
-    // The shell after one more hop, from this server on.
+    // Returns the shell after one more hop, from this server on.
     pub(crate) fn forwarded(self, from: ServerId) -> Shell
         requires { self.hops < MOST_HOPS }
         ensures { result ≡ record self { mode = Forwarded from; hops = self.hops + 1 } }
@@ -61,35 +61,35 @@ impl Shell {
         }
     }
 
-    /// The number that the sender gave it.
+    /// Returns the number that the sender gave it.
     pub fn number(&self) -> u64
         ensures { result ≡ self.now.number }
     {
         self.number
     }
 
-    /// The shard that it is for.
+    /// Returns the shard of its request.
     pub fn shard(&self) -> ShardId
         ensures { result ≡ self.now.shard }
     {
         self.shard
     }
 
-    /// How it came: from a client, or forwarded.
+    /// Returns how it came: from a client, or forwarded.
     pub fn mode(&self) -> Mode
         ensures { result ≡ self.now.mode }
     {
         self.mode
     }
 
-    /// How often the request was forwarded, 0 to [`MOST_HOPS`](crate::MOST_HOPS).
+    /// Returns how often the request was forwarded, from 0 to [`MOST_HOPS`](crate::MOST_HOPS).
     pub fn hops(&self) -> u8
         ensures { result ≡ self.now.hops }
     {
         self.hops
     }
 
-    /// The envelope of this shell, the request and the note.
+    /// Returns the envelope of this shell, the request and the note.
     pub fn whole<Q: Drop, N: Drop>(self, request: Q, note: N) -> Envelope<Q, N>
         ensures { result ≡ whole self request note }
     {

@@ -8,7 +8,7 @@ use std::sync::Wait;
 use std::sync::atomic::{AtomicBool, Ordering};
 use std::thread;
 
-/// The way to an inbox.
+/// The door to an inbox, through which messages are sent.
 #[derive(Drop)]
 pub struct Door<M: Drop> {
     is_open: AtomicBool,
@@ -16,7 +16,7 @@ pub struct Door<M: Drop> {
 }
 
 impl<M: Drop> Door<M> {
-    /// The door to the inbox into which this sends. It is open.
+    /// Makes an open door to the inbox into which this sends.
     pub(crate) fn new(inbox: Sender<Parcel<M>>) -> Door<M> {
         Door {
             is_open: AtomicBool::new(true),
@@ -24,18 +24,18 @@ impl<M: Drop> Door<M> {
         }
     }
 
-    /// Whether it is open.
+    /// Returns whether the door is open.
     pub fn is_open(&self) -> bool {
         self.is_open.load(Ordering::SeqCst)
     }
 
-    /// Opens or shuts it.
+    /// Opens or shuts the door.
     pub fn set_open(&self, is_open: bool) {
         self.is_open.store(is_open, Ordering::SeqCst);
     }
 
-    /// Puts the message into the inbox, or gives it back: `Unreachable` where nobody has the inbox, `NoMemory` where
-    /// memory was refused. Whether the door is open isn't asked.
+    /// Puts the message into the inbox, or gives it back: with `Unreachable` if nobody has the inbox, or `NoMemory` if
+    /// memory was refused. It doesn't check whether the door is open.
     pub fn send<R: Wait>(&self, rt: &R, message: M) -> Result<(), Unsent<M>>
         ensures { IfErr result (λ unsent. unsent.message ≡ message) }
     {
@@ -53,8 +53,8 @@ impl<M: Drop> Door<M> {
         }
     }
 
-    /// Puts a word to stop into the inbox. Where memory for it is refused, it waits until a worker has made room, for
-    /// which the inbox has enough for all.
+    /// Puts a word to stop into the inbox. If memory for it is refused, it waits until a worker has made room. The
+    /// inbox has room for the words to all workers.
     pub fn tell_to_stop<R: Wait>(&self, rt: &R) {
         for _ in rt.forever() {
             match self.inbox.send(rt, Parcel::Stop) {

@@ -16,7 +16,7 @@ pub struct Inbox<M: Drop> {
     parcels: Receiver<Parcel<M>>,
 }
 
-/// The inbox of a server, with room for so many parcels, and the door to it, which is open.
+/// Makes the inbox of a server, with room for this many parcels, and the open door to it.
 pub fn inbox_of<M: Drop, R: Wait>(
     rt: &R,
     alloc: Global,
@@ -36,7 +36,8 @@ pub fn inbox_of<M: Drop, R: Wait>(
     ))
 }
 
-// Has an inbox hold so many parcels at once. What has room keeps it, so that a stop has to wait for no memory.
+// Makes room in an inbox for this many parcels at once. The inbox keeps its room, so that a stop never has to wait for
+// memory.
 fn make_room<M: Drop, R: Wait>(
     rt: &R,
     sender: &Sender<Parcel<M>>,
@@ -52,7 +53,7 @@ fn make_room<M: Drop, R: Wait>(
     Ok(())
 }
 
-// Takes so many parcels out of an inbox.
+// Takes this many parcels out of an inbox.
 fn take_out<M: Drop, R: Wait>(rt: &R, receiver: &Receiver<Parcel<M>>, parcels: u32) {
     for _ in 0..parcels {
         let _ = receiver.try_recv(rt);
@@ -60,7 +61,7 @@ fn take_out<M: Drop, R: Wait>(rt: &R, receiver: &Receiver<Parcel<M>>, parcels: u
 }
 
 impl<M: Drop> Inbox<M> {
-    /// The same inbox for one more worker.
+    /// Returns the same inbox for one more worker.
     pub fn shared(&self) -> Result<Inbox<M>, AllocError>
         ensures { IfOk result (λ shared. shared.server ≡ self.now.server) }
     {
@@ -70,7 +71,7 @@ impl<M: Drop> Inbox<M> {
         })
     }
 
-    /// The next parcel, for which it looks some times before it waits.
+    /// Returns the next parcel. It looks several times before it waits.
     pub fn next<R: Wait>(&self, rt: &R) -> Result<Parcel<M>, RecvError> {
         for look in 0..LOOKS {
             if !self.parcels.is_empty() {

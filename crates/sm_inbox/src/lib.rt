@@ -1,4 +1,5 @@
-//! Where messages wait: the inbox of a server, which its workers share, and the door to it. Messages are of any type.
+//! The place in which messages wait: the inbox of a server, which its workers share, and the door to it. Messages are
+//! of any type.
 //!
 //! ```rust
 //! let (door, inbox) = inbox_of::<u64, HostRuntime>(&rt, alloc, ServerId::of(1), 2)?;

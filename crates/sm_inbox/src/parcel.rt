@@ -1,4 +1,4 @@
-/// What a worker takes out of its inbox.
+/// The contents of an inbox, which a worker takes out one by one.
 #[derive(Drop)]
 pub enum Parcel<M: Drop> {
     /// A message to serve.

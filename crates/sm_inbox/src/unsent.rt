@@ -7,12 +7,12 @@ pub enum SendFault {
     /// The door is shut, or nobody has the inbox.
     #[error("the server is out of reach")]
     Unreachable,
-    /// Memory for the way was refused.
+    /// Memory for sending it was refused.
     #[error("out of memory")]
     NoMemory,
 }
 
-/// A message that was not sent, and why.
+/// A message that was not sent, and the reason.
 #[derive(Drop, Error)]
 #[error("{fault}")]
 pub struct Unsent<M: Drop> {
@@ -20,7 +20,7 @@ pub struct Unsent<M: Drop> {
     pub message: M,
 }
 
-// Messages need not show themselves.
+// This asks nothing of the messages, because they need no `Debug`.
 impl<M: Drop> fmt::Debug for Unsent<M> {
     fn fmt<W: fmt::Write>(&self, f: &mut fmt::Formatter<W>) -> fmt::Result {
         f.debug_struct("Unsent")

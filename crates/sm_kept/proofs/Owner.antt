@@ -1,9 +1,9 @@
--- What owns a state or nothing, in two fields: a pointer, and the allocator, which takes no bytes. A struct that C
--- keeps has no type parameter, so each has calls of its own; their walks are the same, and stand beside this file.
---     Owner                the state's row and laws, and how what owns it is made and taken apart
+-- The owner of an optional state, in two fields: a pointer, and the allocator, which takes no bytes. A struct that C
+-- keeps has no type parameter, so each has its own calls. Their walks are the same, and are beside this file.
+--     Owner                the state's row and laws, and how its owner is made and taken apart
 --     X, E                 the state as a row of one machine value, and its box
---     H, Parts             what owns it, and a box's parts, as rows
---     owned                what it owns, by its two fields and its state
+--     H, Parts             its owner, and a box's parts, as rows
+--     owned                all that the owner owns, by its two fields and its state
 --     moved, moves         the locals and the body of a function that moves both fields
 use mathlib.Core.Path.{◌≡◌, refl}
 use mathlib.Core.List.{List, [], ◌∷◌}
@@ -99,7 +99,7 @@ module _ (O : Owner) where
   abbrev pub Parts : RattleType
   Parts = BoxParts.the_row X Heap.the_row ghosts
 
--- the locals and the body of a function that moves both fields, of which it casts the first
+-- the locals and the body of a function that moves both fields, and casts the first
 abbrev pub moved : List Local
 moved = local ty_ptr value_local ∷ local (layout Heap.the_row) value_local ∷ local ty_ptr value_local ∷ []
 

@@ -1,4 +1,4 @@
--- What `empty` of an owner does, by its code: it makes what owns nothing.
+-- The effect of `empty` of an owner, by its code: it makes the owner of nothing.
 use mathlib.Core.Path.{◌≡◌, ap, refl, sym, subst}
 use mathlib.Core.List.{List, [], ◌∷◌, ◌++◌}
 use seplogic.Ra.Ura.{Ura}

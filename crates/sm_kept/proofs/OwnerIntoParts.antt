@@ -1,4 +1,5 @@
--- What `into_parts` of an owner does, by its code: it moves two fields, and what they own goes with them.
+-- The effect of `into_parts` of an owner, by its code: it moves two fields, and everything that they own goes with
+-- them.
 use mathlib.Core.Path.{◌≡◌, refl, sym, subst}
 use mathlib.Core.List.{List, [], ◌∷◌, ◌++◌}
 use seplogic.Ra.Ura.{Ura}

@@ -1,4 +1,4 @@
--- What `state_mut` of an owner does, by its code: it lends the state, and what owns it follows.
+-- The effect of `state_mut` of an owner, by its code: it lends the state, and its owner follows.
 use mathlib.Core.Path.{◌≡◌, refl, sym}
 use Prim.Native.Nat.{ℕ}
 use mathlib.Core.List.{List, [], ◌∷◌}
@@ -59,7 +59,7 @@ module _ (O : Owner) where
         (seq (assign (place 0 []) (rv_opd (copy (place 2 [])))) return);
   }
 
-  -- what owns this state in place of its own
+  -- the owner of this state in place of its own
   abbrev pub owning : O.D → (X O).Denot → O.D
   owning h w = O.made ((O.parts h).0, ((O.parts h).1.0, Some w))
 

@@ -1,4 +1,4 @@
--- What an owner of a state owns: nothing, or what a box of the state does.
+-- The things that an owner of a state owns: nothing, or everything that a box of the state owns.
 use base.Fml.{Fml, ftrue}
 use denote.RattleType.{RattleType}
 use denote.RawPtr.{Ptr}

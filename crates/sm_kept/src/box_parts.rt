@@ -4,7 +4,7 @@ ghost use Rattle.std.specs.Box.Ownership.{box_owns};
 use std::alloc::Allocator;
 use std::marker::Model;
 
-/// What a box is made of, and what it owns.
+/// The raw parts of a box, and everything that it owns.
 pub struct BoxParts<T, A: Allocator> {
     pub ptr: *mut T,
     pub alloc: A,

@@ -1,5 +1,6 @@
-//! What owns a state between calls from C, by a pointer: a box's parts, and what an owner of a state or nothing owns.
-//! No type with a parameter crosses to C, so each owner has calls of its own; `proofs` has what they share.
+//! The ownership of a state between calls from C, through a pointer: the raw parts of a box, and the owner of an
+//! optional state. No type with a parameter crosses to C, so each owner has its own calls; `proofs` has the part that
+//! they share.
 //!
 //! ```rust
 //! let kept = Box::new(rt.alloc(), 7u8)?;

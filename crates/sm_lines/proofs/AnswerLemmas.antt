@@ -38,7 +38,7 @@ so_far_none was before orderly =
       counted = refl;
     }
 
--- some of what waits was written
+-- some of the bytes that wait were written
 pub so_far_sent : {E : Type 0} {answers : E → List ℕ → List ℕ → E → Type 0} {was now : Transcript} {before after : E}
     {count : ℕ} (next : Transcript)
     → SoFar answers was now before after count → Sends now.writing next.writing [] → next.reading ≡ now.reading
@@ -55,7 +55,7 @@ so_far_sent {E} {answers} {was} {now} next s sent same =
       counted = s.counted;
     }
 
--- one more line
+-- the same with one more line
 pub so_far_line : {E : Type 0} {answers : E → List ℕ → List ℕ → E → Type 0} {was now : Transcript}
     {before between after : E} {count : ℕ} {text : List ℕ} (read next : Transcript)
     → SoFar answers was now before between count → AnsweredLine answers now.reading read.reading text between after
@@ -77,7 +77,7 @@ so_far_line {E} {answers} {was} {now} {before} {between} {after} {count} {text} 
 
 -- ---- how answering ended
 
--- by a fault
+-- answering ended with a fault
 ended_at : {T E : Type 0} {answers : E → List ℕ → List ℕ → E → Type 0} {result : Result T AnswerFault}
     {was now : Transcript} {begun ended : E}
     → (fault : AnswerFault) → result ≡ Err fault
@@ -103,7 +103,7 @@ stops_here : (was now : Reading) (done : List (List ℕ)) → TookLines was now 
 stops_here was now done took =
     record { next = now; took = took; touched = inl ([], All-nil (λ b. b ≢ 10), reads_none now took.reads.after) }
 
--- a front of what waits was written
+-- the first part of the bytes that wait was written
 pub ended_short : {T E : Type 0} {answers : E → List ℕ → List ℕ → E → Type 0} {result : Result T AnswerFault}
     {was now : Transcript} {begun after ended : E} {count : ℕ} (next : Transcript)
     → result ≡ Err Write → SoFar answers was now begun after count → WroteShort now.writing next.writing []
@@ -120,7 +120,7 @@ ended_short {T} {E} {answers} {result} {was} {now} {begun} {after} next is s sho
       subst Q (sym unread) (stops_here was.reading now.reading s.done s.took),
     ))
 
--- a front of what waits and the answer to one more line was written
+-- the first part of the bytes that wait, and of the answer to one more line, was written
 pub ended_short_line : {T E : Type 0} {answers : E → List ℕ → List ℕ → E → Type 0} {result : Result T AnswerFault}
     {was now : Transcript} {begun between after ended : E} {count : ℕ} {text : List ℕ}
     (read next : Transcript) → result ≡ Err Write → SoFar answers was now begun between count
@@ -190,7 +190,7 @@ ended_counted {T} {E} {answers} {result} {was} {now} {begun} {after} {count} nex
     ended_at Read is (λ _. (sent.done, ran_to sent wrote.1, inr (sent.took, omega (arith, many, counted)))) (λ h. cc)
     (λ h. cc)
 
--- memory was refused at a line, and what waited was written
+-- memory was refused at a line, and the bytes that waited were written
 pub ended_memory : {T E : Type 0} {answers : E → List ℕ → List ℕ → E → Type 0} {result : Result T AnswerFault}
     {was now : Transcript} {begun after ended : E} {count : ℕ} (read next : Transcript)
     → result ≡ Err NoMemory → SoFar answers was now begun after count → read.writing ≡ now.writing
@@ -218,7 +218,7 @@ ended_memory {T} {E} {answers} {result} {was} {now} {begun} {after} {ended} read
       subst R (sym unread) (record { next = now.reading; took = s.took; touched = touched }),
     )) (λ h. cc)
 
--- only a front of what waits was written, where memory was refused
+-- memory was refused, and only the first part of the bytes that wait was written
 pub ended_short_memory : {T E : Type 0} {answers : E → List ℕ → List ℕ → E → Type 0} {result : Result T AnswerFault}
     {was now : Transcript} {begun after ended : E} {count : ℕ} (read next : Transcript)
     → result ≡ Err Write → SoFar answers was now begun after count → read.writing ≡ now.writing
@@ -241,7 +241,7 @@ ended_short_memory {T} {E} {answers} {result} {was} {now} {begun} {after} {ended
       subst R (sym unread) (record { next = now.reading; took = s.took; touched = touched }),
     ))
 
--- where no line is held nothing waits
+-- if no line is held, nothing waits
 pub none_waits : (held waiting : List ℕ) → Contains held 10 ⊎ (waiting ≡ []) → (Contains held 10 → ⊥) → waiting ≡ []
 none_waits held waiting (inl holds) not_held = absurd (not_held holds)
 none_waits held waiting (inr none) not_held = none

@@ -15,7 +15,7 @@ use Rattle.sm_lines.specs.declared.line_reader.Next.{Next}
 use Rattle.sm_lines.specs.declared.line_reader.Next.TheVariants.{Line, LongLine, End}
 use Rattle.sm_lines.specs.lemmas.Taking.{lines_of-plain, lines_of-line, reads_more}
 
--- the line in front as far as it was taken off: what there is of it, and what is kept of that
+-- the line in front, as far as it was taken off: its bytes, and those of them that are kept
 pub record SoFar (was now : Reading) (is_long : Bool) (limit : ℕ) : Type 0 where
   pub full : List ℕ
   pub plain : IsPlain full
@@ -32,13 +32,13 @@ lines_of-last (b ∷ c ∷ line) plain some =
     lines_of-plain b (c ∷ line) (All-head (λ b. b ≢ 10) b (c ∷ line) plain)
     ∙ ap (onto_first b) (lines_of-last (c ∷ line) (All-tail (λ b. b ≢ 10) b (c ∷ line) plain) (omega arith))
 
--- no line feed is held where it was in what is now held, all of which are others
+-- if a line feed was among the held bytes, and the same bytes are held now, they aren't all other bytes
 pub no_feed : {first held : List ℕ} → Contains first 10 → held ≡ first → IsPlain held → ⊥
 no_feed {first} has same plain =
     let P : List ℕ → Type 0 = λ r. All (λ b. b ≢ 10) r in
     All-contains (λ b. b ≢ 10) first 10 (subst P same plain) has refl
 
--- these bytes, which were held in front, were taken off
+-- these bytes, which were held first, were taken off
 reads_off : (now final : Reading) (bytes : List ℕ) {line left : List ℕ} → IsOrderly now → now.held ≡ bytes ++ left
     → final ≡ record now { line = line; held = left }
     → Reads now final bytes final.ended
@@ -71,7 +71,7 @@ reads_off now final bytes {line} {left} orderly is final_is =
     none_left [] none = refl
     none_left (b ∷ bytes) none = absurd (omega (arith, none))
 
--- a call of the reader, where nothing was held
+-- a call of the reader, if nothing was held
 pub reads_filled : (now next : Reading) (last : Bool) → IsOrderly now → now.held ≡ []
     → Consumes now.left next.left next.held
     → next.calls + call_of now.ended ≤ now.calls + length next.held + call_of last
@@ -89,7 +89,7 @@ reads_filled now next last orderly none bytes least most at_end past_end after =
   after = after;
 }
 
--- what is held after a call
+-- the bytes that are held after a call
 pub orderly_filled : (next : Reading) (calls : ℕ) → length next.held + PIECE * calls ≤ PIECE * next.calls
     → length next.held ≤ PIECE
     → (next.ended ≡ true → (next.held ≡ []) × IsAtEnd next.left) → IsOrderly next
@@ -116,7 +116,7 @@ so_far_none was now limit orderly is = record {
 take-grown : (limit : ℕ) (full part : List ℕ) → take limit (take limit full ++ part) ≡ take limit (full ++ part)
 take-grown limit full part = grind (arith, common_steps)
 
--- a part that is held was taken off
+-- a part of the held bytes was taken off
 so_far_more : {was now : Reading} {is_long : Bool} {limit : ℕ} (took : Reading) (part left : List ℕ)
     → SoFar was now is_long limit → now.held ≡ part ++ left → IsPlain part
     → took ≡ record now { line = take limit (now.line ++ part); held = left }
@@ -143,7 +143,7 @@ so_far_more {was} {now} {is_long} {limit} took part left s held plain is longer 
           );
     }
 
--- all that is held was taken off
+-- all held bytes were taken off
 pub so_far_all : {was now : Reading} {is_long : Bool} {limit : ℕ} (took : Reading) → SoFar was now is_long limit
     → IsPlain now.held
     → took ≡ record now { line = take limit (now.line ++ now.held); held = [] }
@@ -208,7 +208,7 @@ next_line_of {limit} Line was final line took starts short long some =
 next_line_of LongLine was final line took starts short long some = (line, took, long refl, starts)
 next_line_of End was final line took starts short long some = absurd (some refl)
 
--- the line feed that stands at n
+-- the byte at n is a line feed
 held_feed : (held : List ℕ) (n : ℕ) → n < length held → slice_index held n ≡ 10
     → held ≡ take n held ++ (10 ∷ drop 1 (drop n held))
 held_feed held n inside is =
@@ -216,7 +216,7 @@ held_feed held n inside is =
     ∙ ap (λ (f : List ℕ). f ++ drop 1 (drop n held)) (ap (take 1) (drop-cons held n 0 inside) ∙ ap (λ b. b ∷ []) is) in
     sym (take-append-drop n held) ∙ ap (λ (r : List ℕ). take n held ++ r) cons
 
--- what was taken off at the line feed that stands at n
+-- the bytes that were taken off at the line feed at n
 pub took_at_feed : {was now : Reading} {is_long : Bool} {limit : ℕ} (next : Next) (final : Reading) (n : ℕ)
     → SoFar was now is_long limit → n < length now.held → slice_index now.held n ≡ 10 → IsPlain (take n now.held)
     → final ≡ record now { line = take limit (now.line ++ take n now.held); held = drop 1 (drop n now.held) }
@@ -246,7 +246,7 @@ took_at_feed {was} {now} {is_long} {limit} next final n s inside feed plain is l
     (λ e. grind (arith, whole, cut, long e, s.long))
     some
 
--- what was taken off at the end
+-- the bytes that were taken off at the end
 pub took_at_end : {was final : Reading} {is_long : Bool} {limit : ℕ} (next : Next) → SoFar was final is_long limit
     → final.ended ≡ true
     → (next ≡ Line → (is_long ≡ false) × (0 < length final.line)) → (next ≡ LongLine → is_long ≡ true)

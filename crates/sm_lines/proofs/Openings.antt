@@ -1,4 +1,4 @@
--- What the first line is.
+-- The first line of a script, by how it was read.
 use Rattle.std.proofs.Common.{◌≡◌, subst, inl, inr, refl}
 use Rattle.sm_settings.specs.declared.settings.TheConstants.{MAX_SETTINGS}
 use Rattle.sm_settings.specs.declared.settings_fault.SettingsFault.TheVariants.{BadJson, TooLong}
@@ -22,7 +22,7 @@ long_opening was now next is took =
     let long = subst P is took in
     inr (long.0, long.1, inl (long.2, refl))
 
--- nor where there is none
+-- nor if there is no first line
 pub end_opening : (was now : Reading) (next : Next) → next ≡ End → TookNext MAX_SETTINGS next was now
     → IsOpening was now (Refused BadJson)
 end_opening was now next is took =

@@ -1,4 +1,4 @@
--- Where a run stopped, and what it had written by then.
+-- How far a run came before it stopped, and the bytes that it had written by then.
 use Rattle.std.proofs.Common.{◌≡◌, ◌≢◌, ◌<◌, ◌+◌, ◌-◌, ◌++◌, ◌∷◌, [], true, false, ℕ, List}
 use Rattle.std.proofs.Common.{length, take, ap, sym, ◌∙◌, subst, refl, arith, ◌⊎◌, inl, inr, append_assoc, append-nil}
 use Rattle.std.proofs.Common.{Result, Ok, Err}
@@ -30,7 +30,7 @@ use Rattle.sm_lines.specs.declared.status.Status.TheVariants.{Ran}
 
 -- ---- no line was read whole before
 
--- what touched the first line, or found none
+-- the run took off the first line, or found none
 abbrev pub Touched : Reading → Reading → Type 0
 Touched was now = TookPart was now now.ended ⊎ ((line : List ℕ) × TookLines was now (line ∷ []))
 
@@ -108,7 +108,7 @@ pub opened : (was now : Reading) (opening : Opening) → opening ≡ Kept → Is
     → TookLines was now (now.line ∷ [])
 opened was now opening is opens = let P : Opening → Type 0 = λ o. IsOpening was now o in subst P is opens
 
--- a session's lines were answered where nothing was written before
+-- a session answered lines, and nothing was written before
 pub answered_after : {S T : Type 0} {answers : S → List ℕ → List ℕ → S → Type 0} {answered : Result T AnswerFault}
     {begun ended : S} (was mid now : Transcript)
     → mid.writing ≡ was.writing → AnsweredInput answers answered mid now begun ended
@@ -118,7 +118,7 @@ answered_after {S} {T} {answers} {answered} {begun} {ended} was mid now same a =
     begun ended in
     subst P same a
 
--- one that no engine begins a session with
+-- no engine begins a session with this first line
 pub refused_opening : (refuses : List ℕ → BeginFault → Type 0) (was now : Reading) (opening : Opening)
     (fault : SettingsFault) → opening ≡ Refused fault → IsOpening was now opening
     → IsRefused refuses fault was now
@@ -243,7 +243,8 @@ cut_at answers before after (line ∷ lines) text count (first, rest, between, i
           (ap (take count) is ∙ take-append-le count first rest few))
     ]
 
--- a front of what waited and the text is one of what waited and the text up to the cut's answer
+-- the first part of the waiting bytes and the text is the first part of the waiting bytes and the text up to the cut's
+-- answer
 front_of_cut : (waiting text sent answer : List ℕ) (count left : ℕ)
     → take (count - length waiting) text ≡ sent ++ take left answer
     → (n : ℕ) × (take count (waiting ++ text) ≡ take n (waiting ++ (sent ++ answer)))

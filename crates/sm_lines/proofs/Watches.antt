@@ -1,4 +1,4 @@
--- What a run leaves of the reader and the writer that are watched.
+-- The state in which a run leaves the reader and the writer that are watched.
 use Rattle.std.proofs.Common.{◌≡◌, ◌≢◌, ◌+◌, inl, inr, true, false, ℕ, List, [], ◌∷◌, ◌++◌, Result, Ok}
 use Rattle.std.proofs.Common.{Err, refl, ap, ◌∙◌}
 use Rattle.std.proofs.lemmas.Bool.{false≢true}
@@ -41,7 +41,7 @@ of_reading most was now done (inl stopped) = then_read was stopped.0 now done st
     (stopped.2.part.0, stopped.2.part.2)
 of_reading most was now done (inr counted) = of_lines was now done counted.0
 
--- where a session answered the lines
+-- if a session answered the lines
 pub watched_session : {S T : Type 0} (answers : S → List ℕ → List ℕ → S → Type 0) (answered : Result T AnswerFault)
     (was : Transcript) (mid : Reading) (now : Transcript) (begun ended : S) (first : List ℕ)
     → TookLines was.reading mid (first ∷ []) → mid.failed ≡ was.reading.failed
@@ -93,7 +93,7 @@ ended_by fault = Err fault
 abbrev pub IsFault : RunFault → RunFault → Type 0
 IsFault fault other = ended_by fault ≡ Err other
 
--- where no settings were read
+-- if no settings were read
 pub watched_unread : (fault : RunFault) (was now : Transcript) → fault ≢ Write
     → (IsFault fault Read → ReaderStopped was.reading now.reading)
     → (IsFault fault NoMemory → Touched was.reading now.reading)

@@ -8,7 +8,7 @@ use Rattle.std.proofs.KnownBytes.{Appends-trans}
 use Rattle.std.specs.Io.KnownBytes.{Appends, Keeps}
 use Rattle.sm_lines.specs.Writing.{Writing, Sends, Wrote, WroteFront, WroteShort}
 
--- one more part of the bytes, given as a slice of what is left
+-- one more part of the bytes, given as a slice of the bytes that are left
 pub Appends-rest : (old now next : Option (List ℕ)) (bytes : List ℕ) (at n : ℕ) → Appends old now (take at bytes)
     → Appends now next (take n (take (length bytes - at) (drop at bytes))) → Appends old next (take (at + n) bytes)
 Appends-rest old now next bytes at n h k =
@@ -65,7 +65,7 @@ sends_short was now next bytes more one short =
       failed = short.failed;
     }
 
--- where nothing waits, bytes were written at once
+-- if nothing waits, the bytes were written at once
 pub passed_on : (now next : Writing) (bytes : List ℕ) → now.waiting ≡ [] → Appends now.written next.written bytes
     → next.waiting ≡ [] → next.failed ≡ now.failed → Sends now next bytes
 passed_on now next bytes none wrote none_left unfailed = record {
@@ -76,7 +76,7 @@ passed_on now next bytes none wrote none_left unfailed = record {
   unfailed = unfailed;
 }
 
--- the same, and a front of them was written
+-- the same, but only their first part was written
 pub passed_short : (now next : Writing) (bytes : List ℕ) → now.waiting ≡ []
     → WroteFront now.written next.written bytes → next.waiting ≡ [] → next.failed ≡ true → WroteShort now next bytes
 passed_short now next bytes none wrote none_left failed =

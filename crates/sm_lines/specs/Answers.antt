@@ -1,4 +1,4 @@
--- What is written in answer to lines.
+-- The bytes that are written in answer to lines.
 use Rattle.std.specs.Prelude.{◌≡◌, ◌⊎◌, true, ℕ, ◌≤◌, ◌<◌, List, [], ◌∷◌, ◌++◌, length, take, Result, Err}
 use Rattle.std.specs.Prelude.{OnOk}
 use Rattle.sm_lines.specs.Reading.{Reading, ReaderStopped, TookLines, TookPart}
@@ -40,9 +40,9 @@ ReadingStopped most was now done =
     ((next : Reading) × TookLines was next done × ReaderStopped next now)
     ⊎ (TookLines was now done × (most ≤ length done))
 
--- how answering the input ended. Without a fault all lines were answered; where reading stopped, all that were read
--- whole; where memory was refused, all before the one at which it was; and exactly these answers were written. Where
--- writing failed, a front of the answers to the lines that were read was written
+-- how answering the input ended. Without a fault, all lines were answered. If reading stopped, all lines that were read
+-- whole were answered; if memory was refused, all lines before the one at which it was; and exactly these answers were
+-- written. If writing failed, only the first part of the answers to the lines that were read was written
 pub record AnsweredInput {T E : Type 0} (answers : E → List ℕ → List ℕ → E → Type 0) (result : Result T AnswerFault)
     (was now : Transcript) (begun ended : E) : Type 0 where
   pub ran : OnOk result ((done : List (List ℕ)) × RanTo answers was.writing now.writing begun ended done

@@ -16,11 +16,11 @@ use Rattle.sm_lines.specs.declared.opening.Opening.TheVariants.{Kept, Refused}
 
 -- ---- as any engine reads it
 
--- the answer where no session was begun
+-- the answer if no session was begun
 abbrev pub settings_line : SettingsFault → List ℕ
 settings_line fault = codes "settings " ++ settings_fault_name fault ++ 10 ∷ []
 
--- the first line was taken off and refused: there is none; or it is too long; or the engine refuses it, by `refuses`
+-- the first line was taken off and refused: there is none, or it is too long, or the engine refuses it, by `refuses`
 abbrev pub IsRefused : (List ℕ → BeginFault → Type 0) → SettingsFault → Reading → Reading → Type 0
 IsRefused refuses fault was now =
     (TookLines was now [] × (now.ended ≡ true) × (fault ≡ BadJson))
@@ -41,17 +41,17 @@ IsOpening was now (Refused fault) = IsRefused (λ _ _. ⊥) fault was now
 
 -- ---- as settings
 
--- a fact on the bytes, where they are known
+-- a fact about the bytes, if they are known
 abbrev pub IfKnown : Option (List ℕ) → (List ℕ → Type 0) → Type 0
 IfKnown None fact = ⊤
 IfKnown (Some bytes) fact = fact bytes
 
--- the settings in front of a script: those of its first line; where there is no line, there is no JSON
+-- the settings in front of a script, by its first line; if there is no line, there is no JSON
 abbrev pub settings_in : List (List ℕ) → Result SettingsValues SettingsFault
 settings_in [] = Err BadJson
 settings_in (first ∷ lines) = settings_of first
 
--- what settings begin, as `begins` says, is begun by their line
+-- a session that the line's settings begin, by `begins`
 abbrev pub BeginsLine : {S : Type 0} → (SettingsValues → S → Type 0) → List ℕ → S → Type 0
 BeginsLine begins line session =
     (settings : SettingsValues) × (settings_of line ≡ Ok settings) × begins settings session

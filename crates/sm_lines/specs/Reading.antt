@@ -1,4 +1,4 @@
--- What callers see of a reader of lines, and what reading a line does.
+-- The state of a reader of lines, as callers see it, and how reading a line changes it.
 use Rattle.std.specs.Prelude.{◌≡◌, ℕ, ◌+◌, ◌*◌, ◌<◌, ◌≤◌, ◌⊎◌, List, [], ◌∷◌, ◌++◌, length, take, All, Bool, true}
 use Rattle.std.specs.Prelude.{false, Option}
 use Rattle.std.specs.Io.KnownBytes.{prepend_known, Consumes, IsAtEnd}
@@ -8,8 +8,8 @@ use Rattle.sm_lines.specs.declared.line_reader.Next.{Next}
 use Rattle.sm_lines.specs.declared.line_reader.Next.TheVariants.{Line, LongLine, End}
 use Rattle.sm_lines.specs.declared.watch.TheConstants.{COUNT_LIMIT}
 
--- what is kept of the line that was read last, the bytes read beyond it and those that the reader has left; whether the
--- end was seen, a call failed, or a call was made after the end; and how many were made
+-- the bytes that are kept of the line that was read last, the bytes read beyond it and the bytes that the reader has
+-- left; whether the end was seen, a call failed, or a call was made after the end; and how many calls were made
 pub record Reading : Type 0 where
   pub line : List ℕ
   pub held : List ℕ
@@ -19,11 +19,11 @@ pub record Reading : Type 0 where
   pub past_end : Bool
   pub calls : ℕ
 
--- the bytes of the lines to come: those that are held, and then those that the reader has left
+-- the bytes of the lines to come: the held bytes, and then the bytes that the reader has left
 abbrev pub to_come : Reading → Option (List ℕ)
 to_come reading = prepend_known reading.held reading.left
 
--- a piece at most is held, and all that is held came from the calls; once the end was seen, nothing is held or left
+-- at most a piece is held, and all held bytes came from the calls; once the end was seen, nothing is held or left
 pub record IsOrderly (reading : Reading) : Type 0 where
   pub piece : length reading.held ≤ PIECE
   pub came : length reading.held ≤ PIECE * reading.calls
@@ -33,13 +33,14 @@ pub record IsOrderly (reading : Reading) : Type 0 where
 abbrev pub IsUncalled : Reading → Reading → Type 0
 IsUncalled was now = (now.left ≡ was.left) × (now.ended ≡ was.ended) × (now.calls ≡ was.calls)
 
--- one call, where it was made
+-- the number of calls, by whether one was made
 abbrev pub call_of : Bool → ℕ
 call_of true = 1
 call_of false = 0
 
--- these bytes were taken off: `given` are those of the reader's calls since. Each call gives a byte at least, but for
--- one that sees the end or fails, for which `last` stands, and a piece at most. Once the end was seen there is none
+-- these bytes were taken off: the reader's calls since gave `given`. Each call gives at least one byte and at most a
+-- piece, but for a call that sees the end or fails; `last` says whether there was such a call. Once the end was seen
+-- there are no calls
 pub record Reads (was now : Reading) (taken : List ℕ) (last : Bool) : Type 0 where
   pub given : List ℕ
   pub lost : Consumes was.left now.left given
@@ -59,8 +60,8 @@ pub record TookLines (was now : Reading) (lines : List (List ℕ)) : Type 0 wher
   pub plain : All IsPlain lines
   pub feeds : now.ended ≡ false → taken ≡ with_feeds lines
 
--- what reading a line took off: one within the limit, which is kept whole; a longer one, which is kept up to the limit;
--- or none, as there is no further one
+-- the line that reading took off: one within the limit, which is kept whole; a longer one, which is kept up to the
+-- limit; or none, because there is no further line
 abbrev pub TookNext : ℕ → Next → Reading → Reading → Type 0
 TookNext limit Line was now = TookLines was now (now.line ∷ []) × (length now.line ≤ limit)
 TookNext limit LongLine was now = (line : List ℕ) × TookLines was now (line ∷ []) × (limit < length line)
@@ -71,7 +72,7 @@ TookNext limit End was now = TookLines was now [] × (now.ended ≡ true)
 abbrev pub TookPart : Reading → Reading → Bool → Type 0
 TookPart was now last = (part : List ℕ) × IsPlain part × Reads was now part last
 
--- the reader failed, or was called too often, in a line: nothing is held, and the end was not seen
+-- the reader failed in a line, or was called too often: nothing is held, and the end was not seen
 pub record ReaderStopped (was now : Reading) : Type 0 where
   pub part : TookPart was now true
   pub unseen : was.ended ≡ false

@@ -1,4 +1,4 @@
--- What a run has read and written.
+-- The bytes that a run has read and written.
 use Rattle.std.specs.Prelude.{◌≡◌, ◌⊎◌, true, ℕ, ◌+◌, List, [], ◌∷◌, ◌++◌, take, Result, Err}
 use Rattle.std.specs.Io.KnownBytes.{Appends}
 use Rattle.sm_lines.specs.Answers.{AnswersAll, ReadingStopped, StopsAfter}
@@ -13,14 +13,15 @@ use Rattle.sm_lines.specs.declared.run_fault.RunFault.TheVariants.{Read, Write, 
 use Rattle.sm_lines.specs.declared.status.Status.{Status}
 use Rattle.sm_lines.specs.Openings.{RefusedScript}
 
--- what is to be written for these lines: nothing for none, and else the answers of a session that the first line begins
+-- the bytes that must be written for these lines: nothing if there are none, and otherwise the answers of a session
+-- that the first line begins
 abbrev pub WritesFor : {S : Type 0} → (List ℕ → S → Type 0) → (S → List ℕ → List ℕ → S → Type 0)
     → List (List ℕ) → List ℕ → Type 0
 WritesFor begins answers [] text = text ≡ []
 WritesFor {S} begins answers (first ∷ lines) text =
     (begun : S) × (ended : S) × begins first begun × AnswersAll answers begun lines text ended
 
--- all lines were read, and what `writes` says of them was written
+-- all lines were read, and the text of `writes` for them was written
 pub record RanScript (writes : List (List ℕ) → List ℕ → Type 0) (was now : Transcript) : Type 0 where
   pub first : List ℕ
   pub lines : List (List ℕ)
@@ -30,7 +31,7 @@ pub record RanScript (writes : List (List ℕ) → List ℕ → Type 0) (was now
   pub whole : writes (first ∷ lines) text
   pub wrote : Wrote was.writing now.writing text
 
--- a run stopped after the lines in `before`, as `stops` says, and what is to be written for these was
+-- a run stopped after the lines in `before`, because of `stops`, and their answers were written
 pub record StoppedAt (stops : Reading → Reading → List (List ℕ) → Type 0) (writes : List (List ℕ) → List ℕ → Type 0)
     (was now : Transcript) : Type 0 where
   pub before : List (List ℕ)
@@ -39,8 +40,8 @@ pub record StoppedAt (stops : Reading → Reading → List (List ℕ) → Type 0
   pub whole : writes before text
   pub wrote : Sends was.writing now.writing text
 
--- writing stopped at a line: of what waited, what is to be written for the lines before it, and its answer, a front was
--- written. Where nothing had waited, what was for the lines before it was written whole
+-- writing stopped at a line: only the first part of the waiting bytes, of the answers to the lines before it, and of
+-- its own answer was written. If nothing had waited, the answers to the lines before it were written whole
 pub record StoppedWriting (writes : List (List ℕ) → List ℕ → Type 0) (was now : Transcript) : Type 0 where
   pub before : List (List ℕ)
   pub line : List ℕ
@@ -59,8 +60,8 @@ abbrev pub Unbegun : (List ℕ → BeginFault → Type 0) → Transcript → Tra
 Unbegun refuses was now = (first : List ℕ) × TookLines was.reading now.reading (first ∷ [])
     × refuses first begin.NoThread × (now.writing ≡ was.writing)
 
--- how a run stopped early, where `writes` says what is to be written for the lines before the one at which it did, and
--- `refuses` which first line begins no session
+-- how a run stopped early; `writes` is the text that must be written for the lines before the one at which it stopped,
+-- and `refuses` says which first line begins no session
 pub record StoppedEarly (refuses : List ℕ → BeginFault → Type 0) (writes : List (List ℕ) → List ℕ → Type 0)
     (result : Result Status RunFault) (was now : Transcript) : Type 0 where
   pub read : result ≡ Err Read → StoppedAt (ReadingStopped (1 + COUNT_LIMIT)) writes was now

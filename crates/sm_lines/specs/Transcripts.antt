@@ -1,8 +1,8 @@
--- What callers see of a dialogue.
+-- The state of a dialogue, as callers see it.
 use Rattle.sm_lines.specs.Reading.{Reading}
 use Rattle.sm_lines.specs.Writing.{Writing}
 
--- what is read, and what is written in answer
+-- the state of its reader and of its writer
 pub record Transcript : Type 0 where
   pub reading : Reading
   pub writing : Writing

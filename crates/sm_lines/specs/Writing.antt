@@ -1,21 +1,21 @@
--- What callers see of a writer of pieces, and what it passes on.
+-- The state of a writer of pieces, as callers see it, and the bytes that it passes on.
 use Rattle.std.specs.Prelude.{◌≡◌, ℕ, Bool, true, List, [], ◌++◌, take, Option}
 use Rattle.std.specs.Io.KnownBytes.{Appends}
 
--- what the writer took, what waits to be written, and whether a call failed
+-- the bytes that the writer took, the bytes that wait to be written, and whether a call failed
 pub record Writing : Type 0 where
   pub written : Option (List ℕ)
   pub waiting : List ℕ
   pub failed : Bool
 
--- these bytes were added to what waited: a front of all was written, and the rest waits
+-- these bytes were added to the waiting ones; the first part of all was written, and the rest waits
 pub record Sends (was now : Writing) (bytes : List ℕ) : Type 0 where
   pub sent : List ℕ
   pub wrote : Appends was.written now.written sent
   pub split : was.waiting ++ bytes ≡ sent ++ now.waiting
   pub unfailed : now.failed ≡ was.failed
 
--- these bytes were written after what waited, and nothing waits
+-- these bytes were written after the waiting ones, and nothing waits
 abbrev pub Wrote : Writing → Writing → List ℕ → Type 0
 Wrote was now bytes = Sends was now bytes × (now.waiting ≡ [])
 
@@ -24,7 +24,7 @@ pub record WroteFront (old new : Option (List ℕ)) (bytes : List ℕ) : Type 0 
   pub count : ℕ
   pub wrote : Appends old new (take count bytes)
 
--- writing failed: of what waited and these bytes a front was written, and nothing waits
+-- writing failed: only the first part of the waiting bytes and of these was written, and nothing waits
 pub record WroteShort (was now : Writing) (bytes : List ℕ) : Type 0 where
   pub front : WroteFront was.written now.written (was.waiting ++ bytes)
   pub none_waits : now.waiting ≡ []

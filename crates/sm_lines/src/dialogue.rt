@@ -26,7 +26,7 @@ impl<R: Read + Drop, W: Write + Drop> Model for Dialogue<R, W> {
 }
 
 impl<R: Read + Drop, W: Write + Drop> Dialogue<R, W> {
-    /// A dialogue in which nothing was read or written.
+    /// Returns a dialogue in which nothing was read or written.
     pub fn new(alloc: Global, reader: R, writer: W) -> Result<Dialogue<R, W>, AllocError>
         ensures { IfOk result (λ dialogue. dialogue ≡ record {
           reading = record {
@@ -47,7 +47,7 @@ impl<R: Read + Drop, W: Write + Drop> Dialogue<R, W> {
         })
     }
 
-    /// The reader, with what is told of its calls.
+    /// Returns the reader, with the notes of its calls.
     pub fn reader(&self) -> &Watched<R>
         ensures calls { result.now.calls ≡ self.now.reading.calls }
         ensures ended { result.now.ended ≡ self.now.reading.ended }
@@ -58,7 +58,7 @@ impl<R: Read + Drop, W: Write + Drop> Dialogue<R, W> {
         self.lines.reader()
     }
 
-    /// The writer, with what is told of its calls.
+    /// Returns the writer, with the notes of its calls.
     pub fn writer(&self) -> &Watched<W>
         ensures failed { result.now.failed ≡ self.now.writing.failed }
         ensures written { W.contents result.now.inner ≡ self.now.writing.written }
@@ -66,7 +66,8 @@ impl<R: Read + Drop, W: Write + Drop> Dialogue<R, W> {
         self.pieces.writer()
     }
 
-    /// What is kept of the line that was read last: all of it, or as many of its first bytes as its limit.
+    /// Returns the bytes that are kept of the line that was read last: all of them, or as many as its limit from the
+    /// front.
     pub fn line(&self) -> &[u8]
         ensures { result.now ≡ self.now.reading.line }
     {
@@ -87,7 +88,7 @@ impl<R: Read + Drop, W: Write + Drop> Dialogue<R, W> {
         self.lines.next_line(limit)
     }
 
-    /// Adds the bytes to what waits to be written, and writes where they don't fit into a piece with it.
+    /// Adds the bytes to those that wait to be written, and writes first if they don't fit into a piece with those.
     pub fn write(&mut self, bytes: &[u8]) -> Result<(), WriteFault>
         ensures ok { OnOk result (Sends self.old.writing self.new.writing bytes.now) }
         ensures err { OnErr result (WroteShort self.old.writing self.new.writing bytes.now) }
@@ -96,7 +97,7 @@ impl<R: Read + Drop, W: Write + Drop> Dialogue<R, W> {
         self.pieces.write(bytes)
     }
 
-    /// Adds the bytes to what waits, and writes all.
+    /// Adds the bytes to those that wait, and writes all of them.
     pub fn write_now(&mut self, bytes: &[u8]) -> Result<(), WriteFault>
         ensures ok { OnOk result (Wrote self.old.writing self.new.writing bytes.now) }
         ensures err { OnErr result (WroteShort self.old.writing self.new.writing bytes.now) }
@@ -114,7 +115,7 @@ impl<R: Read + Drop, W: Write + Drop> Dialogue<R, W> {
         self.pieces.flush()
     }
 
-    /// Whether the next line needs no call of the reader, as its line feed is already held.
+    /// Returns whether the next line needs no call of the reader, because its line feed is already held.
     pub fn holds_line(&self) -> bool
         ensures held { result ≡ true → Contains self.now.reading.held 10 }
         ensures not_held { result ≡ false → Contains self.now.reading.held 10 → ⊥ }
@@ -122,7 +123,7 @@ impl<R: Read + Drop, W: Write + Drop> Dialogue<R, W> {
         self.lines.holds_line()
     }
 
-    /// Does nothing, and says what always holds of a reading.
+    /// Does nothing, and promises a fact that always holds of a reading.
     pub(crate) fn stays_orderly(&self)
         ensures piece { length self.now.reading.held ≤ PIECE }
         ensures came { length self.now.reading.held ≤ PIECE * self.now.reading.calls }

@@ -4,12 +4,13 @@ use crate::Responder;
 use crate::begin_fault::BeginFault;
 use std::alloc::Global;
 
-/// What runs scripts: from a script's first line it makes a session, which responds to the others until it is ended.
+/// A thing that runs scripts: from a script's first line it makes a session, which responds to the other lines until it
+/// is ended.
 pub trait Engine {
     ghost use Rattle.std.specs.Prelude.{⊤, List};
     ghost use Rattle.sm_lines.specs.declared.begin_fault.BeginFault.{BeginFault};
 
-    /// A run of one script. It has to be ended: it may hold what can't be dropped.
+    /// A run of one script. It must be ended, because it may hold values that can't be dropped.
     type Session: Responder;
 
     /// The most bytes that a line may have; a longer one is answered by its first bytes.
@@ -17,8 +18,8 @@ pub trait Engine {
 
     ghost MAX_LINE: { ℕ };
 
-    /// What an engine needs to know while it is used, and no field of it can hold: as that what it was handed may
-    /// start threads. Whoever calls it owes this once, and every call keeps it.
+    /// A fact that an engine must know while it is used, and that no field of it can hold: for example, that the
+    /// machine which it was handed may start threads. The caller must prove it once, and every call keeps it.
     ghost ready: { Self → Type 0 } = { λ _. ⊤ };
 
     /// The sessions that may be made from this first line.
@@ -27,8 +28,9 @@ pub trait Engine {
     /// Why no session may be made from this first line.
     ghost refuses: { List ℕ → BeginFault → Type 0 };
 
-    /// A session as a script's first line asks for it, before the second, or why there is none. The line has at most
-    /// [`MAX_SETTINGS`](sm_settings::MAX_SETTINGS) bytes; [`read_settings`](crate::read_settings) reads it.
+    /// Returns a session as a script's first line asks for it, before the second is read, or why there is none. The
+    /// line has at most [`MAX_SETTINGS`](sm_settings::MAX_SETTINGS) bytes; [`read_settings`](crate::read_settings)
+    /// reads it.
     fn begin(&mut self, alloc: Global, first: &[u8]) -> Result<Self::Session, BeginFault>
         requires ready { ready self.old }
         ensures ready { ready self.new }

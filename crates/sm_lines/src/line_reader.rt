@@ -47,12 +47,12 @@ impl<R: Read + Drop> Model for LineReader<R> {
         × (r.reader.ended ≡ true → (r.at ≡ r.end) × IsAtEnd (R.remaining r.reader.inner)) };
 }
 
-/// What stands in front of a [`LineReader`].
+/// The line that a [`LineReader`] took off.
 #[derive(Clone, Copy, PartialEq, Eq)]
 pub enum Next {
     /// A line within the limit.
     Line,
-    /// A line beyond the limit, of which the first bytes are kept, as many as the limit.
+    /// A line beyond the limit. Its first bytes are kept, as many as the limit.
     LongLine,
     /// The end of the text: there is no further line.
     End,
@@ -79,7 +79,7 @@ impl From<AllocError> for ReadFault {
     }
 }
 
-/// A piece that nothing was read into.
+/// Returns a piece that nothing was read into.
 fn blank_piece(alloc: Global) -> Result<Vec<u8>, AllocError>
     ensures { IfOk result (λ piece. length piece.items ≡ PIECE) }
 {
@@ -87,7 +87,7 @@ fn blank_piece(alloc: Global) -> Result<Vec<u8>, AllocError>
 }
 
 impl<R: Read + Drop> LineReader<R> {
-    /// A reader of the lines of `reader` that has read nothing.
+    /// Returns a reader of the lines of `reader` that has read nothing.
     pub fn new(alloc: Global, reader: R) -> Result<LineReader<R>, AllocError>
         ensures { IfOk result (λ lines. lines ≡ record {
           line = [];
@@ -108,7 +108,7 @@ impl<R: Read + Drop> LineReader<R> {
         })
     }
 
-    /// The reader, with what is told of its calls.
+    /// Returns the reader, with the notes of its calls.
     pub fn reader(&self) -> &Watched<R>
         ensures calls { result.now.calls ≡ self.now.calls }
         ensures ended { result.now.ended ≡ self.now.ended }
@@ -119,28 +119,29 @@ impl<R: Read + Drop> LineReader<R> {
         &self.reader
     }
 
-    /// What is kept of the line that was read last: all of it, or as many of its first bytes as its limit.
+    /// Returns the bytes that are kept of the line that was read last: all of them, or as many as its limit from the
+    /// front.
     pub fn line(&self) -> &[u8]
         ensures { result.now ≡ self.now.line }
     {
         self.line.as_slice()
     }
 
-    /// Whether the next line needs no call of the reader, as its line feed is already held.
+    /// Returns whether the next line needs no call of the reader, because its line feed is already held.
     pub fn holds_line(&self) -> bool
         ensures { IsTrue result ↔ Contains self.now.held 10 }
     {
         self.line_feed().is_some()
     }
 
-    /// How many bytes are held.
+    /// Returns how many bytes are held.
     fn held_len(&self) -> usize
         ensures { result ≡ length self.now.held }
     {
         self.end - self.at
     }
 
-    /// Where the first line feed stands among the bytes that are held.
+    /// Returns the place of the first line feed among the held bytes.
     fn line_feed(&self) -> Option<usize>
         ensures some { IfSome result (λ n. (n < length self.now.held)
             × (slice_index self.now.held n ≡ 10)
@@ -150,7 +151,7 @@ impl<R: Read + Drop> LineReader<R> {
         memchr(LINE_FEED, &self.piece[self.at..self.end])
     }
 
-    /// Does nothing, and says what always holds of a reading.
+    /// Does nothing, and promises a fact that always holds of a reading.
     pub(crate) fn stays_orderly(&self)
         ensures piece { length self.now.held ≤ PIECE }
         ensures came { length self.now.held ≤ PIECE * self.now.calls }
@@ -169,8 +170,8 @@ impl<R: Read + Drop> LineReader<R> {
         self.line.clear();
     }
 
-    /// Takes the first `n` bytes that are held off for the line, which grows to the limit at most.
-    /// Answers whether some of them were left out.
+    /// Takes the first `n` held bytes off for the line, which grows at most to the limit. Returns whether some of them
+    /// were left out.
     fn take(&mut self, n: usize, limit: usize) -> Result<bool, AllocError>
         requires held { n ≤ length self.old.held }
         requires fits { length self.old.line ≤ limit }
@@ -191,7 +192,7 @@ impl<R: Read + Drop> LineReader<R> {
         Ok(n > room)
     }
 
-    /// Drops the line feed that is held in front.
+    /// Drops the line feed that is the first held byte.
     fn drop_line_feed(&mut self)
         requires { 0 < length self.old.held }
         ensures { self.new ≡ record self.old { held = drop 1 self.old.held } }
@@ -199,7 +200,7 @@ impl<R: Read + Drop> LineReader<R> {
         self.at += 1;
     }
 
-    /// Takes all that is held off for the line. Answers whether the line is now beyond the limit.
+    /// Takes all held bytes off for the line. Returns whether the line is now beyond the limit.
     fn take_held(&mut self, limit: usize, is_long: bool) -> Result<bool, AllocError>
         requires { length self.old.line ≤ limit }
         ensures ok { OnOk result (self.new ≡ record self.old {
@@ -217,7 +218,7 @@ impl<R: Read + Drop> LineReader<R> {
         Ok(is_long || cut)
     }
 
-    /// Takes the rest of the line, whose line feed stands after `n` further bytes, off with its line feed.
+    /// Takes the rest of the line off, and its line feed, which comes after `n` further bytes.
     fn end_line(&mut self, n: usize, limit: usize, is_long: bool) -> Result<Next, AllocError>
         requires feed { n < length self.old.held }
         requires fits { length self.old.line ≤ limit }
@@ -242,7 +243,7 @@ impl<R: Read + Drop> LineReader<R> {
         }
     }
 
-    /// Reads a piece, where none is held; false at the end, where the reader isn't called again.
+    /// Reads a piece if none is held. Returns false at the end; then the reader isn't called again.
     fn fill(&mut self) -> Result<bool, ReadFault>
         requires empty { self.old.held ≡ [] }
         ensures line { self.new.line ≡ self.old.line }
@@ -282,14 +283,14 @@ impl<R: Read + Drop> LineReader<R> {
 
     /// Reads the next line, whose bytes [`LineReader::line`] then lends.
     ///
-    /// Nothing is read once the end of the text was seen, nor where the line's end is already held. After a fault the
-    /// line in front may have lost some of its bytes.
+    /// Reads nothing once the end of the text was seen, or if the line's end is already held. After a fault the line in
+    /// front may have lost some of its bytes.
     pub fn next_line(&mut self, limit: usize) -> Result<Next, ReadFault>
         ensures took { IfOk result (λ next. TookNext limit next self.old self.new) }
         ensures no_memory { result ≡ Err ReadFault.NoMemory → TookPart self.old self.new self.new.ended }
         ensures stopped { result ≡ Err ReadFault.Read → ReaderStopped self.old self.new }
         ensures unfailed { result ≢ Err ReadFault.Read → self.new.failed ≡ self.old.failed }
-        // Where the line's end is held the reader isn't called, so that no end is seen and no reading fails.
+        // If the line's end is held, the reader isn't called, so no end is seen and no reading fails.
         ensures held { Contains self.old.held 10 → IsUncalled self.old self.new
             × (result ≢ Ok Next.End) × (result ≢ Err ReadFault.Read) }
     {
@@ -308,7 +309,7 @@ impl<R: Read + Drop> LineReader<R> {
         }
     }
 
-    /// What stands in front at the end of the text, where the line's bytes are all that was left.
+    /// Returns the line at the end of the text, if the line's bytes are all that was left.
     fn last_line(&self, is_long: bool) -> Next
         ensures long { result ≡ Next.LongLine → is_long ≡ true }
         ensures line { result ≡ Next.Line → (is_long ≡ false) × (0 < length self.now.line) }

@@ -10,12 +10,12 @@ use sm_settings::{MAX_SETTINGS, Settings, SettingsFault};
 use std::alloc::{AllocError, Global};
 use std::io::{Read, Write};
 
-/// What the first line of the input is.
+/// The first line of the input.
 #[derive(Drop)]
 pub enum Opening {
     /// A line that isn't too long for settings, and is kept.
     Kept,
-    /// None that settings could stand in, for this reason.
+    /// There is no line that settings could be in, for this reason.
     Refused(SettingsFault),
 }
 
@@ -41,7 +41,7 @@ pub(crate) fn open<R: Read + Drop, W: Write + Drop>(
     }
 }
 
-/// The settings of a script's first line, or why no engine begins a session with it.
+/// Returns the settings of a script's first line, or why no engine begins a session with it.
 pub fn read_settings(alloc: Global, first: &[u8]) -> Result<Settings, BeginFault>
     ensures ok { IfOk result (λ settings. settings_of first.now ≡ Ok (values_of settings)) }
     ensures rules { IfOk result (λ settings. KeepsRules (values_of settings)) }
@@ -78,7 +78,7 @@ pub(crate) fn refuse<R: Read + Drop, W: Write + Drop>(
     }
 }
 
-/// The line that answers settings with this fault.
+/// Returns the line that answers settings with this fault.
 fn settings_text(alloc: Global, fault: SettingsFault) -> Result<Vec<u8>, AllocError>
     ensures { IfOk result (λ text. text.items ≡ settings_line fault) }
 {

@@ -38,7 +38,8 @@ pub fn write_whole<W: Write>(writer: &mut Watched<W>, bytes: &[u8]) -> Result<()
 
 /// Collects bytes and writes them in pieces of [`PIECE`] bytes at most.
 ///
-/// After a fault a front of what waited was written, and nothing tells how much; nothing waits then.
+/// After a fault, only the first part of the waiting bytes was written, and nothing says how much of them; nothing
+/// waits then.
 #[derive(Drop)]
 pub struct PieceWriter<W: Write + Drop> {
     writer: Watched<W>,
@@ -62,7 +63,7 @@ impl<W: Write + Drop> Model for PieceWriter<W> {
 }
 
 impl<W: Write + Drop> PieceWriter<W> {
-    /// A writer of pieces to `writer` with nothing to write.
+    /// Returns a writer of pieces to `writer` with nothing to write.
     pub fn new(alloc: Global, writer: W) -> Result<PieceWriter<W>, AllocError>
         ensures { IfOk result (λ pieces. pieces
             ≡ record { written = W.contents writer; waiting = []; failed = false }) }
@@ -73,7 +74,7 @@ impl<W: Write + Drop> PieceWriter<W> {
         })
     }
 
-    /// The writer, with what is told of its calls.
+    /// Returns the writer, with the notes of its calls.
     pub fn writer(&self) -> &Watched<W>
         ensures failed { result.now.failed ≡ self.now.failed }
         ensures written { W.contents result.now.inner ≡ self.now.written }
@@ -81,7 +82,7 @@ impl<W: Write + Drop> PieceWriter<W> {
         &self.writer
     }
 
-    /// Adds the bytes to what waits, and writes where they don't fit into a piece with it.
+    /// Adds the bytes to those that wait, and writes first if they don't fit into a piece with those.
     pub fn write(&mut self, bytes: &[u8]) -> Result<(), WriteFault>
         ensures ok { OnOk result (Sends self.old self.new bytes.now) }
         ensures err { OnErr result (WroteShort self.old self.new bytes.now) }
@@ -96,7 +97,7 @@ impl<W: Write + Drop> PieceWriter<W> {
         self.pass_on(bytes)
     }
 
-    /// Adds the bytes to what waits, where they fit into a piece with it.
+    /// Adds the bytes to those that wait, if they fit into a piece with those.
     fn push(&mut self, bytes: &[u8]) -> bool
         ensures fits { result ≡ true → self.new ≡ record self.old { waiting = self.old.waiting ++ bytes.now } }
         ensures full { result ≡ false → self.new ≡ self.old }
@@ -105,7 +106,7 @@ impl<W: Write + Drop> PieceWriter<W> {
         bytes.len() <= room && self.pending.extend_from_slice(bytes).is_ok()
     }
 
-    /// Writes the bytes at once, where nothing waits.
+    /// Writes the bytes at once, if nothing waits.
     fn pass_on(&mut self, bytes: &[u8]) -> Result<(), WriteFault>
         requires { self.old.waiting ≡ [] }
         ensures ok { OnOk result (Appends self.old.written self.new.written bytes.now
@@ -126,7 +127,7 @@ impl<W: Write + Drop> PieceWriter<W> {
         sent
     }
 
-    /// Adds the bytes to what waits, and writes all.
+    /// Adds the bytes to those that wait, and writes all of them.
     pub fn write_now(&mut self, bytes: &[u8]) -> Result<(), WriteFault>
         ensures ok { OnOk result (Wrote self.old self.new bytes.now) }
         ensures err { OnErr result (WroteShort self.old self.new bytes.now) }

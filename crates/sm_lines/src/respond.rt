@@ -7,12 +7,13 @@ use crate::{AnswerFault, COUNT_LIMIT, Dialogue, Next, ReadFault, WriteFault};
 use std::alloc::{AllocError, Global};
 use std::io::{Read, Write};
 
-/// What answers lines, one after another.
+/// A thing that answers lines, one after another.
 pub trait Responder {
     ghost use Rattle.std.specs.Prelude.{ℕ, List, ⊤};
 
-    /// What a responder needs to know while it is used, and no field of it can hold: as that a runtime which it was
-    /// handed may be shared with other threads. Whoever calls it owes this once, and every call keeps it.
+    /// A fact that a responder must know while it is used, and that no field of it can hold: for example, that a
+    /// runtime which it was handed may be shared with other threads. The caller must prove it once, and every call
+    /// keeps it.
     ghost ready: { Self → Type 0 } = { λ _. ⊤ };
 
     /// The answers that may be given to a line: the responder before, the line, the answer and the responder after.
@@ -35,7 +36,7 @@ pub trait Responder {
         ensures { OnOk result (gives_long self.now start.now out.new.items) };
 }
 
-/// Reads the next line and puts its answer into `out`; false where there is no further line.
+/// Reads the next line and puts its answer into `out`. Returns false if there is no further line.
 fn answer_next<R: Read + Drop, W: Write + Drop, E: Responder>(
     dialogue: &mut Dialogue<R, W>,
     responder: &mut E,
@@ -74,8 +75,8 @@ fn answer_next<R: Read + Drop, W: Write + Drop, E: Responder>(
     }
 }
 
-/// Writes the answers that wait, where the next line needs a call of the reader: whoever gives that line may wait for
-/// them.
+/// Writes the answers that wait if the next line needs a call of the reader, because the sender of that line may wait
+/// for them.
 fn flush_before_read<R: Read + Drop, W: Write + Drop>(
     dialogue: &mut Dialogue<R, W>,
 ) -> Result<(), WriteFault>
@@ -94,9 +95,9 @@ fn flush_before_read<R: Read + Drop, W: Write + Drop>(
 /// Answers each line to come by the responder, until the input ends. A line beyond the limit is answered by its first
 /// bytes, as many as the limit.
 ///
-/// Where reading stopped or no memory was left, exactly the answers to the lines before were written; where writing
-/// failed, a front of the answers to the lines that were read. Before the reader is called all answers so far are
-/// written, so that whoever gives the next line may wait for them: no failed write comes after a failed read.
+/// If reading stopped or no memory was left, exactly the answers to the lines before were written; if writing failed,
+/// only the first part of the answers to the lines that were read. Before the reader is called, all answers so far are
+/// written, because the sender of the next line may wait for them. So no failed write comes after a failed read.
 pub fn answer_lines<R: Read + Drop, W: Write + Drop, E: Responder>(
     alloc: Global,
     dialogue: &mut Dialogue<R, W>,

@@ -2,8 +2,8 @@ use crate::AnswerFault;
 use std::alloc::AllocError;
 use thiserror::Error;
 
-/// Why a run ended early. The answers to all lines before the one at which it did were written whole; of that line's
-/// answer a front may have been written where writing failed, and nothing otherwise.
+/// Why a run ended early. The answers to all lines before the one at which it ended were written whole. If writing
+/// failed, the first part of that line's answer may have been written, and otherwise nothing of it.
 #[derive(Clone, Copy, Debug, PartialEq, Eq, Drop, Error)]
 pub enum RunFault {
     /// The reader failed, or [`COUNT_LIMIT`](crate::COUNT_LIMIT) of its calls or of the lines were counted.

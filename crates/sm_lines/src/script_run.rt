@@ -14,14 +14,14 @@ use crate::{AnswerFault, Dialogue, RunFault, Status, answer_lines};
 use std::alloc::Global;
 use std::io::{Read, Write};
 
-/// Runs the script of the dialogue's reader on the engine, and writes its answers. What is said of bytes holds of a
-/// reader and a writer that tell theirs.
+/// Runs the script of the dialogue's reader on the engine, and writes its answers. Statements about bytes hold for a
+/// reader and a writer whose bytes are known.
 ///
-/// `Read` comes only where the reader failed, or 2^32 of its calls or lines were counted; `Write` only where the
-/// writer failed; `NoMemory` and `NoThread` only where neither failed. The answers to all lines before the one at
-/// which a fault came were written, and nothing else, but for a front of that line's answer where writing failed.
-/// Where memory was refused, all lines before that one were taken off the reader, and beyond it at most a piece was
-/// read. `NoThread` comes only where the engine began no session for it, before any answer.
+/// Returns `Read` only if the reader failed, or 2^32 of its calls or lines were counted; `Write` only if the writer
+/// failed; `NoMemory` and `NoThread` only if neither failed. The answers to all lines before the one at which a fault
+/// came were written, and nothing else, but for the first part of that line's answer if writing failed. If memory was
+/// refused, all lines before that one were taken off the reader, and at most a piece was read beyond it. `NoThread`
+/// comes only if the engine began no session for want of a thread, before any answer.
 pub fn run<R: Read + Drop, W: Write + Drop, E: Engine>(
     alloc: Global,
     dialogue: &mut Dialogue<R, W>,
@@ -74,7 +74,7 @@ fn run_session<R: Read + Drop, W: Write + Drop, E: Engine>(
     answered
 }
 
-/// How a run ended whose lines were answered so.
+/// Returns how a run ended whose lines were answered so.
 fn ending(answered: Result<(), AnswerFault>) -> Result<Status, RunFault>
     ensures { result ≡ status_of answered }
 {

@@ -1,4 +1,4 @@
--- What blocks hold: the entry at a place, what an edit of one block leaves, and how places count.
+-- The contents of blocks: the entry at a place, the blocks after an edit of one of them, and how places count.
 use Rattle.std.proofs.Common.{◌≡◌, true, false, ℕ, zero, suc, ◌<◌, ◌≤◌, ◌+◌, ◌-◌, List, [], ◌∷◌, ◌++◌, length, sum}
 use Rattle.std.proofs.Common.{get_or, set, take, drop, refl, sym, ap, ◌∙◌, arith, inl, inr, ◌⊎◌, append_assoc}
 use Rattle.std.specs.List.{between, insert, remove}
@@ -152,7 +152,7 @@ module _ (blocks : List BlockValue) (place : Place) (d block : BlockValue) (lt :
   same_lengths same = map-set size blocks place.block block ∙ (ap (λ (n : ℕ). set (lengths_in blocks) place.block n)
       (same ∙ sym (length_there blocks place.block d lt)) ∙ set-get_or (lengths_in blocks) place.block 0)
 
--- an entry that is put in where room was made
+-- an entry that is put into room that was made for it
 pub inserted_in : (old mid new : List BlockValue) (place : Place) (e : KeyEntry)
     → entries_in new ≡ insert (entries_in mid) (number_of (lengths_in mid) place) e → entries_in mid ≡ entries_in old
     → lengths_in mid ≡ lengths_in old → entries_in new ≡ insert (entries_in old) (number_of (lengths_in old) place) e
@@ -359,7 +359,7 @@ filled_more old new place (inr (past, all)) (inr (inr (behind, is))) filled k le
       | inr after ↦ all k (omega (arith, less, long, after))
     ])
 
--- what the order of two places tells
+-- the facts behind the order of two places
 reads_before : (first second : Place) → precedes first second ≡ true
     → (first.block < second.block) ⊎ ((first.block ≡ second.block) × (first.offset < second.offset))
 reads_before first second is = elim (cases_lt first.block second.block) [

@@ -1,4 +1,4 @@
--- What each change of the entries of a map leaves.
+-- The map after each change of its entries.
 use Rattle.std.proofs.Common.{◌≡◌, ℕ, ◌<◌, ◌+◌, List, ◌++◌, length, get_or, set, Some, refl, sym, ap, subst, ◌∙◌, arith}
 use Rattle.std.specs.List.{HoldsAt, insert, remove}
 use Rattle.std.proofs.lemmas.List.{map-set}

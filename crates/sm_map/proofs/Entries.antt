@@ -1,4 +1,4 @@
--- The pairs of entries: at a place, where what is in use reads the same, and after an edit.
+-- The pairs of entries: at a place, if spans in use read the same, and after an edit.
 use Rattle.std.proofs.Common.{◌≡◌, ℕ, ℤ, ◌<◌, ◌≤◌, ◌+◌, List, [], ◌∷◌, length, sum, get_or, Option, unwrap_or, refl}
 use Rattle.std.proofs.Common.{sym, ap, subst, ◌∙◌, arith}
 use Rattle.std.specs.List.{AllWithin, HoldsAt, insert, remove}
@@ -48,7 +48,7 @@ same_pair old new e keeps =
     let value : held_in new e.slot ≡ held_in old e.slot = same_held old new e.slot (λ s lt. keeps s (omega arith)) in
     λ i. record { key = key i; value = value i }
 
--- the pairs stay where each span in use reads the same
+-- if each span in use reads the same, the pairs stay
 pub same_pairs : (old new : Places) (es : List KeyEntry)
     → ((s : Span) → 0 < uses_all es s → piece_of new s ≡ piece_of old s) → pairs_of new es ≡ pairs_of old es
 same_pairs old new [] keeps = refl
@@ -107,7 +107,7 @@ pub keys_placed : (v : ArenaValue) (es : List KeyEntry) → IsMap v es → HasKe
 keys_placed v es m k d within =
     key_placed es k within (get_or es k d) (λ (x : KeyEntry). get_or_default es k d x within) v m
 
--- what a comparison with the key of an entry that was read tells
+-- the facts behind a comparison with the key of an entry that was read
 module _ (placed : Places) (es : List KeyEntry) (key : List ℕ) (rising : IsKeyMap (pairs_of placed es)) (at : ℕ)
     (within : at < length es) (e : KeyEntry) (bytes : List ℕ) (is : bytes ≡ bytes_of placed (get_or es at e).key) where
   in_pairs : at < length (pairs_of placed es)

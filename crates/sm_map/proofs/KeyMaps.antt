@@ -1,4 +1,4 @@
--- What a place or a gap in a key map tells, and what a change there leaves.
+-- The facts about a place or a gap in a key map, and the map after a change there.
 use Rattle.std.proofs.Common.{◌≡◌, ℕ, ◌<◌, ◌+◌, List, [], ◌∷◌, ◌++◌, length, get_or, set, take, Option, Some, None}
 use Rattle.std.proofs.Common.{unwrap_or, Result, OnOk, refl, sym, ap, subst, ◌∙◌, arith}
 use Rattle.std.specs.List.{HoldsAt, insert, remove}
@@ -109,7 +109,7 @@ module _ (m : List KeyPair) (map : IsKeyMap m) (at : ℕ) (within : at < length 
       let next : take (at + 1) m ≡ take at m ++ pair ∷ [] = rw (read pair) (take_more m at pair within) in
       (one.pairs ∙ (ap (λ (l : List KeyPair). insert l at pair) before.0 ∙ (end ∙ sym next)), one.dead ∙ before.1)
 
--- what a change at the place of a key leaves at the key
+-- the value at a key after a change at its place
 module _ {T E : Type 0} (r : Result T E) (old : MapValue) (key : List ℕ) (map : IsKeyMap old.pairs) (at : ℕ)
     (new : MapValue) where
   module _ (place : IsKeyPlace key_of old.pairs key at) (value : KeyPair → KeyValue) (d : KeyPair)

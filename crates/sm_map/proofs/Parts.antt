@@ -1,4 +1,4 @@
--- A key map in three parts: what holds of its middle part holds of the map.
+-- A key map in three parts: facts about its middle part hold for the map.
 use Rattle.std.proofs.Common.{◌≡◌, ℕ, ◌<◌, ◌≤◌, ◌+◌, ◌-◌, List, ◌++◌, length, get_or, ap, subst, ◌∙◌, arith, inl, inr}
 use Rattle.std.proofs.Common.{length-append}
 use Rattle.std.specs.List.{AllWithin}

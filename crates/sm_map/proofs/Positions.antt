@@ -1,4 +1,4 @@
--- What the position of a key tells, where its pair is there, and where it isn't.
+-- The facts about the position of a key, if its pair is there, and if it isn't.
 use Rattle.std.proofs.Common.{◌≡◌, Result, Ok, Err, subst}
 use Rattle.sm_ranges.specs.Keyed.{IsKeyPlace, IsKeyGap}
 use Rattle.sm_map.specs.KeyMap.{key_of}

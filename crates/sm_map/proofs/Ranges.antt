@@ -13,7 +13,7 @@ use Rattle.sm_map.specs.Val.{row_of}
 use Rattle.sm_map.specs.declared.val.Val.{Val}
 
 module _ (p : KeyPair → Bool) where
-  -- what passes stands from one place up to another
+  -- the pairs that pass are those from one place up to another
   filter-part : (m : List KeyPair) (low high : ℕ)
       → ((k : ℕ) (d : KeyPair) → k < low → k < length m → p (get_or m k d) ≡ false)
       → ((k : ℕ) (d : KeyPair) → low ≤ k → k < high → k < length m → p (get_or m k d) ≡ true)

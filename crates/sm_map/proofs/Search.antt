@@ -1,4 +1,4 @@
--- What the first entries of blocks tell of a key, and the one block that can have it.
+-- The first entries of blocks show the only block that can have a key.
 use Rattle.std.proofs.Common.{◌≡◌, ℕ, ◌<◌, ◌+◌, ◌-◌, List, ◌++◌, length, sum, get_or, take, drop, suc, sym, ap, subst}
 use Rattle.std.proofs.Common.{◌∙◌, arith}
 use Rattle.std.specs.List.{AllWithin, HoldsAt}

@@ -1,4 +1,4 @@
--- Spans in use: what placing and forgetting leave.
+-- Spans in use after placing and forgetting.
 use Rattle.std.proofs.Common.{◌≡◌, ℕ, ◌<◌, ◌≤◌, ◌+◌, Bool, true, false, cond, eqb, List, [], ◌∷◌, ◌++◌, length, Option}
 use Rattle.std.proofs.Common.{Some, None, count_by, unwrap_or, refl, sym, ap, subst, ◌∙◌, arith, inl, inr, ◌⊎◌}
 use mathlib.Core.Bool.{false≢true}
@@ -46,7 +46,7 @@ piece_stored old piece span new p = record {
   once = λ s long. piece_le span s;
 }
 
--- a piece reads what was placed, and still does once more is stored
+-- a span reads the piece that was placed, and still does after more is stored
 pub piece_reads : (old : ArenaValue) (piece : List ℕ) (span : Span) (middle : ArenaValue)
     → IsPlacing old piece span middle → (uses : Span → ℕ) (new : ArenaValue) → IsStored middle uses new
     → bytes_of new.placed span ≡ piece
@@ -137,7 +137,7 @@ module _ (old : ArenaValue) (uses : Span → ℕ) (new : ArenaValue) (st : IsSto
           subst (λ (o : Option (List ℕ)). 0 < length (unwrap_or o [])) kept long in
           omega (arith, same_times s, tidy.once s long_old)
 
-  -- what is in use reads the same
+  -- spans in use read the same
   pub keeps_used : (s : Span) → 0 < used s → piece_of new.placed s ≡ piece_of old.placed s
   keeps_used s lt = st.keeps s (tidy.placed s (omega arith))
 
@@ -146,7 +146,7 @@ module _ (old : ArenaValue) (uses : Span → ℕ) (new : ArenaValue) (st : IsSto
       same_sum old.placed new.placed new.forgotten (λ s lt. st.keeps s (tidy.placed s (omega (arith, same_times s))))
       ∙ ap (λ (l : List Span). sum_by (λ s. length (bytes_of old.placed s)) l) st.forgotten
 
--- what forgetting a piece leaves
+-- the arena after a piece is forgotten
 record Forgot (v : ArenaValue) (span : Span) (w : ArenaValue) : Type 0 where
   placed : w.placed ≡ v.placed
   times : (s : Span) → times_forgotten w s ≤ times_forgotten v s + uses_piece span s
@@ -167,7 +167,7 @@ forgot v span = cond_both (eqb (length (bytes_of v.placed span)) 0) v
       dead = sum_by_push (λ s. length (bytes_of v.placed s)) v.forgotten span;
     })
 
--- what forgetting a slot's text leaves
+-- the arena after a slot's text is forgotten
 pub record Forgets (v : ArenaValue) (slot : Slot) (w : ArenaValue) : Type 0 where
   pub placed : w.placed ≡ v.placed
   pub times : (s : Span) → times_forgotten w s ≤ times_forgotten v s + uses_slot slot s

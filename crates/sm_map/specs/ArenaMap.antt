@@ -1,10 +1,10 @@
--- What a contract sees of an ArenaMap, and how a change of the pair at a place shows there.
+-- An ArenaMap in contracts, and the effect of a change of the pair at a place.
 use Rattle.std.specs.Prelude.{◌≡◌, ℕ, ◌+◌, List, Some, length, slice_set}
 use Rattle.std.specs.List.{remove, insert}
 use Rattle.sm_map.specs.KeyMap.{KeyValue, KeyPair, text_of, size_of}
 
--- the pairs in the order of their keys, how many bytes of the arena are live, and dead, and how many pairs each block
--- of the index has
+-- the pairs in the order of their keys, how many bytes of the arena are live and how many are dead, and how many pairs
+-- each block of the index has
 pub record MapValue : Type 0 where
   pub pairs : List KeyPair
   pub bytes : ℕ

@@ -1,4 +1,4 @@
--- Blocks of entries: all that they hold, and places in them.
+-- Blocks of entries: all their entries, and places in them.
 use Rattle.std.specs.Prelude.{◌≡◌, ◌+◌, ◌-◌, ◌<◌, ◌≤◌, ◌⊎◌, ◌++◌, ℕ, List, [], ◌∷◌, length, map, sum, take}
 use Rattle.std.specs.Prelude.{slice_index, slice_set}
 use Rattle.std.specs.List.{flat_map, insert, AllWithin}
@@ -14,7 +14,7 @@ use Rattle.sm_map.specs.declared.place.Place.{Place}
 abbrev pub entries_in : List BlockValue → List KeyEntry
 entries_in blocks = flat_map (λ block. block.entries) blocks
 
--- how many each block has
+-- how many entries each block has
 abbrev pub lengths_in : List BlockValue → List ℕ
 lengths_in blocks = map (λ block. length block.entries) blocks
 
@@ -26,12 +26,12 @@ abbrev pub AreHalves : ℕ → ℕ → Type 0
 AreHalves lower upper =
     ((lower ≡ HALF_ENTRIES) × (upper ≡ HALF_ENTRIES + 1)) ⊎ ((lower ≡ HALF_ENTRIES + 1) × (upper ≡ HALF_ENTRIES))
 
--- the blocks hold the entries one after the other, one of them 32 and the other one 33
+-- the blocks hold the entries one after the other; one block has 32 and the other one 33
 pub record IsSplit (entries : List KeyEntry) (lower upper : BlockValue) : Type 0 where
   pub joined : lower.entries ++ upper.entries ≡ entries
   pub halves : AreHalves (length lower.entries) (length upper.entries)
 
--- the length there, that of a full block, is now those of its two halves
+-- the length there, of a full block, is replaced by those of its two halves
 abbrev pub HasHalves : List ℕ → ℕ → List ℕ → Type 0
 HasHalves old at new =
     (new ≡ insert (slice_set old at HALF_ENTRIES) (at + 1) (HALF_ENTRIES + 1)) ⊎
@@ -46,11 +46,11 @@ HasOneMore old place new =
     ((place.block < length old) × (slice_index old place.block ≡ MOST_ENTRIES) × HasHalves old place.block new) ⊎
     ((place.block ≡ length old) × (new ≡ old ++ 1 ∷ []))
 
--- how many entries stand before a place in blocks of these lengths
+-- how many entries come before a place in blocks of these lengths
 abbrev pub number_of : List ℕ → Place → ℕ
 number_of lengths place = sum (take place.block lengths) + place.offset
 
--- an entry stands there
+-- there is an entry at the place
 abbrev pub HasEntry : List ℕ → Place → Type 0
 HasEntry lengths place = (place.block < length lengths) × (place.offset < slice_index lengths place.block)
 
@@ -60,21 +60,21 @@ IsGap lengths place =
     ((place.block < length lengths) × (place.offset ≤ slice_index lengths place.block)) ⊎
     ((place.block ≡ length lengths) × (place.offset ≡ 0))
 
--- an entry goes there after all others: into the last block, or behind it if that is full
+-- an entry goes to this place after all others: in the last block, or behind it if it is full
 abbrev pub IsEnd : List ℕ → Place → Type 0
 IsEnd lengths place =
     ((place.block + 1 ≡ length lengths) × (slice_index lengths place.block < MOST_ENTRIES)) ⊎
     ((place.block ≡ length lengths) × ((k : ℕ) → k + 1 ≡ length lengths → slice_index lengths k ≡ MOST_ENTRIES))
 
--- each block but the last is full
+-- each block except the last is full
 abbrev pub IsPacked : List ℕ → Type 0
 IsPacked lengths = (k : ℕ) → k + 1 < length lengths → slice_index lengths k ≡ MOST_ENTRIES
 
--- an entry stands there, or it is the end
+-- there is an entry at the place, or it is the end
 abbrev pub IsStop : List ℕ → Place → Type 0
 IsStop lengths place = HasEntry lengths place ⊎ ((place.block ≡ length lengths) × (place.offset ≡ 0))
 
--- the first entries of so many blocks, and of no others, have keys below this one
+-- the first entries of only this many blocks have keys below this one
 pub record IsBlockGap (pairs : List KeyPair) (lengths : List ℕ) (key : List ℕ) (count : ℕ) : Type 0 where
   pub within : count ≤ length lengths
   pub before : 0 < count → AllWithin (λ pair. key_cmp pair.key key ≡ Less) pairs 0 (sum (take (count - 1) lengths) + 1)

@@ -1,4 +1,4 @@
--- What a contract sees of an Index, and what it keeps.
+-- An Index in contracts, and its invariant.
 use Rattle.std.specs.Prelude.{◌≡◌, ◌<◌, ◌≤◌, ℕ, List, [], All, length}
 use Rattle.std.specs.List.{HoldsAt}
 use Rattle.sm_map.specs.Block.{BlockValue}
@@ -8,7 +8,7 @@ use Rattle.sm_map.specs.declared.place.Place.{Place}
 use Rattle.sm_map.specs.declared.room.Room.{Room}
 use Rattle.sm_map.specs.declared.room.Room.TheVariants.{Inside, Beside, Behind}
 
--- the blocks in order, and how many more it takes in without growing
+-- the blocks in order, and how many more fit without growing
 pub record IndexValue : Type 0 where
   pub blocks : List BlockValue
   pub room : ℕ
@@ -18,7 +18,7 @@ pub record IsIndex (blocks : List BlockValue) (len : ℕ) : Type 0 where
   pub filled : All IsSized blocks
   pub counted : len ≡ length (entries_in blocks)
 
--- the room takes in one more entry at the place
+-- there is room for one more entry at the place
 abbrev pub IsReady : IndexValue → Place → Room → Type 0
 IsReady index place Inside =
     (place.block < length index.blocks) ×

@@ -1,4 +1,4 @@
--- What an ArenaMap keeps: its entries are those of a key map, and use the spans of its arena.
+-- The invariant of an ArenaMap: its entries are those of a key map, and use the spans of its arena.
 use Rattle.std.specs.Prelude.{ℕ, List}
 use Rattle.sm_arena.specs.Value.{ArenaValue, live_of, dead_of}
 use Rattle.sm_map.specs.KeyMap.{IsKeyMap}
@@ -9,7 +9,7 @@ use Rattle.sm_map.specs.Blocks.{entries_in, lengths_in}
 use Rattle.sm_map.specs.declared.key_entry.KeyEntry.{KeyEntry}
 use Rattle.sm_map.specs.declared.arena_map.ArenaMap.TheInside.{Inside}
 
--- the map that these entries are in an arena, in blocks of these lengths
+-- the map of these entries in an arena, in blocks of these lengths
 abbrev pub map_of : ArenaValue → List KeyEntry → List ℕ → MapValue
 map_of v entries lengths =
     record { pairs = pairs_of v.placed entries; bytes = live_of v; dead = dead_of v; blocks = lengths }

@@ -7,7 +7,7 @@ use Rattle.sm_map.specs.Blocks.{number_of, HasEntry, IsGap}
 use Rattle.sm_map.specs.declared.place.Place.{Place}
 use Rattle.sm_map.specs.declared.position.Position.{Position}
 
--- the key's pair stands at the place, or would go there
+-- the key's pair is at this place, or would go to it
 abbrev pub StandsAt : MapValue → List ℕ → Result Place Place → Type 0
 StandsAt v key (Ok place) = HasEntry v.blocks place × IsKeyPlace key_of v.pairs key (number_of v.blocks place)
 StandsAt v key (Err place) = IsGap v.blocks place × IsKeyGap key_of v.pairs key (number_of v.blocks place)

@@ -1,4 +1,4 @@
--- What a caller's value holds, and the pair that a caller gets.
+-- The value of a caller, and the pair that a caller gets.
 use Rattle.std.specs.Prelude.{ℕ, List}
 use Rattle.std.specs.Borrow.{Bor}
 use Rattle.sm_map.specs.KeyMap.{KeyValue, KeyPair}

@@ -25,8 +25,8 @@ use std::alloc::{AllocError, Global};
 use std::marker::Model;
 
 /// A map from keys to texts and counts, in the order of the keys. Keys are compared byte by byte as numbers, and a
-/// proper prefix comes first. The bytes of keys and texts lie in an arena, where those that are written over or removed
-/// stay as dead ones until a rebuild.
+/// proper prefix comes first. The bytes of keys and texts are in an arena. If they are replaced or removed, they stay
+/// there as dead bytes until a rebuild.
 #[derive(Drop)]
 pub struct ArenaMap {
     alloc: Global,
@@ -47,7 +47,7 @@ impl Model for ArenaMap {
 }
 
 impl ArenaMap {
-    /// The map that holds nothing.
+    /// Makes an empty map.
     pub fn new(alloc: Global) -> ArenaMap
         ensures pairs { (result.pairs ≡ []) × (result.dead ≡ 0) }
         ensures blocks { result.blocks ≡ [] }
@@ -59,7 +59,7 @@ impl ArenaMap {
         }
     }
 
-    /// How many keys hold something. The pairs are in the order of their keys, and no key comes twice.
+    /// Returns how many keys have a value. The pairs are in the order of their keys, and no two have the same key.
     pub fn len(&self) -> u128
         ensures value { result ≡ length self.now.pairs }
         ensures is_key_map { IsKeyMap self.now.pairs }
@@ -67,7 +67,7 @@ impl ArenaMap {
         self.index.len()
     }
 
-    /// How many blocks the index has. Each has 1 to 64 pairs.
+    /// Returns how many blocks the index has. Each has 1 to 64 pairs.
     pub fn blocks(&self) -> usize
         ensures value { result ≡ length self.now.blocks }
         ensures sum { sum self.now.blocks ≡ length self.now.pairs }
@@ -75,7 +75,7 @@ impl ArenaMap {
         self.index.block_count()
     }
 
-    /// How many pairs a block of the index has.
+    /// Returns how many pairs a block of the index has.
     pub fn block_len(&self, at: usize) -> usize
         requires { at < length self.now.blocks }
         ensures value { result ≡ slice_index self.now.blocks at }
@@ -84,28 +84,29 @@ impl ArenaMap {
         self.index.block_len(at)
     }
 
-    /// How many bytes lie in the arena that aren't dead.
+    /// Returns how many bytes in the arena aren't dead.
     pub fn bytes(&self) -> u128
         ensures { result ≡ self.now.bytes }
     {
         self.arena.bytes()
     }
 
-    /// How many bytes of keys and texts are dead: those that were removed or written over.
+    /// Returns how many bytes of keys and texts are dead because they were removed or replaced.
     pub fn dead(&self) -> u128
         ensures { result ≡ self.now.dead }
     {
         self.arena.dead()
     }
 
-    /// What the key holds, or none where it holds nothing.
+    /// Returns the key's value, or nothing if it has none.
     pub fn get(&self, key: &[u8]) -> Option<Val<'_>>
         ensures { option_map held_of result ≡ held_at self.now.pairs key.now }
     {
         self.get_at(self.locate(key))
     }
 
-    /// Where the pair of the key stands, or would go, so that several calls for one key search for it once.
+    /// Returns the position of the key's pair, or the one to which it would go, so that several calls for one key have
+    /// to search only once.
     pub fn locate<'k>(&self, key: &'k [u8]) -> Position<'k>
         ensures position { IsPositionIn self.now result }
         ensures key { result.key.now ≡ key.now }
@@ -116,7 +117,7 @@ impl ArenaMap {
         }
     }
 
-    /// What the key at the position holds, or none where it holds nothing.
+    /// Returns the value of the key at the position, or nothing if it has none.
     pub fn get_at(&self, position: Position<'_>) -> Option<Val<'_>>
         requires { IsPositionIn self.now position }
         ensures { option_map held_of result ≡ held_at self.now.pairs position.entry.key.now }
@@ -127,11 +128,11 @@ impl ArenaMap {
         }
     }
 
-    /// Makes the key hold the value, in place of what it held.
+    /// Makes the key hold the value, and replaces its old value.
     ///
     /// # Errors
     ///
-    /// `AllocError` where memory is refused, or key and text have 2^32 bytes or more; the map is then as it was.
+    /// `AllocError` if memory is refused, or if key and text have 2^32 bytes or more. The map then doesn't change.
     pub fn put(&mut self, key: &[u8], value: Val<'_>) -> Result<(), AllocError>
         ensures ok { OnOk result (self.new.pairs ≡ holding self.old.pairs key.now (held_of value.entry)) }
         ensures dead { OnOk result (self.new.dead ≡ self.old.dead + length (text_at self.old.pairs key.now)) }
@@ -145,7 +146,7 @@ impl ArenaMap {
     ///
     /// # Errors
     ///
-    /// `AllocError` where memory is refused, or key and text have 2^32 bytes or more; the map is then as it was.
+    /// `AllocError` if memory is refused, or if key and text have 2^32 bytes or more. The map then doesn't change.
     pub fn put_at(&mut self, position: Position<'_>, value: Val<'_>) -> Result<(), AllocError>
         requires { IsPositionIn self.old position }
         ensures ok { OnOk result
@@ -160,13 +161,13 @@ impl ArenaMap {
         }
     }
 
-    /// Makes the key at the position hold the text, as [`ArenaMap::put_at`] does, and keeps its memory in place of a
-    /// copy. For a short text that takes more memory than a copy beside others.
+    /// Makes the key at the position hold the text, as [`ArenaMap::put_at`] does, and keeps the text's memory instead
+    /// of a copy. For a short text this takes more memory than a copy beside others.
     ///
     /// # Errors
     ///
-    /// `AllocError` with the text where memory is refused, or text or key have 2^32 bytes or more; the map is then as
-    /// it was.
+    /// `AllocError` with the text if memory is refused, or if text or key have 2^32 bytes or more. The map then doesn't
+    /// change.
     pub fn put_owned_at(
         &mut self,
         position: Position<'_>,
@@ -186,11 +187,11 @@ impl ArenaMap {
         }
     }
 
-    /// Makes the key, which holds a text, hold that text followed by the tail.
+    /// Appends the tail to the text of the key, which must hold a text.
     ///
     /// # Errors
     ///
-    /// `AllocError` where memory is refused, or the whole text has 2^32 bytes or more; the map is then as it was.
+    /// `AllocError` if memory is refused, or if the whole text has 2^32 bytes or more. The map then doesn't change.
     pub fn append(&mut self, key: &[u8], tail: &[u8]) -> Result<(), AllocError>
         requires { HoldsText self.old.pairs key.now }
         ensures ok { OnOk result
@@ -202,12 +203,11 @@ impl ArenaMap {
         self.append_at(position, tail)
     }
 
-    /// Makes the key at the position, which holds a text, hold that text followed by the tail, as [`ArenaMap::append`]
-    /// does.
+    /// Appends the tail to the text of the key at the position, as [`ArenaMap::append`] does. The key must hold a text.
     ///
     /// # Errors
     ///
-    /// `AllocError` where memory is refused, or the whole text has 2^32 bytes or more; the map is then as it was.
+    /// `AllocError` if memory is refused, or if the whole text has 2^32 bytes or more. The map then doesn't change.
     pub fn append_at(&mut self, position: Position<'_>, tail: &[u8]) -> Result<(), AllocError>
         requires position { IsPositionIn self.old position }
         requires text { HoldsText self.old.pairs position.key.now }
@@ -223,7 +223,7 @@ impl ArenaMap {
         }
     }
 
-    /// Makes the key hold nothing, and tells whether it held something.
+    /// Removes the key's value, and returns whether it had one.
     pub fn remove(&mut self, key: &[u8]) -> bool
         ensures pairs { self.new.pairs ≡ without self.old.pairs key.now }
         ensures dead { self.new.dead ≡ self.old.dead + size_at self.old.pairs key.now }
@@ -238,11 +238,11 @@ impl ArenaMap {
         }
     }
 
-    /// The pairs with keys from low on and below high, in the order of their keys, and of these the first `max`.
+    /// Returns the first `max` pairs with keys from low up to, but without, high, in the order of their keys.
     ///
     /// # Errors
     ///
-    /// `AllocError` where memory is refused; the map is then as it was.
+    /// `AllocError` if memory is refused. The map then doesn't change.
     pub fn scan(
         &self,
         low: &[u8],
@@ -265,11 +265,12 @@ impl ArenaMap {
         Ok(rows)
     }
 
-    /// A second map of the same pairs, in fresh memory, where nothing is dead and each block but the last is full.
+    /// Makes a second map of the same pairs in fresh memory, in which nothing is dead and each block except the last is
+    /// full.
     ///
     /// # Errors
     ///
-    /// `AllocError` where memory is refused.
+    /// `AllocError` if memory is refused.
     pub fn copy(&self) -> Result<ArenaMap, AllocError>
         ensures pairs { IfOk result (λ map. (map.pairs ≡ self.now.pairs) × (map.dead ≡ 0)) }
         ensures blocks { IfOk result (λ map. IsPacked map.blocks) }
@@ -285,11 +286,11 @@ impl ArenaMap {
         Ok(map)
     }
 
-    /// The same pairs in fresh memory, where nothing is dead and each block but the last is full.
+    /// Moves the pairs into fresh memory, in which nothing is dead and each block except the last is full.
     ///
     /// # Errors
     ///
-    /// `AllocError` where memory is refused; the map then comes back as it was.
+    /// `AllocError` if memory is refused. The map then comes back unchanged.
     pub fn rebuild(self) -> Result<ArenaMap, (ArenaMap, AllocError)>
         ensures ok { IfOk result (λ map. (map.pairs ≡ self.pairs) × (map.dead ≡ 0)) }
         ensures blocks { IfOk result (λ map. IsPacked map.blocks) }
@@ -301,7 +302,7 @@ impl ArenaMap {
         }
     }
 
-    // The place of the key's pair, or the place where it would go.
+    // Returns the place of the key's pair, or the place to which it would go.
     fn find(&self, key: &[u8]) -> Result<Place, Place>
         ensures rising { IsKeyMap self.now.pairs }
         ensures entry { IfOk result (HasEntry self.now.blocks) }
@@ -314,7 +315,7 @@ impl ArenaMap {
         self.index.find(&self.arena, key)
     }
 
-    // The place of the first pair that isn't below the key, or the end.
+    // Returns the place of the first pair that isn't below the key, or the end.
     fn edge(&self, key: &[u8]) -> Place
         ensures stop { IsStop self.now.blocks result }
         ensures edge { IsEdgeOf self.now.pairs key.now (number_of self.now.blocks result) }
@@ -325,7 +326,7 @@ impl ArenaMap {
         }
     }
 
-    // Where a pair goes after all others.
+    // Returns the place to which a pair goes after all others.
     fn end(&self) -> Place
         ensures gap { IsGap self.now.blocks result }
         ensures end { number_of self.now.blocks result ≡ length self.now.pairs }
@@ -334,7 +335,7 @@ impl ArenaMap {
         self.index.end()
     }
 
-    // The pair at a place.
+    // Returns the pair at a place.
     fn pair_at(&self, place: Place) -> (&[u8], Val<'_>)
         requires { HasEntry self.now.blocks place }
         ensures { HoldsAt (λ pair. row_of result ≡ pair) self.now.pairs (number_of self.now.blocks place) }
@@ -343,7 +344,8 @@ impl ArenaMap {
         (self.arena.get(entry.key), entry.slot.read(&self.arena))
     }
 
-    // Where the pairs from a place on end in its block that come before another place, and are so many at most.
+    // Returns the end, within the same block, of the pairs from a place on that come before another place, at most this
+    // many.
     fn part_end(&self, place: Place, end: Place, most: usize) -> usize
         requires place { HasEntry self.now.blocks place }
         requires end { IsStop self.now.blocks end }
@@ -363,7 +365,7 @@ impl ArenaMap {
         high.min(place.offset.saturating_add(most))
     }
 
-    // The rows, and behind them those of the pairs from a place up to another one of its block.
+    // Returns the rows, followed by those of the pairs from a place up to another place in the same block.
     fn with_rows<'a>(
         &'a self,
         rows: Vec<(&'a [u8], Val<'a>)>,
@@ -384,7 +386,7 @@ impl ArenaMap {
         Ok(rows)
     }
 
-    // Writes the value over that of the pair at a place.
+    // Replaces the value of the pair at a place.
     fn write_at(&mut self, place: Place, value: Val<'_>) -> Result<(), AllocError>
         requires { HasEntry self.old.blocks place }
         ensures ok { OnOk result (HoldsAt (λ pair. IsRewrite self.old (number_of self.old.blocks place) pair
@@ -398,7 +400,7 @@ impl ArenaMap {
         Ok(())
     }
 
-    // Writes the text over the value of the pair at a place, and keeps its memory.
+    // Replaces the value of the pair at a place with the text, and keeps the text's memory.
     fn write_owned_at(&mut self, place: Place, text: Vec<u8>) -> Result<(), (Vec<u8>, AllocError)>
         requires { HasEntry self.old.blocks place }
         ensures ok { OnOk result (HoldsAt (λ pair. IsRewrite self.old (number_of self.old.blocks place) pair
@@ -414,7 +416,7 @@ impl ArenaMap {
         Ok(())
     }
 
-    // Writes its text followed by the tail over the text of the pair at a place.
+    // Replaces the text of the pair at a place with this text followed by the tail.
     fn lengthen_at(&mut self, place: Place, tail: &[u8]) -> Result<(), AllocError>
         requires entry { HasEntry self.old.blocks place }
         requires text { HoldsAt (λ pair. IsText pair.value) self.old.pairs (number_of self.old.blocks place) }
@@ -429,7 +431,7 @@ impl ArenaMap {
         Ok(())
     }
 
-    // Puts a new pair in at the place where its key goes.
+    // Puts a new pair in at the place of its key.
     fn insert_at(&mut self, place: Place, key: &[u8], value: Val<'_>) -> Result<(), AllocError>
         requires gap { IsGap self.old.blocks place }
         requires absent { IsKeyGap key_of self.old.pairs key.now (number_of self.old.blocks place) }
@@ -445,7 +447,7 @@ impl ArenaMap {
         Ok(())
     }
 
-    // Puts a new pair of this text in at the place where its key goes, and keeps the text's memory.
+    // Puts a new pair with this text in at the place of its key, and keeps the text's memory.
     fn insert_owned_at(
         &mut self,
         place: Place,

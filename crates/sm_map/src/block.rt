@@ -15,21 +15,21 @@ use std::cmp::Ordering;
 use std::marker::Model;
 use std::mem::replace;
 
-// As many entries as a block may have.
+// The greatest number of entries in a block.
 pub(crate) const MOST_ENTRIES: usize = 64;
 
-// As many as each half of a full block has when it is split.
+// The number of entries in each half of a full block after it is split.
 pub(crate) const HALF_ENTRIES: usize = 32;
 
 // Room grows to the next multiple of this many entries, and not to twice as many, because a block is seldom full if
 // keys come in no order.
 const ROOM_STEP: usize = 8;
 
-// Entries in the order of their keys, which lie in an arena. A full block has 64.
+// Entries in the order of their keys, whose bytes are in an arena. A full block has 64.
 #[derive(Drop)]
 pub(crate) struct Block {
     entries: Vec<KeyEntry>,
-    // Of the keys, in the same order.
+    // the tags of the keys, in the same order
     tags: Box<Tags>,
 }
 
@@ -47,7 +47,7 @@ impl Model for Block {
 }
 
 impl Block {
-    // A block without entries that takes in so many.
+    // Makes a block without entries and with room for this many.
     pub(crate) fn with_room(alloc: Global, room: usize) -> Result<Block, AllocError>
         ensures { IfOk result (λ block. (block.entries ≡ []) × (room ≤ block.room)) }
     {
@@ -63,7 +63,7 @@ impl Block {
         self.entries.len()
     }
 
-    // The place of the entry with the key, or the place where one would go.
+    // Returns the place of the entry with the key, or the place to which one would go.
     pub(crate) fn find(&self, arena: &Arena, key: &[u8]) -> Result<usize, usize>
         requires keys { HasKeys arena.now.placed self.now.entries }
         requires rising { IsKeyMap (pairs_of arena.now.placed self.now.entries) }
@@ -73,7 +73,7 @@ impl Block {
         search(&self.entries, arena, key)
     }
 
-    // The place of the entry with the key, where its tag stands.
+    // Returns the place of the entry with the key, if its tag is there.
     pub(crate) fn find_tagged(&self, arena: &Arena, key: &[u8]) -> Option<usize>
         requires keys { HasKeys arena.now.placed self.now.entries }
         requires rising { IsKeyMap (pairs_of arena.now.placed self.now.entries) }
@@ -100,7 +100,7 @@ impl Block {
         self.entries[at]
     }
 
-    // The entries from one place up to another.
+    // Returns the entries from one place up to another.
     pub(crate) fn entries(&self, low: usize, high: usize) -> &[KeyEntry]
         requires { (low ≤ high) × (high ≤ length self.now.entries) }
         ensures { result.now ≡ between low high self.now.entries }
@@ -108,7 +108,7 @@ impl Block {
         &self.entries[low..high]
     }
 
-    // Writes over an entry.
+    // Replaces an entry.
     pub(crate) fn set(&mut self, at: usize, entry: KeyEntry)
         requires { at < length self.old.entries }
         ensures { self.new.entries ≡ slice_set self.old.entries at entry }
@@ -125,7 +125,7 @@ impl Block {
             .reserve_exact(ROOM_STEP - self.entries.len() % ROOM_STEP)
     }
 
-    // Puts an entry in, beside the tag of its key.
+    // Puts an entry in, with the tag of its key.
     pub(crate) fn insert(&mut self, at: usize, entry: KeyEntry, tag: u8)
         requires place { at ≤ length self.old.entries }
         requires room { 0 < self.old.room }
@@ -136,7 +136,7 @@ impl Block {
         self.tags.insert(at, tag);
     }
 
-    // The room that the lower half of a full block needs when an entry comes to this place of the whole.
+    // Returns the room that the lower half of a full block needs if an entry goes to this place of the whole block.
     pub(crate) fn lower_room(at: usize) -> usize
         ensures half { HALF_ENTRIES ≤ result }
         ensures more { at ≤ HALF_ENTRIES → HALF_ENTRIES < result }
@@ -149,7 +149,7 @@ impl Block {
     }
 
     // Splits a full block in two of 32 entries, and puts an entry into one of them. The block keeps its lower half, in
-    // the memory of a block without entries. The upper half is returned, in the memory of the full block.
+    // the memory of a block without entries. Returns the upper half, in the memory of the full block.
     pub(crate) fn insert_split(
         &mut self,
         at: usize,
@@ -171,15 +171,15 @@ impl Block {
             return upper;
         }
         upper.insert(at - HALF_ENTRIES, entry, tag);
-        // Keys in rising order all come behind the last entry, and soon need the room.
+        // If keys rise, they all come behind the last entry, and soon need the room.
         if at < MOST_ENTRIES {
             upper.shrink();
         }
         upper
     }
 
-    // Moves the lower half to a block without entries, which takes the place of the full one. The upper half stays in
-    // the memory of the full one, and is returned.
+    // Moves the lower half to a block without entries, which replaces the full one. Returns the upper half, in the
+    // memory of the full one.
     fn cut(&mut self, lower: Block) -> Block
         requires full { length self.old.entries ≡ MOST_ENTRIES }
         requires empty { lower.entries ≡ [] }
@@ -202,7 +202,7 @@ impl Block {
         upper
     }
 
-    // Gives back the room past the next multiple of a step. If memory is refused, the room stays.
+    // Gives back the room beyond the next multiple of a step. If memory is refused, the room stays.
     fn shrink(&mut self)
         ensures { self.new.entries ≡ self.old.entries }
     {
@@ -220,8 +220,8 @@ impl Block {
     }
 }
 
-// The place of the entry with the key, or the place where one would go: each step halves the entries between low and
-// high.
+// Returns the place of the entry with the key, or the place to which one would go. Each step halves the entries between
+// low and high.
 fn search(entries: &[KeyEntry], arena: &Arena, key: &[u8]) -> Result<usize, usize>
     requires keys { HasKeys arena.now.placed entries.now }
     requires rising { IsKeyMap (pairs_of arena.now.placed entries.now) }

@@ -1,18 +1,18 @@
 use crate::words::eight_at;
 use std::alloc::Global;
 
-// For each block the bytes of its first key past those with which all keys began, when they were looked at. They are
-// hints: the block that they name is searched before it is believed to have a key, so no proof rests on them.
+// For each block, the bytes of its first key after the bytes with which all keys began when they were looked at. They
+// are hints: a block is searched before a hint is believed, so no proof depends on hints.
 #[derive(Drop)]
 pub(crate) struct Hints {
-    // How many bytes are passed over.
+    // How many bytes are skipped.
     skip: usize,
     starts: Vec<Start>,
-    // How many blocks were noted, also those that there was no memory for.
+    // How many blocks were noted, including those for which there was no memory.
     noted: usize,
 }
 
-// Thirty-two bytes of a key, as numbers, in the order of keys.
+// Thirty-two bytes of a key, as numbers in the order of keys.
 #[derive(Clone, Copy)]
 struct Start {
     high: u128,
@@ -20,7 +20,7 @@ struct Start {
 }
 
 impl Start {
-    // The bytes past so many, with zeros behind the key's end.
+    // Returns the bytes of the key after the first `skip`, with zeros behind the key's end.
     fn of(key: &[u8], skip: usize) -> Start {
         Start {
             high: sixteen_of(key, skip),
@@ -42,17 +42,18 @@ impl Hints {
         }
     }
 
-    // How many blocks were noted.
+    // Returns how many blocks were noted.
     pub(crate) fn noted(&self) -> usize {
         self.noted
     }
 
-    // Whether each block that was noted is known, and keys that begin with so many bytes alike are told apart.
+    // Returns whether each noted block is known, and whether the hints tell keys apart that begin with this many equal
+    // bytes.
     pub(crate) fn serve(&self, alike: usize) -> bool {
         self.starts.len() == self.noted && self.skip <= alike
     }
 
-    // The block that has the key, if the hints are right.
+    // Returns the block that has the key, if the hints are right.
     pub(crate) fn block_of(&self, key: &[u8]) -> usize {
         if self.starts.len() < 2 {
             return 0;
@@ -60,7 +61,7 @@ impl Hints {
         let start = Start::of(key, self.skip);
         let mut low = 0;
         let mut size = self.starts.len();
-        // Which half is next is computed: a branch on it would often be mispredicted.
+        // The next half is computed, because a branch on it would often be mispredicted.
         while size > 1 {
             let half = size / 2;
             low += half * self.starts[low + half].is_at_most(start) as usize;
@@ -69,7 +70,7 @@ impl Hints {
         low
     }
 
-    // Notes a block with its first key. Where memory is refused it stays unknown.
+    // Notes a block with its first key. If memory is refused, the block stays unknown.
     pub(crate) fn note(&mut self, at: usize, key: &[u8]) {
         self.noted = self.noted.saturating_add(1);
         if at <= self.starts.len() {
@@ -86,7 +87,7 @@ impl Hints {
         }
     }
 
-    // Forgets all blocks. The hints of those that follow pass over so many bytes.
+    // Forgets all blocks. The hints of the blocks that follow skip this many bytes.
     pub(crate) fn restart(&mut self, skip: usize) {
         self.skip = skip;
         self.starts.clear();
@@ -94,7 +95,7 @@ impl Hints {
     }
 }
 
-// How many bytes two keys begin with alike.
+// Returns with how many equal bytes two keys begin.
 pub(crate) fn alike(first: &[u8], second: &[u8]) -> usize {
     let both = first.len().min(second.len());
     for at in 0..both {
@@ -105,13 +106,13 @@ pub(crate) fn alike(first: &[u8], second: &[u8]) -> usize {
     both
 }
 
-// The number that sixteen bytes of a key past so many spell, as the next function says.
+// Returns the number of sixteen bytes of a key after the first `skip`, as described at the next function.
 fn sixteen_of(key: &[u8], skip: usize) -> u128 {
     (eight_of(key, skip) as u128) << 64 | eight_of(key, skip.saturating_add(8)) as u128
 }
 
-// The number that eight bytes of a key past so many spell, the greatest first, with zeros behind its end. Where fewer
-// are left the key's last eight are read at once, and what is before them is shifted out.
+// Returns the number of eight bytes of a key after the first `skip`, the most significant first, with zeros behind the
+// key's end. If fewer are left, it reads the key's last eight bytes at once, and shifts out those before them.
 fn eight_of(key: &[u8], skip: usize) -> u64 {
     let left = key.len().saturating_sub(skip);
     if left >= 8 {
@@ -126,7 +127,7 @@ fn eight_of(key: &[u8], skip: usize) -> u64 {
     }
 }
 
-// The same of fewer than eight bytes.
+// Returns the same for fewer than eight bytes.
 fn eight_of_few(bytes: &[u8]) -> u64 {
     let mut number: u64 = 0;
     for place in 0..8 {

@@ -62,14 +62,14 @@ impl Index {
         self.len
     }
 
-    // How many blocks there are.
+    // Returns how many blocks there are.
     pub(crate) fn block_count(&self) -> usize
         ensures { result ≡ length (lengths_in self.now.blocks) }
     {
         self.blocks.len()
     }
 
-    // How many entries a block has.
+    // Returns how many entries a block has.
     pub(crate) fn block_len(&self, at: usize) -> usize
         requires { at < length (lengths_in self.now.blocks) }
         ensures value { result ≡ slice_index (lengths_in self.now.blocks) at }
@@ -78,7 +78,7 @@ impl Index {
         self.blocks[at].len()
     }
 
-    // The place of the entry with the key, or the place where one would go.
+    // Returns the place of the entry with the key, or the place to which one would go.
     pub(crate) fn find(&self, arena: &Arena, key: &[u8]) -> Result<Place, Place>
         requires keys { HasKeys arena.now.placed (entries_in self.now.blocks) }
         requires rising { IsKeyMap (pairs_of arena.now.placed (entries_in self.now.blocks)) }
@@ -100,7 +100,7 @@ impl Index {
         }
     }
 
-    // The place of the entry with the key, where it is in this block and its tag stands there.
+    // Returns the place of the entry with the key, if it is in this block and its tag is there.
     fn find_guessed(&self, block: usize, arena: &Arena, key: &[u8]) -> Option<Place>
         requires keys { HasKeys arena.now.placed (entries_in self.now.blocks) }
         requires rising { IsKeyMap (pairs_of arena.now.placed (entries_in self.now.blocks)) }
@@ -118,7 +118,7 @@ impl Index {
         }
     }
 
-    // The same in the one block that can have the key.
+    // Returns the same for the only block that can have the key.
     fn find_in(&self, block: usize, arena: &Arena, key: &[u8]) -> Result<Place, Place>
         requires within { block < length (lengths_in self.now.blocks) }
         requires keys { HasKeys arena.now.placed (entries_in self.now.blocks) }
@@ -146,7 +146,7 @@ impl Index {
         self.blocks[place.block].entry(place.offset)
     }
 
-    // The entries from a place up to another one of its block.
+    // Returns the entries from a place up to another place in the same block.
     pub(crate) fn entries(&self, place: Place, high: usize) -> &[KeyEntry]
         requires block { place.block < length (lengths_in self.now.blocks) }
         requires order { (place.offset ≤ high) × (high ≤ slice_index (lengths_in self.now.blocks) place.block) }
@@ -157,17 +157,17 @@ impl Index {
         self.blocks[place.block].entries(place.offset, high)
     }
 
-    // The place of the first entry, or the end.
+    // Returns the place of the first entry, or the end.
     pub(crate) fn first(&self) -> Place
         ensures stop { IsStop (lengths_in self.now.blocks) result }
         ensures first { number_of (lengths_in self.now.blocks) result ≡ 0 }
     {
-        // No block is empty: a proof knows it where a field is used.
+        // No block is empty. A proof knows this after a field is used.
         let _ = &self.blocks;
         Place::FIRST
     }
 
-    // The place of the entry after a gap, or the end.
+    // Returns the place of the entry after a gap, or the end.
     pub(crate) fn stop(&self, place: Place) -> Place
         requires { IsGap (lengths_in self.now.blocks) place }
         ensures stop { IsStop (lengths_in self.now.blocks) result }
@@ -182,14 +182,14 @@ impl Index {
         place
     }
 
-    // The place of the next entry, or the end.
+    // Returns the place of the next entry, or the end.
     pub(crate) fn after(&self, place: Place) -> Place
         requires { HasEntry (lengths_in self.now.blocks) place }
         ensures stop { IsStop (lengths_in self.now.blocks) result }
         ensures next { number_of (lengths_in self.now.blocks) result ≡ number_of (lengths_in self.now.blocks) place
             + 1 }
     {
-        // No block is long: a proof knows it where a field is used.
+        // No block is too long. A proof knows this after a field is used.
         let _ = &self.blocks;
         self.stop(Place {
             block: place.block,
@@ -197,7 +197,7 @@ impl Index {
         })
     }
 
-    // Where an entry goes after all others: into the last block, or behind it if it is full.
+    // Returns the place to which an entry goes after all others: in the last block, or behind it if it is full.
     pub(crate) fn end(&self) -> Place
         ensures gap { IsGap (lengths_in self.now.blocks) result }
         ensures end { number_of (lengths_in self.now.blocks) result ≡ length (entries_in self.now.blocks) }
@@ -219,7 +219,7 @@ impl Index {
         }
     }
 
-    // Writes over an entry.
+    // Replaces an entry.
     pub(crate) fn set(&mut self, place: Place, entry: KeyEntry)
         requires { HasEntry (lengths_in self.old.blocks) place }
         ensures { entries_in self.new.blocks
@@ -249,7 +249,8 @@ impl Index {
         Ok(Room::Beside(Block::with_room(self.alloc, room)?))
     }
 
-    // Puts an entry into the room that was made for it at the place, beside the tag of its key.
+    // Puts an entry, with the tag of its key, into the room that was made for it at the place. The caller must have
+    // made the room.
     pub(crate) fn insert(&mut self, place: Place, entry: KeyEntry, tag: u8, room: Room)
         requires { IsReady self.old place room }
         ensures entries { entries_in self.new.blocks
@@ -271,7 +272,7 @@ impl Index {
         }
     }
 
-    // Notes where the block begins that the last entry, put in at this place, made.
+    // Notes the first key of the block that the last entry, which was put in at this place, made.
     pub(crate) fn note(&mut self, place: Place, arena: &Arena)
         requires keys { HasKeys arena.now.placed (entries_in self.old.blocks) }
         requires rising { IsKeyMap (pairs_of arena.now.placed (entries_in self.old.blocks)) }
@@ -294,7 +295,7 @@ impl Index {
         self.hints.note(at, first_key(&self.blocks, at, arena));
     }
 
-    // Removes an entry, and its block where it was the only one there.
+    // Removes an entry. If it was the only one in its block, removes the block too.
     pub(crate) fn remove(&mut self, place: Place) -> KeyEntry
         requires { HasEntry (lengths_in self.old.blocks) place }
         ensures removed { HoldsAt (λ entry. result ≡ entry) (entries_in self.old.blocks)
@@ -312,7 +313,7 @@ impl Index {
     }
 }
 
-// Puts a block in where there is room for it.
+// Puts a block in. There must be room for it.
 fn add(blocks: &mut Vec<Block>, at: usize, block: Block)
     requires place { at ≤ length blocks.old.items }
     requires room { vec_len blocks.old < vec_capacity blocks.old }
@@ -322,7 +323,7 @@ fn add(blocks: &mut Vec<Block>, at: usize, block: Block)
     let _ = blocks.insert(at, block);
 }
 
-// The key of a block's first entry.
+// Returns the key of a block's first entry.
 fn first_key<'a>(blocks: &[Block], at: usize, arena: &'a Arena) -> &'a [u8]
     requires within { at < length blocks.now }
     requires filled { All IsSized blocks.now }
@@ -332,7 +333,7 @@ fn first_key<'a>(blocks: &[Block], at: usize, arena: &'a Arena) -> &'a [u8]
     arena.get(blocks[at].entry(0).key)
 }
 
-// Notes where each block begins.
+// Notes the first key of each block.
 fn note_all(hints: &mut Hints, blocks: &[Block], arena: &Arena)
     requires filled { All IsSized blocks.now }
     requires keys { HasKeys arena.now.placed (entries_in blocks.now) }
@@ -343,8 +344,9 @@ fn note_all(hints: &mut Hints, blocks: &[Block], arena: &Arena)
     }
 }
 
-// The block whose first entry has the key, or how many have a first entry below it: the block that is guessed and the
-// next ones come first, in steps that double, and else each step halves the blocks between low and high.
+// Returns the block whose first entry has the key, or how many blocks have a first entry below it. It begins with the
+// guessed block and goes on from there in steps that double. After that, each step halves the blocks between low and
+// high.
 fn search(blocks: &[Block], guess: usize, arena: &Arena, key: &[u8]) -> Result<usize, usize>
     requires filled { All IsSized blocks.now }
     requires keys { HasKeys arena.now.placed (entries_in blocks.now) }
@@ -372,7 +374,7 @@ fn search(blocks: &[Block], guess: usize, arena: &Arena, key: &[u8]) -> Result<u
     Err(low)
 }
 
-// A place from low on and below high: the wanted one, or else the middle.
+// Returns a place from low up to, but without, high: the wanted one, or otherwise the middle.
 fn probe(low: usize, high: usize, wanted: usize) -> usize
     requires { low < high }
     ensures { (low ≤ result) × (result < high) }

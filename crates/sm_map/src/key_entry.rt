@@ -8,7 +8,7 @@ use sm_arena::arena::Arena;
 use sm_arena::span::Span;
 use std::alloc::AllocError;
 
-// A key and what it holds, with their bytes in an arena.
+// A key and its value, with their bytes in an arena.
 #[derive(Clone, Copy)]
 pub(crate) struct KeyEntry {
     pub(crate) key: Span,

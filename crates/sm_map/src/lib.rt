@@ -1,4 +1,4 @@
-//! A sorted map from keys to texts and counts, whose bytes lie in an arena.
+//! A sorted map from keys to texts and counts, whose bytes are in an arena.
 //!
 //! ```rust
 //! let mut map = ArenaMap::new(rt.alloc());

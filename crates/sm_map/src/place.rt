@@ -3,7 +3,7 @@ ghost use Rattle.sm_map.specs.Places.{precedes};
 
 use crate::block::MOST_ENTRIES;
 
-// Where an entry stands: in which block, and how many stand before it there.
+// The place of an entry: its block, and how many entries come before it there.
 #[derive(Clone, Copy)]
 pub(crate) struct Place {
     pub(crate) block: usize,
@@ -11,20 +11,20 @@ pub(crate) struct Place {
 }
 
 impl Place {
-    // Where the first entry stands.
+    // The place of the first entry.
     pub(crate) const FIRST: Place = Place {
         block: 0,
         offset: 0,
     };
 
-    // Whether this place stands before another.
+    // Returns whether this place comes before another.
     pub(crate) fn precedes(self, other: Place) -> bool
         ensures { result ≡ precedes self other }
     {
         self.block < other.block || (self.block == other.block && self.offset < other.offset)
     }
 
-    // No fewer than the entries from this place on and before another.
+    // Returns a number that is at least the number of entries from this place on and before another.
     pub(crate) fn most_before(self, other: Place) -> usize {
         if self.block == other.block {
             return other.offset.saturating_sub(self.offset);

@@ -1,6 +1,7 @@
 use crate::place::Place;
 
-/// Where the pair of a key stands in a map, or where it would go. It serves calls on that map until the map is changed.
+/// The position of a key's pair in a map, or the one to which it would go. It must only be used for calls on that map,
+/// and only until the map changes.
 #[derive(Clone, Copy)]
 pub struct Position<'k> {
     /// The key.

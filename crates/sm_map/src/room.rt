@@ -1,12 +1,12 @@
 use crate::block::Block;
 
-// What takes in one more entry.
+// Room for one more entry.
 #[derive(Drop)]
 pub(crate) enum Room {
     // The block has room.
     Inside,
-    // The block is full, and this one, which has no entries, takes in its lower half.
+    // The block is full, and this block, which has no entries, takes its lower half.
     Beside(Block),
-    // The place is behind the last block, and this one has no entries.
+    // The place is behind the last block, and this block has no entries.
     Behind(Block),
 }

@@ -10,7 +10,7 @@ use sm_arena::arena::Arena;
 use sm_arena::span::Span;
 use std::alloc::AllocError;
 
-// What a key holds, with its text in an arena.
+// A key's value, with its text in an arena.
 #[derive(Clone, Copy)]
 pub(crate) enum Slot {
     Text(Span),
@@ -31,7 +31,7 @@ impl Slot {
         }
     }
 
-    // Places the slot's text followed by the tail, as one text. A count stays.
+    // Places the slot's text followed by the tail, as one text. A count doesn't change.
     #[tactic(auto, using(crate::proofs::Spans::piece_stored))]
     pub(crate) fn concat(self, arena: &mut Arena, tail: &[u8]) -> Result<Slot, AllocError>
         requires readable { IsReadable arena.old.placed self }
@@ -47,7 +47,7 @@ impl Slot {
         }
     }
 
-    // What the slot holds.
+    // Returns the slot's value.
     pub(crate) fn read(self, arena: &Arena) -> Val<'_>
         requires { IsReadable arena.now.placed self }
         ensures { held_of result ≡ held_in arena.now.placed self }

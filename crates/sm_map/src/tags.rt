@@ -1,8 +1,8 @@
 use crate::words::eight_at;
 use std::simd::prelude::*;
 
-// A byte of each key's hash, in the order of a block's entries, eight in a word. They are hints: what they name is
-// compared before it is believed, so no proof rests on them.
+// One byte of each key's hash, in the order of a block's entries, eight to a word. Tags are hints: an entry is compared
+// before a tag is believed, so no proof depends on tags.
 #[derive(Clone, Copy)]
 pub(crate) struct Tags {
     words: [u64; WORDS],
@@ -10,13 +10,13 @@ pub(crate) struct Tags {
 
 const WORDS: usize = 8;
 
-// An odd number with bits of no pattern (the golden ratio's).
+// An odd number whose bits have no pattern (from the golden ratio).
 const SPREADING: u64 = 0x9e37_79b9_7f4a_7c15;
 
 impl Tags {
     pub(crate) const NONE: Tags = Tags { words: [0; WORDS] };
 
-    // The places that have the tag, as bits.
+    // Returns the places that have the tag, as bits.
     pub(crate) fn places_of(&self, tag: u8) -> u64 {
         let tags = u64x8::from_array(self.words).to_le_bytes();
         tags.simd_eq(u8x64::splat(tag)).to_bitmask()
@@ -49,7 +49,7 @@ impl Tags {
         }
     }
 
-    // The tags of the lower half.
+    // Returns the tags of the lower half.
     pub(crate) fn lower(&self) -> Tags {
         let [first, second, third, fourth, _, _, _, _] = self.words;
         Tags {
@@ -57,7 +57,7 @@ impl Tags {
         }
     }
 
-    // The tags of the upper half.
+    // Returns the tags of the upper half.
     pub(crate) fn upper(&self) -> Tags {
         let [_, _, _, _, first, second, third, fourth] = self.words;
         Tags {
@@ -66,12 +66,12 @@ impl Tags {
     }
 }
 
-// The bytes of a word that are before a place in it.
+// Returns the bytes of a word that are before a place in it.
 fn bytes_before(at: usize) -> u64 {
     !(u64::MAX << (at % 8 * 8))
 }
 
-// The tag of a key: the highest byte of a hash of all its bytes.
+// Returns the tag of a key: the highest byte of a hash of all its bytes.
 pub(crate) fn tag_of(key: &[u8]) -> u8 {
     let Some(last) = key.len().checked_sub(8) else {
         return short_tag(key);
@@ -85,7 +85,7 @@ pub(crate) fn tag_of(key: &[u8]) -> u8 {
     (mixed(hash, u64::from_le_bytes(eight_at(key, last))) >> 56) as u8
 }
 
-// The same of a key with fewer than eight bytes.
+// Returns the same for a key with fewer than eight bytes.
 fn short_tag(key: &[u8]) -> u8 {
     let mut hash = key.len() as u64;
     for byte in key {

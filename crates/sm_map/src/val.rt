@@ -1,4 +1,4 @@
-/// What a key holds.
+/// A key's value.
 #[derive(Clone, Copy, PartialEq, Eq, Debug)]
 pub enum Val<'a> {
     /// The bytes of a text.

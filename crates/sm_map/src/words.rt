@@ -1,6 +1,6 @@
 ghost use Rattle.std.specs.Prelude.{◌≤◌, ◌+◌, length};
 
-// The eight bytes from a place on.
+// Returns the eight bytes from a place on.
 pub(crate) fn eight_at(bytes: &[u8], at: usize) -> [u8; 8]
     requires { at + 8 ≤ length bytes.now }
 {

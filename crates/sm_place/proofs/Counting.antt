@@ -1,4 +1,4 @@
--- What a stand adds at the cells of its group and its servers' domains.
+-- How much a stand adds at the cells of its group and its servers' domains.
 use Rattle.std.proofs.Common.{ℕ, ◌+◌, ◌*◌, ◌<◌, ◌≤◌, ◌≡◌, Bool, true, false, cond, eqb, List, length, Option}
 use Rattle.std.proofs.Common.{Some, None, sym, refl, ap, ◌∙◌, inl, inr, arith, ◌||◌, ◌&&◌}
 use Rattle.std.specs.Prelude.{IfSome, option_map, remove, slice_index}
@@ -16,7 +16,7 @@ use Rattle.sm_place.specs.Cells.{amount_at, is_hit, cell_of, AreInside, AreCells
 use Rattle.sm_place.specs.Books.{moved, no_shard, IsKnown, domain_of, shard_at, with_stand}
 use Rattle.sm_place.specs.Room.{names_domain, is_in, count_in}
 
--- two cells are one where the groups and the domains are
+-- two cells are the same if the groups and the domains are
 pub eqb-cell : (w g b g' d : ℕ) → b < w → d < w → eqb (g * w + b) (g' * w + d) ≡ (eqb g g' && eqb b d)
 eqb-cell w g b g' d hb hd =
     elim (eqb_tells (g * w + b) (g' * w + d)) [
@@ -31,7 +31,7 @@ eqb-cell w g b g' d hb hd =
       ]
     ]
 
--- ranks tell domains apart
+-- domains with different ranks are different
 eqb-rank : (servers : List ServerRow) (r : Ranking) (e d : ℕ) → AreRanked servers r → rank_of r d < r.width
     → eqb (rank_of r e) (rank_of r d) ≡ eqb e d
 eqb-rank servers r e d ranked h =
@@ -52,7 +52,7 @@ passes-cell servers r g g' d (Some a) ranked row h =
     eqb-cell r.width g (rank_of r (domain_of servers a)) g' (rank_of r d) (ranked.at a row) h
     ∙ ap (λ (p : Bool). eqb g g' && p) (eqb-rank servers r (domain_of servers a) d ranked h)
 
--- the cell of a group and a domain gets one where the stand's shard is in it
+-- the cell of a group and a domain gets one if the stand's shard is in it
 pub gets_one : (servers : List ServerRow) (r : Ranking) (g g' d : ℕ) (stand : Stand) (x y : Option ℕ)
     → AreCells servers r g stand x y → AreRanked servers r → AllNamed (IsKnown servers) stand → rank_of r d < r.width
     → amount_at x y 1 (domain_cell r g' d) ≡ cond (eqb g g' && names_domain servers stand d) 1 0
@@ -72,7 +72,7 @@ gets_one servers r g g' d stand x y at ranked known h =
     and_or true v w = refl
     and_or false v w = refl
 
--- a cell that is hit is that of the group and a domain that the stand names
+-- a cell that is hit is the cell of the group and a domain that the stand names
 pub hit_in : (servers : List ServerRow) (r : Ranking) (g i : ℕ) (stand : Stand) (x y : Option ℕ)
     → AreCells servers r g stand x y → AreRanked servers r → AllNamed (IsKnown servers) stand → is_hit x y i ≡ true
     → (d : ℕ) × ((rank_of r d < r.width) × (domain_cell r g d ≡ i))
@@ -163,7 +163,7 @@ AreInside-AreCells servers counts n r g stand x y at cells ranked known e = (
   rw (e, at.other) (AreInside-cell servers counts r g (other_of stand) cells ranked known.1),
 )
 
--- a counter that loses the shard has it
+-- a counter that loses the shard had counted it
 pub lower_one :
     (servers : List ServerRow) (r : Ranking) (shards : List Shard) (k : ℕ) (counts : List ℕ) (x y : Option ℕ)
     → k < length shards → AreRanked servers r → HasCells counts (shard_at shards k).row.group r
@@ -189,7 +189,7 @@ lower_one servers r shards k counts x y inside ranked cells before has at i hit 
     ) in
     rw (← found.1.1) goal
 
--- what a counter gains fits, since the new count does
+-- the raised counter fits, because the new count does
 pub raise_one :
     (servers : List ServerRow) (r : Ranking) (shards : List Shard) (k : ℕ) (stand : Stand) (counts0 counts1 : List ℕ)
     (x y x' y' : Option ℕ) (m : ℕ)
@@ -225,7 +225,7 @@ raise_one servers r shards k stand counts0 counts1 x y x' y' m inside ranked cel
     ) in
     rw (← found.1.1) goal
 
--- the counter of the server's domain counts the other shards there, and the shard where it names a server there
+-- the counter of the server's domain counts the other shards there, and this shard if it names a server there
 pub count_others : (servers : List ServerRow) (r : Ranking) (shards : List Shard) (k a : ℕ) (counts : List ℕ)
     → k < length shards → AreRanked servers r → HasCells counts (shard_at shards k).row.group r → IsKnown servers a
     → HasCounts servers shards counts r

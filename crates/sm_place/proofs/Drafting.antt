@@ -27,8 +27,8 @@ use Rattle.sm_place.proofs.Sharing.{load_on-remove}
 use Rattle.sm_place.proofs.Counting.{count_others}
 use Rattle.sm_place.specs.Plans.{first_fit, servers_but}
 
--- a server has capacity for a shard beside the others, also by what all of them load it with, where the shard is named
--- only if that is within the capacity
+-- whether a server has capacity for a shard beside the others, from the load of all of them; if the shard is named
+-- already, that load must be within the capacity
 pub has_capacity : (most others own all load : ℕ) (n : Bool) → own ≡ cond n load 0 → others + own ≡ all
     → (n ≡ true → all ≤ most) → (leb (all + load) most || n) ≡ not (nat_lt most (others + load))
 has_capacity most others own all load true e sum fits =
@@ -104,7 +104,7 @@ fit-at books k i rise place =
     tests false false true = refl
     tests false false false = refl
 
--- a limit is exceeded by one more than the others, also by the count of all
+-- a limit is exceeded by one more than the others, and also by the count of all
 pub exceeds : (limit others own count : ℕ) (n : Bool) → own ≡ cond n 1 0 → others + own ≡ count
     → cond n (nat_lt limit count) (leb limit count) ≡ nat_lt limit (others + 1)
 exceeds limit others own count true e sum =
@@ -116,7 +116,7 @@ exceeds limit others own count false e sum =
     reached : (limit n : ℕ) → leb limit n ≡ nat_lt limit (n + 1)
     reached limit n = rw (add-one, leb-suc-suc) refl
 
--- a group has its counters where there are those of all groups
+-- if there are the counters of all groups, a group has its own
 pub HasCells-all : (counts : List ℕ) (n g : ℕ) (r : Ranking) → length counts ≡ n * r.width → g < n
     → HasCells counts g r
 HasCells-all counts n g r e h = record {
@@ -170,7 +170,7 @@ servers-from from rows i h =
     let d : drop i rows ≡ row_at rows i ∷ drop (suc i) rows = drop-cons rows i no_server h in
     rw add-one (ap (servers_but from) d)
 
--- the server of a row, where it is one of the plan's and fits
+-- the first fit is the server of a row if it is one of the plan's and the shard fits it
 pub first_fit-here : (books : BooksView) (k : ℕ) (from : Option ℕ) (rows : List ServerRow) (i : ℕ) (all : Option ℕ)
     → i < length rows → first_fit books k (servers_but from (drop i rows)) ≡ all
     → is_ok (fit books k (row_at rows i).id) ≡ true
@@ -185,7 +185,7 @@ first_fit-here books k from rows i all h inv fits other =
     (servers_but from (drop (i + 1) rows)))) fits in
     sym step ∙ inv
 
--- the server of a row is passed over where it isn't one of the plan's, or the shard doesn't fit it
+-- the server of a row is passed over if it isn't one of the plan's, or the shard doesn't fit it
 pub first_fit-past : (books : BooksView) (k : ℕ) (from : Option ℕ) (rows : List ServerRow) (i : ℕ) (all : Option ℕ)
     → i < length rows → first_fit books k (servers_but from (drop i rows)) ≡ all
     → (is_ok (fit books k (row_at rows i).id) && not (passes (λ b. eqb b (row_at rows i).id) from)) ≡ false
@@ -206,7 +206,7 @@ first_fit-past books k from rows i all h inv fails =
         ap (λ (v : Bool). cond v (Some (row_at rows i).id) (first_fit books k
         (servers_but from (drop (i + 1) rows)))) same
 
--- what the tests of a fit come to
+-- the results of the tests of a fit
 pub no_capacity : (x fits leaves full : Bool) → x ≡ (fits && (not leaves && not full)) → fits ≡ false → false ≡ x
 no_capacity x fits leaves full is lacks = sym (is ∙ ap (λ (v : Bool). v && (not leaves && not full)) lacks)
 

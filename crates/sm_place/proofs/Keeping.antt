@@ -14,7 +14,7 @@ use Rattle.sm_place.specs.Books.{moved, IsKnown, shard_at, with_stand}
 use Rattle.sm_place.specs.Room.{HasRoom}
 use Rattle.sm_place.specs.lemmas.Changed.{length-with_stand, shard_at-other, shard_at-same}
 
--- a vector whose slice was written has what was written
+-- a vector whose slice was written has the written elements
 pub take-all : (xs ys : List ℕ) (n : ℕ) → n ≡ length xs → take n (xs ++ ys) ≡ xs
 take-all [] ys n e = rw e refl
 take-all (x ∷ xs) ys n e = rw e (ap (λ v. x ∷ v) (take-all xs ys (length xs) refl))

@@ -1,4 +1,4 @@
--- The servers of rows, and what a server that fits has room for.
+-- The servers of rows, and the room on a server that a shard fits.
 use Rattle.std.proofs.Common.{ℕ, ◌+◌, ◌<◌, ◌≤◌, ◌≡◌, Bool, true, false, cond, eqb, ltb, List, length, get_or}
 use Rattle.std.proofs.Common.{Result, Ok, Err, refl, sym, ◌∙◌, arith, inl, inr}
 use Rattle.std.specs.Prelude.{slice_index_or, remove}
@@ -24,7 +24,7 @@ known_at servers i h =
       | inr p ↦ omega arith
     ]
 
--- the tests of fit, where it answers Ok
+-- the tests of fit, if it answers Ok
 pub record IsFit (books : BooksView) (k a : ℕ) : Type 0 where
   pub load :
       load_on (remove books.shards k) a + (shard_at books.shards k).row.load ≤ (row_by_id books.servers a).capacity

@@ -15,7 +15,7 @@ use Rattle.sm_place.specs.Books.{no_server, place_of, IsKnown}
 use Rattle.sm_place.specs.Counters.{HasPlaces}
 use Rattle.sm_place.specs.lemmas.Changed.{id-at_place}
 
--- below one of two numbers, or not
+-- either one number is below the other, or it isn't
 pub split : (m n : ℕ) → (m < n) ⊎ (n ≤ m)
 split zero zero = inr (omega arith)
 split zero (suc n) = inl (omega arith)
@@ -26,7 +26,7 @@ split (suc m) (suc n) = elim (split m n) [ inl p ↦ inl (omega arith) | inr p �
 pub place_of-le : (servers : List ServerRow) (a : ℕ) → place_of servers a ≤ length servers
 place_of-le servers a = prefix_len-le-length (λ row. not (eqb row.id a)) servers
 
--- the table after so many rows: it has the places below their count
+-- the table after this many rows: it has the places below their count
 pub record IsPlacedUpTo (servers : List ServerRow) (m : ℕ) (places : List ℕ) (count : ℕ) : Type 0 where
   pub len : length places ≡ m
   pub at : (a : ℕ) → a < m
@@ -41,7 +41,7 @@ IsPlacedUpTo-new servers m n e = record {
       ∙ sym (ap (λ b. cond b (place_of servers a) (length servers)) (le-ltb (place_of servers a) 0 (omega arith)));
 }
 
--- of rising numbers each is below the later ones
+-- if numbers rise, each is below the later ones
 rising : (servers : List ServerRow) → IsStrictlyIncreasing (map (λ row. row.id) servers) → (i j : ℕ) → i < j
     → j < length servers
     → (get_or servers i no_server).id < (get_or servers j no_server).id
@@ -54,7 +54,7 @@ rising servers rise i j h inside =
     let within : j < length ids = simp length-map inside in
     omega (arith, before, after, AllPairs-from_increasing ids rise i j 0 h within)
 
--- the first row with a number is the one that has it
+-- the first row with a number is the row of this server
 pub place_of-row : (servers : List ServerRow) (i : ℕ) → IsStrictlyIncreasing (map (λ row. row.id) servers)
     → i < length servers
     → place_of servers (get_or servers i no_server).id ≡ i

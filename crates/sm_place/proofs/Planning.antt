@@ -16,7 +16,7 @@ use Rattle.sm_place.specs.Plans.{PlanView, books_after, first_fit, joined, no_pl
 use Rattle.sm_place.specs.Plans.{shards_to_move}
 use Rattle.sm_place.specs.lemmas.Changed.{length-with_stand}
 
--- plans are joined in any grouping, and a plan of nothing adds nothing
+-- plans can be joined in any grouping, and an empty plan adds nothing
 pub joined-assoc : (p q r : PlanView) → joined (joined p q) r ≡ joined p (joined q r)
 joined-assoc p q r = simp append_assoc
 
@@ -56,7 +56,7 @@ inside_shards from shards =
     let inside : i < n = rw (← length-range_with_len 0 n) h in
     let at : get_or (range_with_len 0 n) i 0 ≡ 0 + i = get_or-range_with_len 0 n i 0 inside in omega arith))
 
--- the numbers below one more that pass
+-- the numbers below n + 1 that pass
 filter-below_more : (p : ℕ → Bool) (n : ℕ)
     → filter p (range_with_len 0 (n + 1)) ≡ filter p (range_with_len 0 n) ++ cond (p n) (n ∷ []) []
 filter-below_more p n =

@@ -10,7 +10,7 @@ use Rattle.sm_place.specs.Ranks.{Ranking, rank_of, with_rank, AreRanked}
 use Rattle.sm_ranges.specs.declared.limits.TheConstants.{MAX_SERVER}
 use Rattle.sm_place.specs.declared.ranks.TheConstants.{NO_RANK}
 
--- the ranks after so many rows
+-- the ranks after this many rows
 pub record IsRanked (servers : List ServerRow) (r : Ranking) (count : ℕ) : Type 0 where
   pub inside : count ≤ length servers
   pub len : length r.ranks ≡ NO_RANK
@@ -19,7 +19,7 @@ pub record IsRanked (servers : List ServerRow) (r : Ranking) (count : ℕ) : Typ
   pub apart : (d e : ℕ) → rank_of r d < r.width → rank_of r e ≡ rank_of r d → e ≡ d
   pub or_none : (d : ℕ) → (rank_of r d < r.width) ⊎ (rank_of r d ≡ NO_RANK)
 
--- in a list of one value each place has it
+-- in a list that repeats one value, each place has it
 get_or-same : (n d v : ℕ) → get_or (replicate n v) d v ≡ v
 get_or-same zero d v = refl
 get_or-same (suc n) zero v = refl
@@ -37,7 +37,7 @@ IsRanked-new servers = record {
   or_none = λ d. inr (get_or-same NO_RANK d NO_RANK);
 }
 
--- the ranks where a domain that had none gets the next one
+-- the ranks after a domain that had none gets the next one
 abbrev raised : Ranking → ℕ → Ranking
 raised r d = record { ranks = set r.ranks d r.width; width = r.width + 1 }
 

@@ -18,7 +18,7 @@ use Rattle.sm_place.proofs.Sharing.{load_on-remove, load_on-with_stand}
 use Rattle.sm_place.proofs.Counting.{count_in-remove, count_in-with_stand}
 use Rattle.sm_place.proofs.Leaving.{IsFit-fit, cond-le}
 
--- a shard that fits a server fits none that is leaving
+-- if a shard fits a server, the server isn't leaving
 pub stays-fit : (books : BooksView) (k a : ℕ) → fit books k a ≡ Ok tt → is_leaving (state_of books a) ≡ false
 stays-fit books k a e =
     first (is_leaving (state_of books a))
@@ -35,18 +35,18 @@ stays-fit books k a e =
     first false q r e = refl
     first true q r e = absurd (cc)
 
--- what counts only where another thing counts adds no more than that
+-- if a number counts only if another number counts too, it adds no more than that one
 cond_within : (p q : Bool) (n : ℕ) → (p ≡ true → q ≡ true) → cond p n 0 ≤ cond q n 0
 cond_within false q n h = omega arith
 cond_within true true n h = omega arith
 cond_within true false n h = let e = h refl in absurd (cc)
 
--- a shard takes no more of a server than before where the new stand names it only if the old one does
+-- if the new stand names the server only if the old one does, the shard takes no more of it than before
 load_by-within : (shard : Shard) (stand : Stand) (b : ℕ) → (names stand b ≡ true → names shard.stand b ≡ true)
     → load_by b (moved shard stand) ≤ load_by b shard
 load_by-within shard stand b h = cond_within (names stand b) (names shard.stand b) shard.row.load h
 
--- a shard is in no further domain where the servers that the new stand names there are ones that the old one names
+-- if the new stand names no servers in the domain that the old one didn't name, the shard is in no more domains
 is_in-within : (books : BooksView) (shard : Shard) (stand : Stand) (g d : ℕ)
     → ((b : ℕ) → names stand b ≡ true → eqb (domain_of books.servers b) d ≡ true → names shard.stand b ≡ true)
     → cond (is_in books.servers g d (moved shard stand)) 1 0 ≤ cond (is_in books.servers g d shard) 1 0
@@ -60,7 +60,7 @@ is_in-within books shard stand g d h =
     (and_parts (eqb shard.row.group g) (names_domain books.servers stand d) e).0
     (names_one-named (λ b. eqb (domain_of books.servers b) d) shard.stand here.0 (h here.0 here.1.0 here.1.1) here.1.1))
 
--- a stand that names no further server leaves room
+-- if a stand names no more servers, it leaves room
 pub HasRoom-fewer : (books : BooksView) (k : ℕ) (stand : Stand) → k < length books.shards
     → HasRoom books.servers books.groups books.shards
     → AllNamed (λ b. names (shard_at books.shards k).stand b ≡ true) stand
@@ -79,7 +79,7 @@ HasRoom-fewer books k stand inside room named =
           omega (arith, own, room.limit g d h, count_in-with_stand books.servers books.shards k g d stand inside);
     }
 
--- a stand that names no further server than one that fits leaves room
+-- if a stand names no more servers than one that fits, it leaves room
 pub HasRoom-named : (books : BooksView) (k a : ℕ) (stand : Stand) → k < length books.shards
     → HasRoom books.servers books.groups books.shards
     → fit books k a ≡ Ok tt
@@ -144,13 +144,13 @@ HasRoom-named books k a stand inside room e named =
     other b apart (inl same) = absurd (apart same)
     other b apart (inr n) = n
 
--- so does the stand that serves the shard
+-- the stand that serves the shard leaves room too
 pub HasRoom-serving : (books : BooksView) (k a : ℕ) → k < length books.shards
     → HasRoom books.servers books.groups books.shards → fit books k a ≡ Ok tt
     → HasRoom books.servers books.groups (with_stand books.shards k (Serving a))
 HasRoom-serving books k a inside room e = HasRoom-named books k a (Serving a) inside room e (inl refl, tt)
 
--- so does the stand that makes ready beside the owner
+-- the stand that prepares a server beside the owner leaves room too
 pub HasRoom-prepared : (books : BooksView) (k a owner : ℕ) → k < length books.shards
     → HasRoom books.servers books.groups books.shards → fit books k a ≡ Ok tt
     → (shard_at books.shards k).stand ≡ Serving owner

@@ -1,4 +1,4 @@
--- What a stand adds at the places of its servers.
+-- How much a stand adds at the places of its servers.
 use Rattle.std.proofs.Common.{ℕ, ◌+◌, ◌<◌, ◌≡◌, zero, suc, Bool, true, false, cond, eqb, List, [], ◌∷◌}
 use Rattle.std.proofs.Common.{length, get_or, Option, Some, None, sym, refl, ap, ◌∙◌, inl, inr, arith, ◌||◌}
 use Rattle.std.specs.Prelude.{IfSome, option_map, remove, slice_index}
@@ -15,7 +15,7 @@ use Rattle.sm_place.specs.Books.{moved, no_shard, place_of, IsKnown, shard_at, w
 use Rattle.sm_place.specs.lemmas.Changed.{same_place}
 use Rattle.sm_place.specs.Room.{load_on, load_by}
 
--- places tell servers apart
+-- servers with different places are different
 pub eqb-place : (servers : List ServerRow) (a b : ℕ) → IsKnown servers a
     → eqb (place_of servers b) (place_of servers a) ≡ eqb b a
 eqb-place servers a b known =
@@ -32,7 +32,7 @@ pub passes-place : (servers : List ServerRow) (a : ℕ) → IsKnown servers a �
 passes-place servers a known None = refl
 passes-place servers a known (Some b) = eqb-place servers a b known
 
--- a server gets the amount at its place where the stand names it
+-- a server gets the amount at its place if the stand names it
 pub amount_at-place : (servers : List ServerRow) (a : ℕ) → IsKnown servers a → (x y : Option ℕ) (n : ℕ)
     → amount_at (option_map (place_of servers) x) (option_map (place_of servers) y) n (place_of servers a)
     ≡ cond (passes (λ b. eqb b a) x || passes (λ b. eqb b a) y) n 0
@@ -41,14 +41,14 @@ amount_at-place servers a known x y n =
     (passes-place servers a known x)
     ∙ ap (λ (p : Bool). cond (passes (λ b. eqb b a) x || p) n 0) (passes-place servers a known y)
 
--- the server gets the shard's load at its place where the stand names it
+-- the server gets the shard's load at its place if the stand names it
 pub amount_at-load : (servers : List ServerRow) (a : ℕ) → IsKnown servers a → (stand : Stand) (n : ℕ)
     → amount_at (option_map (place_of servers) (owner_of stand)) (option_map (place_of servers) (other_of stand)) n
     (place_of servers a)
     ≡ cond (names stand a) n 0
 amount_at-load servers a known stand n = amount_at-place servers a known (owner_of stand) (other_of stand) n
 
--- without one shard, a server has that much less to bear
+-- without one shard, a server bears that much less
 pub load_on-remove : (shards : List Shard) (k a : ℕ) → k < length shards
     → load_on (remove shards k) a + load_by a (shard_at shards k) ≡ load_on shards a
 load_on-remove shards k a h = sum_by-remove (load_by a) shards k no_shard h
@@ -58,7 +58,7 @@ pub load_on-with_stand : (shards : List Shard) (k a : ℕ) (stand : Stand) → k
     ≡ load_on shards a + load_by a (moved (shard_at shards k) stand)
 load_on-with_stand shards k a stand h = sum_by-set (load_by a) shards k (moved (shard_at shards k) stand) no_shard h
 
--- a place that is hit is that of a server of the two
+-- a place that is hit is the place of one of the two servers
 pub hit_place : (servers : List ServerRow) (x y : Option ℕ) (i : ℕ) → IfSome x (IsKnown servers)
     → IfSome y (IsKnown servers)
     → is_hit (option_map (place_of servers) x) (option_map (place_of servers) y) i ≡ true
@@ -137,7 +137,7 @@ HasLoads-moved servers shards k stand loads0 loads1 loads2 x y x' y' n inside ha
           );
     }
 
--- what is raised fits, since the new sum does
+-- the raised counter fits, because the new sum does
 pub raise_fits : (servers : List ServerRow) (shards : List Shard) (k : ℕ) (stand : Stand) (loads0 loads1 : List ℕ)
     (x y x' y' : Option ℕ) (n m : ℕ)
     → k < length shards
@@ -168,7 +168,7 @@ raise_fits servers shards k stand loads0 loads1 x y x' y' n m inside known has a
     ) in
     rw (← found.1.1) goal
 
--- what an index gives is the shard
+-- the result of an index is the shard
 pub shard_is : (shards : List Shard) (k : ℕ) (shard : Shard) → k < length shards → shard ≡ get_or shards k shard
     → shard ≡ shard_at shards k
 shard_is [] k shard h e = absurd (omega arith)

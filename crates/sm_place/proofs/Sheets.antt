@@ -1,4 +1,4 @@
--- What a sheet has at each place.
+-- The contents of a sheet at each place.
 use Rattle.std.proofs.Common.{ℕ, ◌<◌, ◌≡◌, List, length, get_or, set, Option, Some, None, ap, sym, ◌∙◌, arith}
 use Rattle.std.proofs.Common.{cond, eqb, true, false, inl, inr}
 use Rattle.std.specs.Prelude.{slice_index, unwrap_or}
@@ -17,14 +17,14 @@ pub at-counts_of : (table : List ℕ) (f : ℕ → Option ℕ) (i : ℕ) → i <
     → slice_index (counts_of table f) i ≡ sheet_count table f i
 at-counts_of table f i h = get_or-map-range_with_len (sheet_count table f) 0 (length table) i i 0 h (omega arith)
 
--- where none was set they are the table
+-- if none was set, the counters are the table's
 pub counts_of-none : (table : List ℕ) (f : ℕ → Option ℕ) → ((q : ℕ) → f q ≡ None) → counts_of table f ≡ table
 counts_of-none table f none =
     ext_get_or 0 (counts_of table f) table (length-counts_of table f) (λ i h.
     let inside : i < length table = rw (length-counts_of table f) at h in
     at-counts_of table f i inside ∙ ap (λ o. unwrap_or o (slice_index table i)) (none i))
 
--- where one was set it is written
+-- if one was set, it is written
 pub counts_of-set : (table : List ℕ) (f g : ℕ → Option ℕ) (at n : ℕ) → at < length (counts_of table f)
     → ((q : ℕ) → g q ≡ cond (eqb at q) (Some n) (f q))
     → counts_of table g ≡ set (counts_of table f) at n

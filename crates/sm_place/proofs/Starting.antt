@@ -1,4 +1,4 @@
--- Why rows that keep their rules make books.
+-- Rows that keep their rules make books.
 use Rattle.std.proofs.Common.{ℕ, zero, suc, ◌*◌, ◌<◌, ◌≤◌, ◌^◌, ◌≡◌, Bool, true, false, cond, eqb, List}
 use Rattle.std.proofs.Common.{[], ◌∷◌, length, get_or, map, sym, refl, ◌∙◌, arith, ◌&&◌, Option, Some, None}
 use Rattle.std.specs.Prelude.{replicate}

@@ -8,7 +8,7 @@ use Rattle.sm_place.specs.Books.{BooksView}
 use Rattle.sm_place.specs.Room.{fit}
 use Rattle.sm_place.specs.Plans.{books_after, first_fit, joined, plan, turn, KeepsRoom}
 
--- where there is no first fit, none of the servers fits
+-- if there is no first fit, the shard fits none of the servers
 pub first_fit-none : (books : BooksView) (k : ℕ) (servers : List ℕ) → first_fit books k servers ≡ None
     → All (λ a. fit books k a ≢ Ok tt) servers
 first_fit-none books k [] e = All-nil (λ a. fit books k a ≢ Ok tt)

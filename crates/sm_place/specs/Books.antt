@@ -1,4 +1,4 @@
--- What the books hold, how a server's row is found, and which rows make books.
+-- The contents of the books, how a server's row is found, and which rows are books.
 use Rattle.std.specs.Prelude.{ℕ, Option, Some, None, List, ◌<◌, ◌==◌, if◌then◌else◌, length, map, replicate}
 use Rattle.std.specs.Prelude.{slice_index_or, slice_set}
 use Rattle.std.specs.List.{position_or_len}
@@ -16,7 +16,7 @@ use Rattle.sm_place.specs.declared.books_fault.BooksFault.TheVariants.{BadServer
 use Rattle.sm_rows.specs.Rows.{are_servers, are_groups, are_shards}
 use Rattle.sm_rows.specs.Domains.{are_domains}
 
--- what the books hold; the states are in the order of the servers
+-- the contents of the books; the states are in the order of the servers
 pub record BooksView : Type 0 where
   pub servers : List ServerRow
   pub groups : List GroupRow
@@ -24,19 +24,19 @@ pub record BooksView : Type 0 where
   pub states : List ServerState
   pub domains : List DomainRow
 
--- what is read where there is no row of a server
+-- the row that is read if the server has none
 abbrev pub no_server : ServerRow
 no_server = record { id = 0; domain = 0; capacity = 0 }
 
--- what is read where there is no row of a group
+-- the row that is read if the group has none
 abbrev pub no_group : GroupRow
 no_group = record { limit = 0; down = 0 }
 
--- what is read where there is no shard
+-- the shard that is read if there is none
 abbrev pub no_shard : Shard
 no_shard = record { row = record { group = 0; load = 0; cap = 0 }; stand = Vacant }
 
--- the place of the server's row, or how many rows there are
+-- the place of the server's row, or the number of rows if it has none
 abbrev pub place_of : List ServerRow → ℕ → ℕ
 place_of servers a = position_or_len (λ row. row.id == a) servers
 
@@ -64,7 +64,7 @@ shard_at shards k = slice_index_or shards k no_shard
 abbrev pub moved : Shard → Stand → Shard
 moved shard stand = record { row = shard.row; stand = stand }
 
--- the shards where shard k has this stand
+-- the shards, except that shard k has this stand
 abbrev pub with_stand : List Shard → ℕ → Stand → List Shard
 with_stand shards k stand = slice_set shards k (moved (shard_at shards k) stand)
 
@@ -72,11 +72,11 @@ with_stand shards k stand = slice_set shards k (moved (shard_at shards k) stand)
 abbrev pub state_of : BooksView → ℕ → ServerState
 state_of books a = slice_index_or books.states (place_of books.servers a) Up
 
--- the books where the server is in this state
+-- the books, except that the server is in this state
 abbrev pub with_state : BooksView → ℕ → ServerState → BooksView
 with_state books a state = record books { states = slice_set books.states (place_of books.servers a) state }
 
--- the first fault of rows, in the order BadServers, BadGroups, BadShards, BadDomains; none where they make books
+-- the first fault of rows, in the order BadServers, BadGroups, BadShards, BadDomains; there is none if they are books
 abbrev pub first_books_fault : List ServerRow → List GroupRow → List ShardRow → List DomainRow → Option BooksFault
 first_books_fault servers groups shards domains =
     if are_servers servers then (if are_groups groups
@@ -87,7 +87,7 @@ first_books_fault servers groups shards domains =
 abbrev pub vacant_shard : ShardRow → Shard
 vacant_shard row = record { row = row; stand = Vacant }
 
--- the books at the start: all servers are up, all shards vacant
+-- the books at the start: all servers are up, and all shards are vacant
 abbrev pub new_books : List ServerRow → List GroupRow → List ShardRow → List DomainRow → BooksView
 new_books servers groups shards domains = record {
   servers = servers;

@@ -25,11 +25,11 @@ pub record AreCells (servers : List ServerRow) (ranking : Ranking) (g : ℕ) (st
 abbrev pub is_hit : Option ℕ → Option ℕ → ℕ → Bool
 is_hit first second i = passes (λ at. at == i) first || passes (λ at. at == i) second
 
--- what place i gets
+-- the amount that place i gets
 abbrev pub amount_at : Option ℕ → Option ℕ → ℕ → ℕ → ℕ
 amount_at first second amount i = if is_hit first second i then amount else 0
 
--- the place, where there is one, is below n
+-- if there is a place, it is below n
 abbrev pub AreInside : ℕ → Option ℕ → Type 0
 AreInside n None = Unit {0}
 AreInside n (Some at) = at < n

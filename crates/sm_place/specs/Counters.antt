@@ -1,4 +1,4 @@
--- What the counters of the books keep: each is a sum or a count over all rows.
+-- The counters of the books. Each is a sum or a count over all rows.
 use Rattle.std.specs.Prelude.{ℕ, All, List, ◌≡◌, ◌+◌, ◌*◌, ◌^◌, ◌<◌, ◌≤◌, length, map, slice_index, slice_index_or}
 use Rattle.std.specs.List.Sorted.{IsStrictlyIncreasing}
 use Rattle.sm_ranges.specs.declared.limits.TheConstants.{MAX_SERVER, MAX_SHARDS}
@@ -18,7 +18,7 @@ pub record HasPlaces (servers : List ServerRow) (places : List ℕ) : Type 0 whe
   pub len : length places ≡ MAX_SERVER + 1
   pub at : (a : ℕ) → a ≤ MAX_SERVER → slice_index places a ≡ place_of servers a
 
--- the numbers of the servers are such, and rise, and the rows keep to their ranges
+-- the numbers of the servers are in their range and rise, and the rows keep to their ranges
 pub record HasRanges (servers : List ServerRow) (groups : List GroupRow) (states : List ServerState)
     (ranking : Ranking) : Type 0 where
   pub numbers : All (λ row. IsServer row.id) servers
@@ -40,7 +40,7 @@ pub record HasLoads (servers : List ServerRow) (shards : List Shard) (loads : Li
   pub len : length loads ≡ length servers
   pub at : (a : ℕ) → IsKnown servers a → slice_index loads (place_of servers a) ≡ load_on shards a
 
--- the group has a counter for each domain of a rank
+-- the group has a counter for each domain that has a rank
 pub record HasCells (counts : List ℕ) (g : ℕ) (ranking : Ranking) : Type 0 where
   pub at : (d : ℕ) → rank_of ranking d < ranking.width → domain_cell ranking g d < length counts
 
@@ -50,7 +50,7 @@ pub record HasCounts (servers : List ServerRow) (shards : List Shard) (counts : 
   pub at : (g d : ℕ) → rank_of ranking d < ranking.width → domain_cell ranking g d < length counts
       → slice_index counts (domain_cell ranking g d) ≡ count_in servers shards g d
 
--- what is true of all books: rows in their ranges, room, and counters that agree with the rows
+-- the facts about all books: rows in their ranges, room, and counters that agree with the rows
 pub record IsTallied
     (servers : List ServerRow) (groups : List GroupRow) (shards : List Shard) (states : List ServerState)
     (loads counts : List ℕ) (ranking : Ranking) : Type 0 where

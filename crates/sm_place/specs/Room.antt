@@ -12,11 +12,11 @@ use Rattle.sm_ranges.specs.Stand.{names, names_one}
 use Rattle.sm_place.specs.ServerState.{is_leaving}
 use Rattle.sm_place.specs.Books.{BooksView, no_group, IsKnown, row_by_id, domain_of, shard_at, state_of}
 
--- what the shard takes of the server's capacity
+-- how much of the server's capacity the shard takes
 abbrev pub load_by : ℕ → Shard → ℕ
 load_by a shard = if names shard.stand a then shard.row.load else 0
 
--- the loads of the shards that name the server
+-- the sum of the loads of the shards that name the server
 abbrev pub load_on : List Shard → ℕ → ℕ
 load_on shards a = sum_by (load_by a) shards
 
@@ -24,7 +24,7 @@ load_on shards a = sum_by (load_by a) shards
 abbrev pub names_domain : List ServerRow → Stand → ℕ → Bool
 names_domain servers stand d = names_one (λ a. domain_of servers a == d) stand
 
--- whether the shard is of the group and names a server of the domain
+-- whether the shard is in the group and names a server of the domain
 abbrev pub is_in : List ServerRow → ℕ → ℕ → Shard → Bool
 is_in servers g d shard = (shard.row.group == g) && names_domain servers shard.stand d
 

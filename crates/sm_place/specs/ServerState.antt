@@ -28,11 +28,11 @@ abbrev pub is_failed : ServerState → Bool
 is_failed Failed = true
 is_failed state = false
 
--- whether a server in this state is away by approval: a failed one is not
+-- whether a server in this state is away by approval; a failed one is not
 abbrev pub is_away : ServerState → Bool
 is_away state = is_approved state || is_stopped state
 
--- whether it takes no further shards
+-- whether it takes no more shards
 abbrev pub is_leaving : ServerState → Bool
 is_leaving state = is_away state || is_failed state
 

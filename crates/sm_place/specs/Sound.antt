@@ -1,4 +1,4 @@
--- What holds of all books.
+-- The facts about all books.
 use Rattle.std.specs.Prelude.{ℕ, All, ◌≡◌, ◌<◌, ◌≤◌, length, map}
 use Rattle.std.specs.List.Sorted.{IsStrictlyIncreasing}
 use Rattle.sm_ranges.specs.declared.limits.TheConstants.{MAX_SHARDS}
@@ -8,8 +8,8 @@ use Rattle.sm_ranges.specs.ServerId.{IsServer}
 use Rattle.sm_ranges.specs.Stand.{AllNamed}
 use Rattle.sm_place.specs.Room.{HasRoom}
 
--- the numbers of the servers are such, and rise, each server has a state, each shard's group and servers have rows, and
--- there is room
+-- the numbers of the servers are in their range and rise, each server has a state, each shard's group and servers have
+-- rows, and there is room
 pub record AreSound (books : BooksView) : Type 0 where
   pub numbers : All (λ row. IsServer row.id) books.servers
   pub servers_rise : IsStrictlyIncreasing (map (λ row. row.id) books.servers)

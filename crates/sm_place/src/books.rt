@@ -28,8 +28,8 @@ use sm_rows::{DomainRow, GroupRow, ServerRow, ShardRow};
 use std::alloc::{AllocError, Global};
 use std::marker::Model;
 
-/// The rows of servers, groups, shards and fault domains, with the state of each server and the stand of each shard.
-/// At all times each server has the capacity for the shards that name it, and each group is within its limit in each
+/// The rows of servers, groups, shards and fault domains, with the state of each server and the stand of each shard. At
+/// all times each server has the capacity for the shards that name it, and each group is within its limit in each
 /// domain.
 #[derive(Drop)]
 pub struct Books {
@@ -37,9 +37,9 @@ pub struct Books {
     groups: Vec<GroupRow>,
     shards: Vec<Shard>,
     states: Vec<ServerState>,
-    // By the place of a server: the loads of the shards that name it.
+    // the loads of the shards that name a server, by the server's place
     loads: Vec<u32>,
-    // By group and rank of a domain: the shards that name a server of the domain, 4,096 at most.
+    // how many shards name a server of a domain, by group and the domain's rank: at most 4,096
     counts: Vec<u16>,
     domains: Vec<DomainRow>,
     ranks: Ranks,
@@ -64,7 +64,8 @@ impl Model for Books {
 }
 
 impl Books {
-    /// The books of these rows, all servers up and all shards vacant, or else the first fault that applies.
+    /// Makes the books of these rows, with all servers up and all shards vacant. If the rows break a rule, returns the
+    /// first fault that applies.
     pub fn new(
         alloc: Global,
         servers: &[ServerRow],
@@ -94,14 +95,14 @@ impl Books {
         })
     }
 
-    /// Whether the server has a row.
+    /// Returns whether the server has a row.
     pub fn knows(&self, a: ServerId) -> bool
         ensures { IsTrue result ↔ IsKnown self.now.servers a }
     {
         self.roster.knows(a)
     }
 
-    /// The rows of the servers, by rising numbers.
+    /// Returns the rows of the servers, in rising order.
     pub fn rows(&self) -> &[ServerRow]
         ensures servers { result.now ≡ self.now.servers }
         ensures rising { IsStrictlyIncreasing (map (λ row. row.id) result.now) }
@@ -109,7 +110,7 @@ impl Books {
         self.roster.rows()
     }
 
-    /// The row of the server.
+    /// Returns the row of the server.
     pub fn row(&self, a: ServerId) -> ServerRow
         requires { IsKnown self.now.servers a }
         ensures { result ≡ row_by_id self.now.servers a }
@@ -117,43 +118,43 @@ impl Books {
         self.roster.row(a)
     }
 
-    /// The rows of the groups.
+    /// Returns the rows of the groups.
     pub fn groups(&self) -> &[GroupRow]
         ensures { result.now ≡ self.now.groups }
     {
         self.groups.as_slice()
     }
 
-    /// The rows of the shards by number, each with its stand.
+    /// Returns the rows of the shards by number, each with its stand.
     pub fn shards(&self) -> &[Shard]
         ensures { result.now ≡ self.now.shards }
     {
         self.shards.as_slice()
     }
 
-    /// The states, in the order of the servers.
+    /// Returns the states, in the order of the servers.
     pub fn states(&self) -> &[ServerState]
         ensures { result.now ≡ self.now.states }
     {
         self.states.as_slice()
     }
 
-    /// The rows of the domains, by rising numbers.
+    /// Returns the rows of the domains, in rising order.
     pub fn domains(&self) -> &[DomainRow]
         ensures { result.now ≡ self.now.domains }
     {
         self.domains.as_slice()
     }
 
-    /// Says, for proofs alone, what holds of all books. It does nothing.
+    /// Tells proofs the facts about all books. It does nothing.
     pub fn soundness(&self)
         ensures { AreSound self.now }
     {
-        // This opens the value, whose invariant the proof cites.
+        // This opens the value, because the proof cites its invariant.
         let _ = &self.ranks;
     }
 
-    /// The stand of the shard.
+    /// Returns the stand of the shard.
     pub fn stand(&self, k: ShardId) -> Stand
         requires { k < length self.now.shards }
         ensures { result ≡ (shard_at self.now.shards k).stand }
@@ -161,7 +162,7 @@ impl Books {
         shard_at(&self.shards, k.index()).stand
     }
 
-    /// The state of the server.
+    /// Returns the state of the server.
     pub fn state(&self, a: ServerId) -> ServerState
         requires { IsKnown self.now.servers a }
         ensures { result ≡ state_of self.now a }
@@ -178,7 +179,8 @@ impl Books {
         self.states[at] = state;
     }
 
-    /// Sets the stand of the shard, where the servers that the stand names have rows, and the books have room for it.
+    /// Sets the stand of the shard. The servers that the stand names must have rows, and the books must have room for
+    /// it.
     pub fn set_stand(&mut self, k: ShardId, stand: Stand)
         requires shard { k < length self.old.shards }
         requires known { AllNamed (IsKnown self.old.servers) stand }
@@ -199,8 +201,8 @@ impl Books {
         self.shards[at] = Shard { row, stand };
     }
 
-    /// Whether the shard may newly name the server, or else the first fault that applies.
-    /// What the shard itself takes of the server now is not counted.
+    /// Returns whether the shard may newly name the server, or the first fault that applies. If the shard already takes
+    /// capacity of the server, this isn't counted.
     pub fn fits(&self, k: ShardId, a: ServerId) -> Result<(), PlaceFault>
         requires shard { k < length self.now.shards }
         requires known { IsKnown self.now.servers a }
@@ -218,7 +220,7 @@ impl Books {
         Ok(())
     }
 
-    // Whether the shard and the others that name the server exceed its capacity.
+    // Returns whether the shard and the others that name the server exceed its capacity.
     fn exceeds_capacity(&self, k: ShardId, a: ServerId) -> bool
         requires shard { k < length self.now.shards }
         requires known { IsKnown self.now.servers a }
@@ -230,7 +232,7 @@ impl Books {
         u64::from(others) + u64::from(own) > u64::from(self.roster.row(a).capacity)
     }
 
-    // Whether the shard and the others of its group in the server's domain exceed the group's limit.
+    // Returns whether the shard and the others of its group in the server's domain exceed the group's limit.
     fn exceeds_limit(&self, k: ShardId, a: ServerId) -> bool
         requires shard { k < length self.now.shards }
         requires known { IsKnown self.now.servers a }
@@ -244,8 +246,8 @@ impl Books {
         others >= u32::from(self.groups[usize::from(group)].limit)
     }
 
-    /// Each Vacant shard by number goes to the lowest-numbered server that it fits, earlier moves counted as made.
-    /// The shards that fit no server in their turn are left.
+    /// Plans where the Vacant shards go. In the order of their numbers, each shard goes to the lowest server that it
+    /// fits, as if the earlier moves were made. If a shard fits no server in its turn, it is left.
     pub fn plan_assign(&self, alloc: Global) -> Result<Plan, AllocError>
         ensures plan { IfOk result (λ plan. plan ≡ assign_plan self.now) }
         ensures keeps_room { IfOk result (λ plan. KeepsRoom self.now (shards_to_move None self.now.shards)
@@ -254,9 +256,9 @@ impl Books {
         self.plan(alloc, &None)
     }
 
-    /// Each shard that the server serves, by number, goes to the lowest-numbered other server that it fits,
-    /// earlier moves counted as wholly migrated. The shards that fit none of the other servers in their turn are left.
-    /// A shard that names the server in another stand is not in the plan.
+    /// Plans where the shards go that the server serves. In the order of their numbers, each shard goes to the lowest
+    /// other server that it fits, as if the earlier ones were wholly migrated. If a shard fits no other server in its
+    /// turn, it is left. A shard that names the server in another stand is not in the plan.
     pub fn plan_drain(&self, alloc: Global, a: ServerId) -> Result<Plan, AllocError>
         ensures plan { IfOk result (λ plan. plan ≡ drain_plan self.now a) }
         ensures keeps_room { IfOk result (λ plan. KeepsRoom self.now (shards_to_move (Some a) self.now.shards)
@@ -265,8 +267,8 @@ impl Books {
         self.plan(alloc, &Some(a))
     }
 
-    // The plan for the shards that the server serves, or without a server for the Vacant ones. The moves are made in a
-    // draft.
+    // Returns the plan for the shards that the server serves, or, without a server, for the Vacant shards. It makes the
+    // moves in a draft.
     fn plan(&self, alloc: Global, from: &Option<ServerId>) -> Result<Plan, AllocError>
         ensures plan { IfOk result (λ found. found ≡ plan self.now (shards_to_move from.now self.now.shards)
             (servers_but from.now self.now.servers)) }
@@ -282,7 +284,7 @@ impl Books {
         Ok(plan)
     }
 
-    // The same books, in which a plan makes its moves.
+    // Returns a copy of the books in which a plan can make its moves.
     fn draft(&self, alloc: Global) -> Result<Draft<'_>, AllocError>
         ensures { IfOk result (λ draft. draft ≡ self.now) }
     {

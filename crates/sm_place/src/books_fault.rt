@@ -7,7 +7,7 @@ use sm_rows::{
 use std::alloc::AllocError;
 use thiserror::Error;
 
-/// Why rows make no books: the first reason that applies, in this order.
+/// Why rows are not books: the first reason that applies, in this order.
 #[derive(Clone, Copy, Debug, PartialEq, Eq, Drop, Error)]
 pub enum BooksFault {
     /// There are not 1 to 4,095 servers, their numbers do not rise, or a domain is above 4,095.
@@ -22,13 +22,13 @@ pub enum BooksFault {
     /// The domains are not those of the servers, each once by rising numbers, or a `down` is above 4,095.
     #[error("the domains break their rules")]
     BadDomains,
-    /// The rows keep their rules, and memory for the books was refused.
+    /// The rows keep their rules, but memory for the books was refused.
     #[error("out of memory")]
     NoMemory,
 }
 
 impl BooksFault {
-    /// The first fault of the rows, memory aside.
+    /// Returns the first fault of the rows, except for lack of memory.
     pub(crate) fn first(
         servers: &[ServerRow],
         groups: &[GroupRow],

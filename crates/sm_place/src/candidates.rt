@@ -8,7 +8,7 @@ use sm_ranges::shard_id::ShardId;
 use sm_ranges::stand::Stand;
 use std::alloc::{AllocError, Global};
 
-/// The numbers of the shards that the server serves, or without a server of the Vacant ones.
+/// Returns the numbers of the shards that the server serves. Without a server, returns those of the Vacant shards.
 pub(crate) fn shards_to_move(
     alloc: Global,
     shards: &[Shard],
@@ -26,7 +26,7 @@ pub(crate) fn shards_to_move(
     Ok(numbers)
 }
 
-// The shard of the number.
+// Returns the shard with this number.
 fn shard_id(number: usize) -> ShardId
     requires { number < MAX_SHARDS }
     ensures { result ≡ number }
@@ -34,7 +34,8 @@ fn shard_id(number: usize) -> ShardId
     ShardId::new(number as u16).unwrap()
 }
 
-// Whether a plan moves a shard of this stand: one that the server serves, or without a server a Vacant one.
+// Returns whether a plan moves a shard of this stand. With a server, it moves the shards that the server serves;
+// without one, the Vacant shards.
 fn stands_to_move(stand: &Stand, from: &Option<ServerId>) -> bool
     ensures { result ≡ stands_to_move from.now stand.now }
 {

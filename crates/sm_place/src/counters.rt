@@ -1,7 +1,7 @@
 ghost use Rattle.std.specs.Prelude.{◌≡◌, ℕ, ◌+◌, ◌^◌, ◌<◌, ◌≤◌, length, slice_index, true};
 ghost use Rattle.sm_place.specs.Cells.{amount_at, is_hit, AreInside};
 
-/// Adds the load at both places, once where they are the same.
+/// Adds the load at both places, or once if the places are the same.
 pub(crate) fn raise(loads: &mut [u32], first: Option<usize>, second: Option<usize>, load: u32)
     requires first { AreInside (length loads.old) first }
     requires second { AreInside (length loads.old) second }
@@ -19,7 +19,7 @@ pub(crate) fn raise(loads: &mut [u32], first: Option<usize>, second: Option<usiz
     }
 }
 
-/// Takes the load away at both places, once where they are the same.
+/// Takes the load away at both places, or once if the places are the same.
 pub(crate) fn lower(loads: &mut [u32], first: Option<usize>, second: Option<usize>, load: u32)
     requires first { AreInside (length loads.old) first }
     requires second { AreInside (length loads.old) second }
@@ -37,7 +37,7 @@ pub(crate) fn lower(loads: &mut [u32], first: Option<usize>, second: Option<usiz
     }
 }
 
-/// Counts one more at both places, once where they are the same.
+/// Adds one at both places, or once if the places are the same.
 pub(crate) fn raise_each(counts: &mut [u16], first: Option<usize>, second: Option<usize>)
     requires first { AreInside (length counts.old) first }
     requires second { AreInside (length counts.old) second }
@@ -55,7 +55,7 @@ pub(crate) fn raise_each(counts: &mut [u16], first: Option<usize>, second: Optio
     }
 }
 
-/// Counts one less at both places, once where they are the same.
+/// Takes one away at both places, or once if the places are the same.
 pub(crate) fn lower_each(counts: &mut [u16], first: Option<usize>, second: Option<usize>)
     requires first { AreInside (length counts.old) first }
     requires second { AreInside (length counts.old) second }

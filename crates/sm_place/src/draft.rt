@@ -21,8 +21,8 @@ use sm_rows::{DomainRow, GroupRow};
 use std::alloc::AllocError;
 use std::marker::Model;
 
-/// Books in which a plan makes its moves, beside those that it was made of. It copies what is by shard or by server,
-/// and of the counters by group and domain only those that change.
+/// A copy of the books in which a plan makes its moves. It copies everything by shard or by server. Of the counters by
+/// group and domain it copies only those that change.
 #[derive(Drop)]
 pub(crate) struct Draft<'a> {
     pub(crate) roster: &'a Roster,
@@ -54,8 +54,8 @@ impl<'a> Model for Draft<'a> {
 }
 
 impl<'a> Draft<'a> {
-    /// Has the first server that the shard fits serve it, but for the one that shards are moved from, and says so in
-    /// the plan.
+    /// Makes the first server that the shard fits serve it, and adds the move to the plan. The server from which shards
+    /// move is passed over.
     pub(crate) fn place(
         self,
         k: ShardId,
@@ -80,7 +80,7 @@ impl<'a> Draft<'a> {
         }
     }
 
-    // Has the server serve the shard, which fits it.
+    // Makes the server serve the shard. The shard must fit it.
     fn serve(self, k: ShardId, a: ServerId) -> Result<Draft<'a>, AllocError>
         requires shard { k < length self.shards }
         requires known { IsKnown self.servers a }
@@ -116,7 +116,7 @@ impl<'a> Draft<'a> {
         })
     }
 
-    // The first server that the shard fits, but for the one that shards are moved from.
+    // Returns the first server that the shard fits. The server from which shards move is passed over.
     fn first_fit(&self, k: ShardId, from: &Option<ServerId>) -> Option<ServerId>
         requires { k < length self.now.shards }
         ensures first { result ≡ first_fit self.now k (servers_but from.now self.now.servers) }
@@ -132,8 +132,8 @@ impl<'a> Draft<'a> {
         None
     }
 
-    // Whether the shard fits the server at the place, and the server isn't the one that shards are moved from.
-    // A shard that is said to be Vacant is.
+    // Returns whether the shard fits the server at this place, and the server isn't the one from which shards move. If
+    // `is_vacant` says so, the shard must be Vacant.
     fn takes(&self, k: ShardId, from: &Option<ServerId>, at: usize, is_vacant: bool) -> bool
         requires shard { k < length self.now.shards }
         requires vacant { IsTrue is_vacant → (shard_at self.now.shards k).stand ≡ Vacant }
@@ -148,7 +148,7 @@ impl<'a> Draft<'a> {
         }
     }
 
-    // Whether the shard fits the server at the place. A shard that is said to be Vacant is.
+    // Returns whether the shard fits the server at this place. If `is_vacant` says so, the shard must be Vacant.
     fn fits_at(&self, k: ShardId, at: usize, is_vacant: bool) -> bool
         requires shard { k < length self.now.shards }
         requires vacant { IsTrue is_vacant → (shard_at self.now.shards k).stand ≡ Vacant }
@@ -166,7 +166,8 @@ impl<'a> Draft<'a> {
         }
     }
 
-    // Whether the server has capacity for the shard and the others that name it. For one that the shard names it has.
+    // Returns whether the server has capacity for the shard and the others that name it. If the shard already names the
+    // server, it has.
     fn has_capacity(&self, k: ShardId, at: usize, is_vacant: bool) -> bool
         requires shard { k < length self.now.shards }
         requires vacant { IsTrue is_vacant → (shard_at self.now.shards k).stand ≡ Vacant }
@@ -181,7 +182,7 @@ impl<'a> Draft<'a> {
             || (!is_vacant && shard.stand.names(row.id))
     }
 
-    // Whether the shard and the others of its group in the server's domain exceed the group's limit.
+    // Returns whether the shard and the others of its group in the server's domain exceed the group's limit.
     fn exceeds_limit(&self, k: ShardId, at: usize) -> bool
         requires shard { k < length self.now.shards }
         requires place { at < length self.now.servers }

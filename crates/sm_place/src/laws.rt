@@ -8,8 +8,9 @@ ghost use Rattle.sm_place.specs.Room.{fit, HasRoom};
 ghost use Rattle.sm_ranges.specs.Stand.{AllNamed, names};
 ghost use Rattle.sm_place.specs.ServerState.{is_leaving};
 
-/// A server that a shard fits is not leaving, and there is room for each stand that names it beside servers that the
-/// shard names already: so for the server to serve the shard, or to be prepared beside the owner.
+/// If a shard fits a server, the server is not leaving. There is then room for each stand that names this server, and
+/// beside it only servers that the shard names already. So there is room for the server to serve the shard, or to be
+/// prepared beside the owner.
 pub fn fit_leaves_room()
     ensures stays { (books : BooksView) (k a : ℕ) → fit books k a ≡ Ok tt → is_leaving (state_of books a) ≡ false }
     ensures named { (books : BooksView) (k a : ℕ) (stand : Stand) → k < length books.shards
@@ -25,7 +26,7 @@ pub fn fit_leaves_room()
         → HasRoom books.servers books.groups (with_stand books.shards k (Prepared owner a)) }
 {}
 
-/// A stand that names only servers that the shard names already leaves room.
+/// If a stand names only servers that the shard names already, it leaves room.
 pub fn fewer_names_leave_room()
     ensures { (books : BooksView) (k : ℕ) (stand : Stand) → k < length books.shards
         → HasRoom books.servers books.groups books.shards

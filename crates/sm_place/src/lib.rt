@@ -1,5 +1,5 @@
-//! The books of a service's placement: who is named by which shard, what each server and fault domain can still take,
-//! and plans that respect it.
+//! The books of a service's placement: which shards name which servers, how much each server and fault domain can still
+//! take, and plans that keep to these limits.
 //!
 //! ```rust
 //! let group = GroupRow { limit: 1, down: 0 };

@@ -6,16 +6,17 @@ use sm_ranges::shard_id::ShardId;
 use std::alloc::{AllocError, Global};
 use std::marker::Model;
 
-/// A shard and the server that it goes to.
+/// A shard and the server to which it goes.
 #[derive(Clone, Copy, PartialEq, Eq, Drop)]
 pub struct Move {
     /// The shard that moves.
     pub shard: ShardId,
-    /// The server that is to serve it.
+    /// The server that will serve it.
     pub to: ServerId,
 }
 
-/// Where shards go, and which fit none of the plan's servers in their turn, each in the order of the shards.
+/// The moves of shards, and the shards that fit none of the plan's servers in their turn. Both lists are in the order
+/// of the shards.
 #[derive(Drop)]
 pub struct Plan {
     moves: Vec<Move>,
@@ -31,7 +32,7 @@ impl Model for Plan {
 }
 
 impl Plan {
-    /// The plan of nothing.
+    /// Makes an empty plan.
     pub(crate) fn new(alloc: Global) -> Plan
         ensures { result ≡ no_plan }
     {
@@ -41,14 +42,14 @@ impl Plan {
         }
     }
 
-    /// The moves.
+    /// Returns the moves.
     pub fn moves(&self) -> &[Move]
         ensures { result.now ≡ self.now.moves }
     {
         &self.moves
     }
 
-    /// The shards that fit none of the plan's servers in their turn.
+    /// Returns the shards that fit none of the plan's servers in their turn.
     pub fn left(&self) -> &[ShardId]
         ensures { result.now ≡ self.now.left }
     {
@@ -63,7 +64,7 @@ impl Plan {
         Ok(())
     }
 
-    /// Adds the shard as one that fits none of the plan's servers in its turn.
+    /// Adds the shard to those that fit none of the plan's servers in their turn.
     pub(crate) fn add_left(&mut self, shard: ShardId) -> Result<(), AllocError>
         ensures { OnOk result (self.new ≡ joined self.old (turn shard None)) }
     {

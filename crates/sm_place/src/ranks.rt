@@ -9,13 +9,13 @@ use sm_rows::limits::MAX_DOMAIN;
 use std::alloc::{AllocError, Global};
 use std::marker::Model;
 
-/// What a domain that no server is of has in place of a rank: above each rank, and how many domains there can be.
+/// The rank of a domain without servers. It is above each rank, and equals the greatest number of domains.
 pub const NO_RANK: u16 = MAX_DOMAIN + 1;
 
-/// The ranks of the domains that servers are of: 0, 1 and so on, so that only these domains have counters.
+/// The ranks 0, 1 and so on of the domains that have servers. Only these domains have counters.
 #[derive(Drop)]
 pub struct Ranks {
-    // by domain: its rank, or none
+    // the rank of each domain, or none
     ranks: Vec<u16>,
     width: u16,
 }
@@ -29,7 +29,7 @@ impl Model for Ranks {
 }
 
 impl Ranks {
-    /// The ranks of the domains of these rows, each domain once.
+    /// Makes the ranks of the domains of these rows. Each domain gets one rank.
     pub fn new(alloc: Global, rows: &[ServerRow]) -> Result<Ranks, AllocError>
         requires domains { All (λ row. row.domain ≤ MAX_DOMAIN) rows.now }
         requires few { length rows.now ≤ MAX_SERVER }
@@ -45,14 +45,14 @@ impl Ranks {
         Ok(ranks)
     }
 
-    /// How many domains have a rank.
+    /// Returns how many domains have a rank.
     pub fn width(&self) -> usize
         ensures { result ≡ self.now.width }
     {
         usize::from(self.width)
     }
 
-    /// The rank of the domain, or `NO_RANK`.
+    /// Returns the rank of the domain, or `NO_RANK`.
     pub fn rank(&self, domain: u16) -> u16
         ensures { result ≡ rank_of self.now domain }
     {
@@ -62,7 +62,7 @@ impl Ranks {
         }
     }
 
-    /// Gives the domain the next rank, where it has none.
+    /// Gives the domain the next rank, if it has none.
     fn add(&mut self, domain: u16)
         requires domain { domain < length self.old.ranks }
         requires few { self.old.width < NO_RANK }

@@ -15,14 +15,14 @@ use sm_rows::ServerRow;
 use std::alloc::{AllocError, Global};
 use std::marker::Model;
 
-/// How many numbers there are up to the greatest of a server, 0 included.
+/// How many numbers a server can have, including 0.
 const SERVER_NUMBERS: usize = MAX_SERVER as usize + 1;
 
-/// The rows of the servers, each found by its number.
+/// The rows of the servers. Each is found by its server's number.
 #[derive(Drop)]
 pub struct Roster {
     rows: Vec<ServerRow>,
-    // by number: the place of the row, or how many there are
+    // by number: the place of the row, or the number of rows if the server has none
     places: Vec<u16>,
 }
 
@@ -39,7 +39,7 @@ impl Model for Roster {
 }
 
 impl Roster {
-    /// The rows, whose numbers rise.
+    /// Makes a roster of these rows. Their numbers must rise.
     pub fn new(alloc: Global, rows: &[ServerRow]) -> Result<Roster, AllocError>
         requires rise { IsStrictlyIncreasing (map (λ row. row.id) rows.now) }
         requires few { length rows.now ≤ MAX_SERVER }
@@ -55,21 +55,21 @@ impl Roster {
         })
     }
 
-    /// The rows.
+    /// Returns the rows.
     pub fn rows(&self) -> &[ServerRow]
         ensures { result.now ≡ self.now }
     {
         &self.rows
     }
 
-    /// The place of the server's row, or how many rows there are.
+    /// Returns the place of the server's row, or the number of rows if it has none.
     pub fn place(&self, a: ServerId) -> usize
         ensures { result ≡ place_of self.now a }
     {
         usize::from(self.places[usize::from(a.number())])
     }
 
-    /// The row of the server.
+    /// Returns the row of the server.
     pub fn row(&self, a: ServerId) -> ServerRow
         requires { IsKnown self.now a }
         ensures { result ≡ row_by_id self.now a }
@@ -77,21 +77,21 @@ impl Roster {
         self.rows[self.place(a)]
     }
 
-    /// Whether the server has a row.
+    /// Returns whether the server has a row.
     pub fn knows(&self, a: ServerId) -> bool
         ensures { IsTrue result ↔ IsKnown self.now a }
     {
         self.place(a) < self.rows.len()
     }
 
-    /// The places of the servers that the stand names.
+    /// Returns the places of the servers that the stand names.
     pub(crate) fn places_of(&self, stand: &Stand) -> (Option<usize>, Option<usize>)
         ensures { ArePlaces self.now stand.now result.0 result.1 }
     {
         (self.place_at(stand.owner()), self.place_at(stand.other()))
     }
 
-    /// The place of the row, where there is a server.
+    /// Returns the place of the row, if there is a server.
     fn place_at(&self, server: Option<ServerId>) -> Option<usize>
         ensures { result ≡ option_map (place_of self.now) server }
     {
@@ -101,7 +101,7 @@ impl Roster {
         }
     }
 
-    /// Whether the stand names a server of the domain.
+    /// Returns whether the stand names a server of the domain.
     pub(crate) fn names_domain(&self, stand: &Stand, domain: u16) -> bool
         requires { AllNamed (IsKnown self.now) stand.now }
         ensures { result ≡ names_domain self.now stand.now domain }
@@ -109,7 +109,7 @@ impl Roster {
         self.is_in(stand.owner(), domain) || self.is_in(stand.other(), domain)
     }
 
-    /// Whether there is a server, and it is of the domain.
+    /// Returns whether there is a server and it is in the domain.
     fn is_in(&self, server: Option<ServerId>, domain: u16) -> bool
         requires { IfSome server (IsKnown self.now) }
         ensures { result ≡ passes (λ a. domain_of self.now a == domain) server }
@@ -120,7 +120,8 @@ impl Roster {
         }
     }
 
-    /// The counter of the group and the server's domain: each group has one for each domain of a rank.
+    /// Returns the counter of the group and the server's domain. Each group has a counter for each domain that has a
+    /// rank.
     pub(crate) fn cell(&self, ranks: &Ranks, group: u16, a: ServerId) -> usize
         requires known { IsKnown self.now a }
         requires ranked { AreRanked self.now ranks.now }
@@ -129,7 +130,7 @@ impl Roster {
         usize::from(group) * ranks.width() + usize::from(ranks.rank(self.row(a).domain))
     }
 
-    /// The counters of the group and the domains of the servers that the stand names.
+    /// Returns the counters of the group and the domains of the servers that the stand names.
     pub(crate) fn cells_of(
         &self,
         ranks: &Ranks,
@@ -146,7 +147,7 @@ impl Roster {
         )
     }
 
-    /// The counter, where there is a server.
+    /// Returns the counter, if there is a server.
     fn cell_at(&self, ranks: &Ranks, group: u16, server: Option<ServerId>) -> Option<usize>
         requires known { IfSome server (IsKnown self.now) }
         requires ranked { AreRanked self.now ranks.now }

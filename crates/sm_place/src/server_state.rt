@@ -17,7 +17,7 @@ pub enum ServerState {
 }
 
 impl ServerState {
-    /// Whether the server takes no further shards: it was approved to restart, is stopped or failed.
+    /// Returns whether the server takes no more shards, because it was approved to restart, is stopped or failed.
     pub fn is_leaving(&self) -> bool
         ensures { result ≡ is_leaving self.now }
     {
@@ -27,7 +27,7 @@ impl ServerState {
         }
     }
 
-    /// Whether no requests reach the server: it is stopped or failed.
+    /// Returns whether no requests reach the server, because it is stopped or failed.
     pub fn is_unreached(&self) -> bool
         ensures { result ≡ is_unreached self.now }
     {

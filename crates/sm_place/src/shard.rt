@@ -8,13 +8,13 @@ use std::alloc::{AllocError, Global};
 /// A shard in the books.
 #[derive(Clone, Copy, PartialEq, Eq, Drop)]
 pub struct Shard {
-    /// The shard as the settings give it.
+    /// The shard's row in the settings.
     pub row: ShardRow,
     /// Who owns the shard, and how far a migration of it has come.
     pub stand: Stand,
 }
 
-/// The shard at the place.
+/// Returns the shard at this place.
 pub(crate) fn shard_at(shards: &[Shard], at: usize) -> &Shard
     requires { at < length shards.now }
     ensures { result.now ≡ shard_at shards.now at }
@@ -22,7 +22,7 @@ pub(crate) fn shard_at(shards: &[Shard], at: usize) -> &Shard
     &shards[at]
 }
 
-/// The shards, all vacant.
+/// Returns the shards, all vacant.
 pub(crate) fn vacant_shards(alloc: Global, rows: &[ShardRow]) -> Result<Vec<Shard>, AllocError>
     ensures { IfOk result (λ shards. shards.items ≡ map vacant_shard rows.now) }
 {

@@ -5,11 +5,11 @@ use std::alloc::{AllocError, Global};
 use std::collections::HashMap;
 use std::marker::Model;
 
-/// The counters of a table that stays as it is: what has changed since stands beside it.
+/// The counters of a table that doesn't change itself. Changes are kept beside it.
 #[derive(Drop)]
 pub(crate) struct Sheet<'a> {
     table: &'a [u16],
-    // by place: the counters that were set
+    // the counters that were set, by place
     changed: HashMap<usize, u16>,
 }
 
@@ -24,7 +24,7 @@ impl<'a> Model for Sheet<'a> {
 }
 
 impl<'a> Sheet<'a> {
-    /// The counters of the table.
+    /// Makes a sheet with the counters of the table.
     pub(crate) fn new(alloc: Global, table: &'a [u16]) -> Sheet<'a>
         ensures { result ≡ table.now }
     {
@@ -34,7 +34,7 @@ impl<'a> Sheet<'a> {
         }
     }
 
-    /// The counter at the place.
+    /// Returns the counter at this place.
     pub(crate) fn count(&self, at: usize) -> u16
         requires { at < length self.now }
         ensures { result ≡ slice_index self.now at }
@@ -45,7 +45,7 @@ impl<'a> Sheet<'a> {
         }
     }
 
-    // Sets the counter at the place.
+    // Sets the counter at this place.
     fn set(&mut self, at: usize, count: u16) -> Result<(), AllocError>
         requires { at < length self.old }
         ensures { OnOk result (self.new ≡ slice_set self.old at count) }
@@ -54,7 +54,7 @@ impl<'a> Sheet<'a> {
         Ok(())
     }
 
-    // Counts one more at the place.
+    // Adds one to the counter at this place.
     fn raise_at(&mut self, at: usize) -> Result<(), AllocError>
         requires inside { at < length self.old }
         requires fits { slice_index self.old at + 1 < 2 ^ 16 }
@@ -64,7 +64,7 @@ impl<'a> Sheet<'a> {
         self.set(at, count + 1)
     }
 
-    // Counts one less at the place.
+    // Takes one from the counter at this place.
     fn lower_at(&mut self, at: usize) -> Result<(), AllocError>
         requires inside { at < length self.old }
         requires fits { 1 ≤ slice_index self.old at }
@@ -74,7 +74,8 @@ impl<'a> Sheet<'a> {
         self.set(at, count - 1)
     }
 
-    /// Counts one more at both places, once where they are the same. Where memory is refused, maybe at one alone.
+    /// Adds one to the counters at both places, or once if the places are the same. If memory is refused, only one of
+    /// them may have changed.
     pub(crate) fn raise(
         &mut self,
         first: Option<usize>,
@@ -98,7 +99,8 @@ impl<'a> Sheet<'a> {
         Ok(())
     }
 
-    /// Counts one less at both places, once where they are the same. Where memory is refused, maybe at one alone.
+    /// Takes one from the counters at both places, or once if the places are the same. If memory is refused, only one
+    /// of them may have changed.
     pub(crate) fn lower(
         &mut self,
         first: Option<usize>,
@@ -123,7 +125,7 @@ impl<'a> Sheet<'a> {
     }
 }
 
-// The counter of the table at the place.
+// Returns the counter of the table at this place.
 fn count_at(table: &[u16], at: usize) -> u16
     requires { at < length table.now }
     ensures { result ≡ slice_index table.now at }

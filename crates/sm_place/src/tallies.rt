@@ -14,7 +14,7 @@ use sm_ranges::server_id::ServerId;
 use sm_ranges::stand::Stand;
 use std::alloc::AllocError;
 
-/// What the other shards load the server with.
+/// Returns the load of the other shards on the server.
 pub(crate) fn other_load(
     loads: &[u32],
     roster: &Roster,
@@ -31,7 +31,7 @@ pub(crate) fn other_load(
     loads[place] - load_by(shard_at(shards, at), a)
 }
 
-// What the shard takes of the server's capacity.
+// Returns how much of the server's capacity the shard takes.
 fn load_by(shard: &Shard, a: ServerId) -> u32
     ensures { result ≡ load_by a shard.now }
 {
@@ -42,7 +42,7 @@ fn load_by(shard: &Shard, a: ServerId) -> u32
     }
 }
 
-/// Counts the shard's load at the servers that the new stand names, and no longer at those of the old.
+/// Adds the shard's load to the servers that the new stand names, and takes it from those that the old one named.
 pub(crate) fn move_load(
     loads: &mut [u32],
     roster: &Roster,
@@ -64,7 +64,7 @@ pub(crate) fn move_load(
     raise(loads, owner, other, shard.row.load);
 }
 
-/// How many other shards of the shard's group name a server of the domain of this server.
+/// Returns how many other shards of the shard's group name a server in this server's domain.
 pub(crate) fn other_count(
     counts: &[u16],
     roster: &Roster,
@@ -88,7 +88,7 @@ pub(crate) fn other_count(
     u32::from(counts[cell]) - count_by(roster, shard, roster.row(a).domain)
 }
 
-// How often the shard counts in the domain: once where it names a server there.
+// Returns how often the shard counts in the domain: once if it names a server there.
 fn count_by(roster: &Roster, shard: &Shard, domain: u16) -> u32
     requires { AllNamed (IsKnown roster.now) shard.now.stand }
     ensures { result ≡ (if names_domain roster.now shard.now.stand domain then 1 else 0) }
@@ -100,7 +100,7 @@ fn count_by(roster: &Roster, shard: &Shard, domain: u16) -> u32
     }
 }
 
-/// Counts the shard in the domains that the new stand names, and no longer in those of the old.
+/// Counts the shard in the domains that the new stand names, and no longer in those that the old one named.
 pub(crate) fn move_count(
     counts: &mut [u16],
     roster: &Roster,
@@ -127,7 +127,7 @@ pub(crate) fn move_count(
     raise_each(counts, owner, other);
 }
 
-/// The same in a sheet. Where memory is refused, the sheet is of no further use.
+/// Does the same in a sheet. If memory is refused, the sheet must not be used any more.
 pub(crate) fn redraw_count(
     counts: &mut Sheet<'_>,
     roster: &Roster,

@@ -1,4 +1,4 @@
--- A step after which all that was published still is keeps what each has seen.
+-- If all earlier publications are still published after a step, the step keeps the views of all others.
 use Rattle.std.proofs.Common.{◌≡◌, ℕ, ◌≢◌, Bool, true, false, cond, nat_lt, List, [], ◌∷◌, ◌++◌, fold, refl, sym, ap}
 use Rattle.std.proofs.Common.{subst, ◌∙◌, ⊎_elim}
 use mathlib.Core.Option.{some}
@@ -43,7 +43,7 @@ taken_published : (map : MapView) (route : Route) (known : Bool) → nat_lt rout
 taken_published map route true e = rw e refl
 taken_published map route false e = rw e refl
 
--- what a map takes in comes after what was published in it
+-- the routes that a map takes come after its earlier publications
 pub extends_fold : (map : MapView) (routes : List Route) → Extends (fold taken map routes).published map.published
 extends_fold map [] = extends_self map.published
 extends_fold map (route ∷ routes) =

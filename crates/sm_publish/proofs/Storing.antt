@@ -44,7 +44,7 @@ opens count words is = (
         (some-injective (record { count = count; seen = [] }) view at) (refl, extends_self [])
     one (suc seat) view at = absurd (some-ne-none view (sym at))
 
--- a router is cut from a seat, and has seen what that has
+-- a router is cut from a seat, and has seen everything that this seat has seen
 pub splits : (count id : ℕ) (view : WordView) → Splits {S = Unit {0}} (WordRuleHolds count) id view view view
 splits count id view table rule at =
     let publications = rule.0 in
@@ -94,7 +94,7 @@ recalls_first count slots word me table rule size at small =
       (refl, kept.words_are word ∙ ap (λ (v : WordView). routes_of v.seen word) mine),
     )
 
--- the views after a seat has seen all publications, of which there may be more than before
+-- the views after a seat has seen all publications; there may be more of them than before
 seen_all : (count id : ℕ) (views : List WordView) (before after : List Route) (view : WordView)
     → get_elem? views id ≡ some view → Extends after before
     → ((seat : ℕ) (view : WordView) → get_elem? views seat ≡ some view

@@ -1,4 +1,4 @@
--- What each thread has seen of a map.
+-- The publications that each thread has seen of a map.
 use Rattle.std.specs.Prelude.{ℕ, ◌≡◌, List, ◌++◌}
 use mathlib.Core.Option.{some}
 use lib.ListN.{get_elem?}
@@ -6,7 +6,7 @@ use Rattle.atomic_table.specs.Seated.{TableId}
 use Rattle.sm_ownership.specs.declared.route.Route.{Route}
 use Rattle.sm_publish.specs.Publishing.{MapView}
 
--- a router: which table the map lies in that it reads, and the publications that it has seen there, in order
+-- a router: the table in which its map is, and the publications that it has seen there, in order
 pub record RouterView : Type 0 where
   pub table : TableId
   pub seen : List Route
@@ -15,10 +15,10 @@ pub record RouterView : Type 0 where
 abbrev pub Extends : List Route → List Route → Type 0
 Extends publications earlier = (more : List Route) × (publications ≡ earlier ++ more)
 
--- what is published begins with what each has seen
+-- the publications begin with those that each one has seen
 abbrev pub IsSeen : MapView → List (List Route) → Type 0
 IsSeen map views = (seat : ℕ) (seen : List Route) → get_elem? views seat ≡ some seen → Extends map.published seen
 
--- all that is published afterwards is seen, and it begins with what was seen before
+-- after the step it has seen everything that is published by then, which begins with all that it had seen before
 abbrev pub Sees : List Route → MapView → MapView → List Route → Type 0
 Sees before map after seen = Extends seen before × (seen ≡ after.published)

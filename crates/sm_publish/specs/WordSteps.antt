@@ -1,4 +1,4 @@
--- What a table of route words keeps, and what each step on it tells.
+-- The rule that a table of route words keeps, and the effect of each step on it.
 use Rattle.std.specs.Prelude.{ℕ, ◌≡◌, ◌≤◌, None, List, length}
 use mathlib.Core.Option.{some}
 use lib.ListN.{get_elem?}
@@ -26,7 +26,7 @@ WordRuleHolds count table = (publications : List Route) × AreKept count table.w
 abbrev pub HasNoRouteBeyond : WordView → Type 0
 HasNoRouteBeyond view = (shard : ℕ) → view.count ≤ shard → routes_of view.seen shard ≡ None
 
--- the publisher's load: the word found is that of the shard's last route
+-- the publisher's load: the word that it finds is that of the shard's last route
 abbrev pub RouteRecalled : {S : Type 0} → Step S → Me S WordView → ℕ → Me S WordView → Type 0
 RouteRecalled step before found after =
     (after.0 ≡ before.0) × (route_in step.word found ≡ routes_of before.0.seen step.word)
@@ -37,7 +37,8 @@ RouteStored step before word after =
     (after.0 ≡ record { count = before.0.count; seen = and_then before.0.seen (route_in step.word word) })
     × HasNoRouteBeyond after.0
 
--- a router's load: it has then seen all publications, of whose last route of the shard the word found is
+-- a router's load: it has then seen all publications, and the word that it finds is that of the shard's last route
+-- among them
 abbrev pub RouteRead : {S : Type 0} → Step S → Me S WordView → ℕ → Me S WordView → Type 0
 RouteRead step before found after =
     Extends after.0.seen before.0.seen

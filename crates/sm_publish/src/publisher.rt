@@ -12,9 +12,9 @@ use std::alloc::{AllocError, Global};
 use std::marker::Model;
 use std::sync::Wait;
 
-/// The one that publishes routes. It is not `Drop`: end it by [`Publisher::end`].
+/// The only publisher of routes on its map. It is not `Drop`: the owner must end it by [`Publisher::end`].
 ///
-/// Contracts see it as the table that its map lies in, its number of shards, and what it has published, in order.
+/// In contracts it is the table in which its map is, its number of shards, and its publications, in order.
 pub struct Publisher {
     writer: MapWriter,
 }
@@ -30,14 +30,14 @@ impl Model for Publisher {
       map = publisher.writer.desk.shown.value;
     } };
 
-    // Routers can see all that was published.
+    // Routers can see everything that was published.
     ghost invariant = { λ publisher. drop publisher.writer.behind publisher.writer.log.items ≡ [] };
 }
 
 impl Publisher {
-    /// A publisher of routes for so many shards, and routers of its map, 1 to 2^32 - 1, which have seen nothing. The
-    /// error is want of memory, or that a router found no place at the map; then it may wait. No contract says that a
-    /// new map has places enough.
+    /// Makes a publisher of routes for this many shards, and routers of its map, 1 to 2^32 - 1, which have seen
+    /// nothing. It fails for lack of memory, or because a router found no place at the map; in the latter case it may
+    /// wait. No contract says that a new map has enough places.
     pub fn new<R: Wait>(
         rt: &R,
         alloc: Global,
@@ -62,14 +62,14 @@ impl Publisher {
         }
     }
 
-    /// Publishes the route, or answers the first fault that applies; a refused route changes nothing.
-    /// It may wait for routers that are reading.
+    /// Publishes the route, or returns the first fault that applies. If a route is refused, nothing changes. It may
+    /// wait for routers that are reading.
     pub fn publish<R: Wait>(&mut self, rt: &R, route: Route) -> Result<(), RouteFault>
         ensures published { OnOk result (self.new.map ≡ with_route self.old.map route) }
         ensures unchanged { OnErr result (self.new ≡ self.old) }
         ensures fault { IfSome (publish_fault self.old.map route) (λ fault. result ≡ Err fault) }
 
-        // Only want of memory refuses a newer route of a shard.
+        // If a route is newer than its shard's last one, only lack of memory refuses it.
         ensures no_fault { IfNone (publish_fault self.old.map route) (IsOkUnless result RouteFault.NoMemory) }
     {
         let map = self.writer.published();
@@ -88,14 +88,15 @@ impl Publisher {
         Ok(())
     }
 
-    /// Ends the publisher. A router's read after it may be refused. It may wait for routers that are reading.
+    /// Ends the publisher. If a router reads after it, the read may be refused. It may wait for routers that are
+    /// reading.
     pub fn end<R: Wait>(self, rt: &R) {
         let Publisher { writer } = self;
         let _map = writer.take(rt);
     }
 }
 
-// So many routers of the writer's map, which have seen nothing, in this room.
+// Makes this many routers of the writer's map, in this room. They have seen nothing.
 fn routers_of(
     writer: &MapWriter,
     count: usize,
@@ -114,7 +115,7 @@ fn routers_of(
     Ok(made)
 }
 
-// Shows routers what was appended, which always succeeds.
+// Shows routers the appended route. This always succeeds.
 fn show<R: Wait>(writer: MapWriter, rt: &R) -> (MapWriter, ())
     ensures shown { result.0.desk.shown.value
         ≡ fold taken writer.desk.shown.value (drop writer.behind writer.log.items) }

@@ -9,7 +9,7 @@ use sm_trace::trace::Trace;
 use std::alloc::{AllocError, Global};
 use std::marker::Model;
 
-/// The map that is published: for each of so many shards its last published route.
+/// The published map: for each shard its last published route.
 #[derive(Drop)]
 pub struct RouteMap {
     routes: Vec<Option<Route>>,
@@ -29,7 +29,7 @@ impl Model for RouteMap {
 }
 
 impl RouteMap {
-    /// The map of so many shards in which nothing was published.
+    /// Makes a map of this many shards, in which nothing is published.
     pub(crate) fn new(alloc: Global, count: usize) -> Result<RouteMap, AllocError>
         ensures { IfOk result (λ map. map ≡ record { count = count; published = [] }) }
     {
@@ -39,14 +39,14 @@ impl RouteMap {
         })
     }
 
-    /// The number of shards.
+    /// Returns the number of shards.
     pub(crate) fn count(&self) -> usize
         ensures { result ≡ self.now.count }
     {
         self.routes.len()
     }
 
-    /// The shard's last published route; none where nothing was published of it.
+    /// Returns the shard's last published route, or nothing if none was published.
     pub(crate) fn route(&self, shard: ShardId) -> Option<Route>
         ensures { result ≡ routes_of self.now.published shard }
     {
@@ -61,7 +61,7 @@ impl Absorb<Route> for RouteMap {
 
     ghost applied = { taken };
 
-    // A shard's place is there from the start.
+    // A shard's place exists from the start.
     ghost never_fails = { Unit {0} };
 
     fn absorb_first(&mut self, operation: &Route, _other: &RouteMap) -> Result<(), AllocError> {

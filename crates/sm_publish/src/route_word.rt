@@ -1,4 +1,4 @@
-//! Routes as words: the server in the low 12 bits, and the generation above them. A word whose server is 0 stands for
+//! Routes as words: the server in the low 12 bits, and the generation above them. If a word's server is 0, the word is
 //! no route.
 ghost use Rattle.std.specs.Prelude.{◌≡◌, ◌≤◌, Some};
 ghost use Rattle.sm_ownership.specs.declared.record.TheConstants.{MAX_GENERATION};
@@ -8,10 +8,10 @@ use sm_ownership::route::Route;
 use sm_ranges::server_id::ServerId;
 use sm_ranges::shard_id::ShardId;
 
-// A server is below it.
+// Every server is below this number.
 const SERVERS: u64 = 4096;
 
-/// The word that stands for the route.
+/// Returns the word of the route.
 pub(crate) fn word_of_route(route: &Route) -> u64
     requires { route.now.generation ≤ MAX_GENERATION }
     ensures { route_in route.now.shard result ≡ Some route.now }
@@ -19,7 +19,7 @@ pub(crate) fn word_of_route(route: &Route) -> u64
     route.generation * SERVERS + u64::from(route.server.number())
 }
 
-/// The route that the shard's word stands for, if any.
+/// Returns the route of the shard's word, if it has one.
 pub(crate) fn route_of_word(shard: ShardId, word: u64) -> Option<Route>
     ensures { result ≡ route_in shard word }
 {

@@ -11,10 +11,10 @@ use sm_ranges::layout::Layout;
 use sm_ranges::shard_id::ShardId;
 use std::marker::Model;
 
-/// A reader of the published map. What it reads may be stale, and what it has seen only grows. It may move to another
-/// thread.
+/// A reader of the published map. It may read old routes, but the publications that it has seen only grow. It may move
+/// to another thread.
 ///
-/// Contracts see it as the table that its map lies in, and the publications that it has seen there, in order.
+/// In contracts it is the table in which its map is, and the publications that it has seen there, in order.
 #[derive(Drop)]
 pub struct Router {
     reader: MapReader,
@@ -36,9 +36,9 @@ impl Router {
         Router { reader }
     }
 
-    /// The route of the key's shard that was published last of those that the router has then seen, or none where it
-    /// has seen none. What it has seen begins with all that it had seen before. Where the read is refused the answer is
-    /// none, and nothing more is seen. That it goes on reading the map of the same table no clause says.
+    /// Returns the last route of the key's shard among the publications that the router has now seen, or nothing if
+    /// there is none. The publications that it has seen begin with all that it had seen before. If the read is refused,
+    /// it returns nothing and sees nothing more. No clause says that it goes on reading the map of the same table.
     pub fn route(&mut self, layout: &Layout, key: &[u8]) -> Option<Route>
         ensures later { Extends self.new.seen self.old.seen }
         ensures route { (result ≡ routes_of self.new.seen (shard_of layout.now key.now))
@@ -47,7 +47,7 @@ impl Router {
         self.shard_route(layout.shard_of(key))
     }
 
-    /// `route`, for who has found the key's shard.
+    /// Does the same as `route`, for a caller that has found the key's shard already.
     pub fn shard_route(&mut self, k: ShardId) -> Option<Route>
         ensures later { Extends self.new.seen self.old.seen }
         ensures route { (result ≡ routes_of self.new.seen k) ⊎ ((result ≡ None) × (self.new.seen ≡ self.old.seen)) }

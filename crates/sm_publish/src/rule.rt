@@ -1,4 +1,4 @@
-//! What the publisher and the routers know of the map.
+//! The knowledge of the publisher and the routers about the map.
 ghost use Rattle.std.specs.Prelude.{[]};
 ghost use Rattle.sm_publish.specs.Seen.{IsSeen, Sees};
 
@@ -9,7 +9,7 @@ use left_right::writer::Writer;
 use sm_ownership::route::Route;
 use std::collections::LinkedList;
 
-/// Each one's view is the publications that it has seen, and what is published begins with them.
+/// The view of each one is the list of publications that it has seen. All publications begin with this list.
 pub struct Extending;
 
 impl Protocol<RouteMap, LinkedList<Route>> for Extending {
@@ -18,15 +18,15 @@ impl Protocol<RouteMap, LinkedList<Route>> for Extending {
     ghost first = { [] };
 }
 
-/// A step that sees all that is published after it.
+/// A step after which its seat has seen everything that is published.
 pub struct Seeing;
 
 impl Outcome<RouteMap, LinkedList<Route>> for Seeing {
     ghost then = { Sees };
 }
 
-/// What a router reads the published map by.
+/// The type with which a router reads the published map.
 pub type MapReader = Reader<RouteMap, LinkedList<Route>, Extending>;
 
-/// What a publisher writes the published map by.
+/// The type with which a publisher writes the published map.
 pub type MapWriter = Writer<RouteMap, Route, LinkedList<Route>, Extending>;

@@ -13,11 +13,11 @@ use std::alloc::{AllocError, Global};
 use std::marker::Model;
 use std::sync::Arc;
 
-/// Publishes routes as [`Publisher`](crate::Publisher) does, but to one word for each shard: a publication is one
+/// Publishes routes as [`Publisher`](crate::Publisher) does, but to one word for each shard. A publication is one
 /// store, so it never waits and takes no memory. It may move to another thread.
 ///
-/// Contracts see it as they see a `Publisher`: the table that its map lies in, its number of shards, and what it has
-/// published, in order.
+/// In contracts it looks like a `Publisher`: the table in which its map is, its number of shards, and its publications,
+/// in order.
 #[derive(Drop)]
 pub struct WordPublisher {
     table: Arc<WordTable>,
@@ -44,7 +44,8 @@ impl Model for WordPublisher {
 }
 
 impl WordPublisher {
-    /// A publisher of routes for so many shards, of which none has a route. The error is want of memory.
+    /// Makes a publisher of routes for this many shards. At first no shard has a route. It fails only for lack of
+    /// memory.
     pub fn new(alloc: Global, count: usize) -> Result<WordPublisher, AllocError>
         requires { 0 < count }
         ensures { IfOk result (λ publisher. publisher.map ≡ record { count = count; published = [] }) }
@@ -55,14 +56,15 @@ impl WordPublisher {
         Ok(WordPublisher { table, seat })
     }
 
-    /// The number of shards.
+    /// Returns the number of shards.
     pub fn count(&self) -> usize
         ensures { result ≡ self.now.map.count }
     {
         self.table.word_count()
     }
 
-    /// A router of the publisher's map, which has seen all that was published. The error is want of memory.
+    /// Makes a router of the publisher's map. It has seen everything that was published so far. It fails only for lack
+    /// of memory.
     pub fn router(&mut self) -> Result<WordRouter, AllocError>
         ensures unchanged { self.new ≡ self.old }
         ensures router { IfOk result
@@ -73,7 +75,7 @@ impl WordPublisher {
         Ok(WordRouter::new(table, seat))
     }
 
-    /// Publishes the route, or answers the first fault that applies; a refused route changes nothing.
+    /// Publishes the route, or returns the first fault that applies. If a route is refused, nothing changes.
     pub fn publish(&mut self, route: Route) -> Result<(), RouteFault>
         requires { route.generation ≤ MAX_GENERATION }
         ensures table { self.new.table ≡ self.old.table }
@@ -96,7 +98,7 @@ impl WordPublisher {
         Ok(())
     }
 
-    // The shard's last route.
+    // Returns the shard's last route.
     fn last(&mut self, shard: ShardId) -> Option<Route>
         requires { shard < self.old.map.count }
         ensures unchanged { self.new ≡ self.old }

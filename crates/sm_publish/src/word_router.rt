@@ -11,11 +11,12 @@ use sm_ranges::shard_id::ShardId;
 use std::marker::Model;
 use std::sync::Arc;
 
-/// A reader of what a [`WordPublisher`](crate::WordPublisher) publishes. What it reads may be stale, and what it has
-/// seen only grows. It may move to another thread, and goes on reading the map after the publisher's end.
+/// A reader of the routes that a [`WordPublisher`](crate::WordPublisher) publishes. It may read old routes, but the
+/// publications that it has seen only grow. It may move to another thread, and still reads after the publisher is
+/// dropped.
 ///
-/// Contracts see it as they see a [`Router`](crate::Router): the table that its map lies in, and the publications that
-/// it has seen there, in order.
+/// In contracts it looks like a [`Router`](crate::Router): the table in which its map is, and the publications that it
+/// has seen there, in order.
 #[derive(Drop)]
 pub struct WordRouter {
     table: Arc<WordTable>,
@@ -46,9 +47,9 @@ impl WordRouter {
         WordRouter { table, seat }
     }
 
-    /// The route of the shard that was published last of those that the router has then seen, or none where it has seen
-    /// none, as of a shard that the map hasn't. What it has seen begins with all that it had seen before. It is never
-    /// refused, and never waits.
+    /// Returns the last route of the shard among the publications that the router has now seen, or nothing if there is
+    /// none. A shard outside of the map has none. The publications that it has seen begin with all that it had seen
+    /// before. It is never refused, and never waits.
     pub fn route(&mut self, shard: ShardId) -> Option<Route>
         ensures table { self.new.table ≡ self.old.table }
         ensures later { Extends self.new.seen self.old.seen }

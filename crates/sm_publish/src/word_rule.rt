@@ -1,4 +1,4 @@
-//! What holds of a table of route words, and the kinds of step.
+//! The facts about a table of route words, and the kinds of step.
 
 use crate::word_view::WordView;
 use atomic_table::{Play, Seat, Split, Table, TableRule};
@@ -14,7 +14,7 @@ impl TableRule<(), WordView, usize> for WordRule {
 
     ghost holds = { λ count. WordRuleHolds count };
 
-    // The publisher's.
+    // This is the publisher's view.
     ghost first = { λ count. record { count = count; seen = [] } };
 }
 
@@ -45,7 +45,7 @@ impl Play<(), WordView> for RouteLoad {
     ghost then = { RouteRead };
 }
 
-/// A router is cut from the publisher, and has seen what that has.
+/// A router is cut from the publisher, and has seen everything that the publisher has seen.
 pub struct RouterCut;
 
 impl Split<WordView> for RouterCut {
@@ -54,8 +54,8 @@ impl Split<WordView> for RouterCut {
     ghost right = { λ view. view };
 }
 
-/// A word for each shard.
+/// A table with a word for each shard.
 pub type WordTable = Table<(), WordView, usize, WordRule, Global>;
 
-/// What a publisher or a router steps with.
+/// The seat with which a publisher or a router takes its steps.
 pub type WordSeat = Seat<(), WordView>;

@@ -1,7 +1,7 @@
 use sm_ownership::route::Route;
 use std::collections::LinkedList;
 
-/// What a publisher or a router of words knows, which stands in contracts and proofs alone: no value of it is made.
+/// The knowledge of a publisher or a router of words. It exists only in contracts and proofs: no value of it is made.
 pub struct WordView {
     /// The number of shards.
     pub count: usize,

@@ -1,4 +1,4 @@
--- The meaning of the queue: what each request replies while jobs wait, and which jobs wait after it.
+-- The meaning of the queue: the reply to each request while jobs wait, and the jobs that wait after it.
 use Rattle.std.specs.Prelude.{ℕ, Bool, List, [], ◌∷◌, ◌++◌, Option, Some, None, count_by, position}
 use Rattle.std.specs.List.{remove, slice_get}
 use Rattle.std.specs.Str.{bytes_eq}
@@ -16,7 +16,7 @@ is_of key job = bytes_eq job.key key
 abbrev pub oldest_of : List Job → List ℕ → Option ℕ
 oldest_of jobs key = position (is_of key) jobs
 
--- the job at the place, and the jobs without it; nothing and all where there is no place
+-- the job at this place, and the jobs without it; if there is no place, no job, and all jobs
 abbrev pub job_at : List Job → Option ℕ → Option Job
 job_at jobs None = None
 job_at jobs (Some place) = slice_get jobs place

@@ -1,10 +1,10 @@
 use sm_body::bytes::Bytes;
 
-/// A job: the key at which it waits, and the bytes that say what is to be done.
+/// A job: the key at which it waits, and its work as bytes.
 #[derive(Clone, Drop)]
 pub struct Job {
-    /// Its shard executes all that is asked of the key.
+    /// This key's shard executes all requests for the key.
     pub key: Bytes,
-    /// What is to be done, which the queue doesn't read.
+    /// The work to do, which the queue doesn't read.
     pub work: Bytes,
 }

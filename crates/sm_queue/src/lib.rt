@@ -1,4 +1,4 @@
-//! A queue of jobs by key: a service as a user of the manager writes one. `docs/OWN_SERVICE.md` leads through it.
+//! A queue of jobs by key, as a user of the manager writes a service. `docs/OWN_SERVICE.md` explains it.
 //!
 //! A job is pushed, and taken by its key:
 //! ```rust

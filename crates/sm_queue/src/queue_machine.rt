@@ -10,7 +10,7 @@ use std::marker::Model;
 /// A queue of jobs by key, as the body of a shard.
 pub type JobQueue = Logged<QueueMachine>;
 
-/// What the queue keeps: the jobs of all keys, in the order in which they came.
+/// The state of the queue: the jobs of all keys, in the order in which they came.
 #[derive(Drop)]
 pub struct QueueMachine {
     jobs: VecDeque<Job>,
@@ -83,7 +83,7 @@ impl QueueMachine {
         self.jobs.remove(place)
     }
 
-    // The place of that job.
+    // Returns the place of that job.
     fn oldest(&self, key: &[u8]) -> Option<usize>
         ensures { result ≡ oldest_of self.now key.now }
     {

@@ -1,14 +1,14 @@
 use crate::job::Job;
 
-/// What the queue replies.
+/// The replies of the queue.
 #[derive(Drop)]
 pub enum Reply {
     /// The job waits.
     Queued,
-    /// The job that is given out, and waits no longer.
+    /// This job is given out, and waits no longer.
     Given(Job),
     /// No job of the key waits, and nothing has changed.
     Empty,
-    /// So many jobs of the key wait.
+    /// This many jobs of the key wait.
     Length(usize),
 }

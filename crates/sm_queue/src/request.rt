@@ -1,13 +1,13 @@
 use crate::job::Job;
 use sm_body::bytes::Bytes;
 
-/// What a client asks of the queue.
+/// A client's request to the queue.
 #[derive(Drop)]
 pub enum Request {
-    /// The job is to wait behind those of its key.
+    /// Puts the job behind those of its key.
     Push(Job),
-    /// The job of the key that has waited longest is to be given out.
+    /// Gives out the job of the key that has waited longest.
     Take(Bytes),
-    /// How many jobs of the key wait?
+    /// Counts the jobs of the key that wait.
     Length(Bytes),
 }

@@ -18,7 +18,7 @@ le_from_lt Less h = refl
 le_from_lt Equal h = cc
 le_from_lt Greater h = cc
 
--- a key is below another where the other isn't at most the key
+-- a key is below another if the other isn't at most the key
 pub is_below-flip : (first second : List ℕ) → is_below second first ≡ not (is_at_most first second)
 is_below-flip first second =
     ap is_lt (nat_list_cmp_total.antisymm second first) ∙ is_lt-reverse (slice_cmp nat_cmp first second)

@@ -1,4 +1,4 @@
--- The one range that covers a key.
+-- Exactly one range covers a key.
 use Rattle.std.proofs.Common.{◌≡◌, ◌==◌, ℕ, zero, suc, ◌+◌, ◌-◌, ◌<◌, ◌≤◌, Bool, true, false, List, [], length, get_or}
 use Rattle.std.proofs.Common.{refl, subst, sym, ap, ◌∙◌, arith, inl, inr}
 use Rattle.std.specs.Prelude.{not, IsTrue}
@@ -28,7 +28,7 @@ le_from_index Less h = refl
 le_from_index Equal h = refl
 le_from_index Greater h = absurd (omega arith)
 
--- no bound that is at most the key comes after one that is above it
+-- no bound that is at most the key comes after one that is above the key
 pub parted : (bounds : List (List ℕ)) (key : List ℕ) → IsLayout bounds
     → IsPartitionedBy (λ bound. is_at_most bound key) bounds
 parted bounds key layout i j d le lt h =
@@ -38,7 +38,7 @@ parted bounds key layout i j d le lt h =
     let last = index_of_le (slice_cmp nat_cmp (get_or bounds j d) key) h in
     le_from_index (slice_cmp nat_cmp (get_or bounds i d) key) (omega arith)
 
--- what Covers says, by the bounds themselves
+-- the same as Covers, in terms of the bounds
 record IsBetween (bounds : List (List ℕ)) (k : ℕ) (key : List ℕ) : Type 0 where
   within : k < length bounds
   low : is_at_most (get_or bounds k []) key ≡ true
@@ -168,7 +168,7 @@ module _ (bounds : List (List ℕ)) (key : List ℕ) (layout : IsLayout bounds) 
       sym (only bounds key layout at.0 at.1.within at.1.point k covers
       ∙ last_place bounds key layout at.0 at.1.within at.1.point)
 
-  -- a test of its range alone tells whether a shard is the key's
+  -- one test of its range tells whether a shard is the key's
   pub is_shard_of : (k : ℕ) (within : Bool) → (IsTrue within → Covers bounds k key)
       → (Covers bounds k key → IsTrue within) → within ≡ (shard_of bounds key == k)
   is_shard_of k true covers back = sym (eq-eqb (shard_of bounds key) k (shard_of-only k (covers refl)))

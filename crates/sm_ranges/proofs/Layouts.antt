@@ -1,4 +1,4 @@
--- The first bound that doesn't rise, looked for among references.
+-- The first bound that doesn't rise, found among references.
 use Rattle.std.proofs.Common.{◌≡◌, ℕ, ◌+◌, List, Option, drop, sym, ap, ◌∙◌}
 use Rattle.std.specs.Prelude.{Bool, not, position}
 use Rattle.std.specs.List.{zip}
@@ -9,7 +9,7 @@ use Rattle.sm_ranges.specs.KeyOrder.{is_below}
 use Rattle.sm_ranges.specs.LayoutFault.{texts_of, first_not_rising}
 use Rattle.sm_ranges.proofs.Places.{position-map, zip-map}
 
--- the first pair of neighbours out of order, looked for among the references
+-- the first pair of neighbours out of order, found among the references
 unordered-texts_of : (bounds : List (Bor (List ℕ)))
     → position (λ pair. not (is_below pair.0 pair.1)) (zip (texts_of bounds) (drop 1 (texts_of bounds)))
     ≡ position (λ pair. not (is_below pair.0.now pair.1.now)) (zip bounds (drop 1 bounds))

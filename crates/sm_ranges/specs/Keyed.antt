@@ -1,4 +1,4 @@
--- Lists in the order of keys, where `key_of` says each element's key.
+-- Lists in the order of keys. `key_of` gives the key of each element.
 use Rattle.std.specs.Prelude.{◌≡◌, ℕ, ◌<◌, ◌≤◌, Bool, List, ◌∷◌, ◌++◌, AllPairs, filter, length}
 use Rattle.std.specs.List.{HoldsAt}
 use Rattle.std.specs.List.Sorted.{IsPartitionPoint}
@@ -6,7 +6,7 @@ use Rattle.std.specs.Ordering.{is_lt, is_gt, is_eq}
 use Rattle.std.specs.declared.cmp.Ordering.TheVariants.{Less, Equal, Greater}
 use Rattle.sm_ranges.specs.KeyOrder.{key_cmp}
 
--- the elements are in the order of their keys, and no key comes twice
+-- the elements are in the order of their keys, and no two have the same key
 abbrev pub IsInKeyOrder : {X : Type 0} → (X → List ℕ) → List X → Type 0
 IsInKeyOrder key_of xs = AllPairs (λ x later. key_cmp (key_of x) (key_of later) ≡ Less) xs
 
@@ -30,12 +30,12 @@ without_key key_of xs key = filter (comes_before key_of key) xs ++ filter (comes
 abbrev pub with_key : {X : Type 0} → (X → List ℕ) → List X → List ℕ → X → List X
 with_key key_of xs key x = filter (comes_before key_of key) xs ++ x ∷ filter (comes_after key_of key) xs
 
--- the element of this key stands at this place
+-- the element with this key is at this place
 pub record IsKeyPlace {X : Type 0} (key_of : X → List ℕ) (xs : List X) (key : List ℕ) (at : ℕ) : Type 0 where
   pub within : at < length xs
   pub same : HoldsAt (λ x. key_cmp (key_of x) key ≡ Equal) xs at
 
--- no element has this key, and one that had it would go to this place
+-- no element has this key, and a new element with this key would go to this place
 pub record IsKeyGap {X : Type 0} (key_of : X → List ℕ) (xs : List X) (key : List ℕ) (at : ℕ) : Type 0 where
   pub within : at ≤ length xs
   pub apart : IsPartitionPoint (λ x. key_cmp (key_of x) key ≡ Less) (λ x. key_cmp (key_of x) key ≡ Greater) xs at

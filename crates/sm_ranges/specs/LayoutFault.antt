@@ -1,4 +1,4 @@
--- What is wrong with bounds that make no layout.
+-- The faults of bounds that are no layout.
 use Rattle.std.specs.Prelude.{ℕ, ◌+◌, nat_lt, not, List, [], ◌∷◌, length, map, drop, position, Option, Some, None}
 use Rattle.std.specs.Prelude.{if◌then◌else◌}
 use Rattle.std.specs.List.{zip}
@@ -23,8 +23,8 @@ first_not_rising bounds =
 abbrev pub first_too_long : List (List ℕ) → Option ℕ
 first_too_long bounds = position (λ bound. nat_lt MAX_KEY (length bound)) bounds
 
--- the first fault that applies, in the order Empty, FirstNotEmpty, NotRising, KeyTooLong, TooMany; none where the
--- bounds make a layout
+-- the first fault that applies, in the order Empty, FirstNotEmpty, NotRising, KeyTooLong, TooMany; there is none if the
+-- bounds are a layout
 abbrev pub first_layout_fault : List (List ℕ) → Option LayoutFault
 first_layout_fault [] = Some Empty
 first_layout_fault ((byte ∷ bytes) ∷ bounds) = Some FirstNotEmpty

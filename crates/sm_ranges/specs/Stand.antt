@@ -12,7 +12,7 @@ owner_of (Forwarding owner next) = Some owner
 owner_of (Taken owner previous) = Some owner
 owner_of (Paused owner) = Some owner
 
--- whether it names none
+-- whether a stand names no owner
 abbrev pub is_vacant : Stand → Bool
 is_vacant stand = is_none (owner_of stand)
 
@@ -21,7 +21,7 @@ abbrev pub is_paused : Stand → Bool
 is_paused (Paused owner) = true
 is_paused stand = false
 
--- the next or previous server that a stand names
+-- the next or the previous server that a stand names
 abbrev pub other_of : Stand → Option ℕ
 other_of Vacant = None
 other_of (Serving owner) = None
@@ -30,12 +30,12 @@ other_of (Forwarding owner next) = Some next
 other_of (Taken owner previous) = Some previous
 other_of (Paused owner) = None
 
--- whether there is a number, and it passes the test
+-- whether there is a number and it passes the test
 abbrev pub passes : (ℕ → Bool) → Option ℕ → Bool
 passes test None = false
 passes test (Some a) = test a
 
--- whether a server that the stand names passes the test
+-- whether the stand names a server that passes the test
 abbrev pub names_one : (ℕ → Bool) → Stand → Bool
 names_one test stand = passes test (owner_of stand) || passes test (other_of stand)
 
@@ -43,14 +43,14 @@ names_one test stand = passes test (owner_of stand) || passes test (other_of sta
 abbrev pub names : Stand → ℕ → Bool
 names stand server = names_one (λ named. named == server) stand
 
--- each server that the stand names is such
+-- each server that the stand names has this property
 abbrev pub AllNamed : (ℕ → Type 0) → Stand → Type 0
 AllNamed IsSuch stand = IfSome (owner_of stand) IsSuch × IfSome (other_of stand) IsSuch
 
--- their numbers, or 0 where the stand names none
+-- the number of the owner, or 0 if the stand names none
 abbrev pub owner_number : Stand → ℕ
 owner_number stand = unwrap_or (owner_of stand) 0
 
--- the number of a stand's next or previous server, or 0
+-- the number of the next or previous server, or 0 if the stand names none
 abbrev pub other_number : Stand → ℕ
 other_number stand = unwrap_or (other_of stand) 0

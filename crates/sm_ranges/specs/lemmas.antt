@@ -1,4 +1,4 @@
--- Lemmas that the proofs of crates above cite.
+-- The lemmas that proofs of crates above cite.
 pub mod Cuts
 pub mod KeyOrders
 pub mod Keyed

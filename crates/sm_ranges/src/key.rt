@@ -32,7 +32,7 @@ pub enum KeyFault {
     /// There are more than 255 bytes.
     #[error("a key has at most 255 bytes")]
     TooLong,
-    /// The bytes are a key, and memory for it was refused.
+    /// The bytes are a key, but memory for it was refused.
     #[error("out of memory")]
     NoMemory,
 }
@@ -51,7 +51,7 @@ impl Key {
     ghost use Rattle.std.specs.Prelude.{length, is_none, nat_le, Some, ◌<◌, ◌&&◌};
     ghost use Rattle.sm_ranges.specs.Key.{IsKey};
 
-    /// The key with these bytes, of which there are 1 to 255, or else the fault.
+    /// Returns the key with these bytes. If there aren't 1 to 255 of them, or if memory is refused, returns the fault.
     pub fn new(alloc: Global, bytes: &[u8]) -> Result<Key, KeyFault>
         ensures ok { IfOk result (λ key. key ≡ bytes.now) }
         ensures is_key { OnOk result (IsKey bytes.now) }
@@ -67,7 +67,7 @@ impl Key {
         }
     }
 
-    /// Why the bytes are no key, or nothing where there are 1 to 255. `NoMemory` never comes.
+    /// Returns why the bytes are no key, or nothing if there are 1 to 255. Never returns `NoMemory`.
     pub fn fault_of(bytes: &[u8]) -> Option<KeyFault>
         ensures none { is_none result ≡ (nat_le 1 (length bytes.now) && nat_le (length bytes.now) MAX_KEY) }
         ensures empty { (result ≡ Some KeyFault.Empty) ↔ (length bytes.now ≡ 0) }
@@ -82,7 +82,7 @@ impl Key {
         None
     }
 
-    /// The key with these bytes, of which it is known that they are one.
+    /// Returns the key with these bytes. The caller must know that there are 1 to 255.
     pub fn of(alloc: Global, bytes: &[u8]) -> Result<Key, AllocError>
         requires { IsKey bytes.now }
         ensures { IfOk result (λ key. key ≡ bytes.now) }
@@ -92,7 +92,7 @@ impl Key {
         })
     }
 
-    /// The bytes of the key.
+    /// Returns the bytes of the key.
     pub fn as_bytes(&self) -> &[u8]
         ensures bytes { result.now ≡ self.now }
         ensures is_key { IsKey self.now }
@@ -100,7 +100,7 @@ impl Key {
         &self.bytes
     }
 
-    /// The same key again.
+    /// Returns a copy of the key.
     pub fn try_clone(&self, alloc: Global) -> Result<Key, AllocError>
         ensures { IfOk result (λ key. key ≡ self.now) }
     {

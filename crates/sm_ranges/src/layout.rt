@@ -12,8 +12,8 @@ use std::alloc::{AllocError, Global};
 use std::marker::Model;
 use thiserror::Error;
 
-/// How the key space is cut into shards: shard k has the keys from bound k on, up to the next bound.
-/// There are 1 to 4,096 bounds of at most 255 bytes; the first is empty, and each is above the one before it.
+/// How the key space is cut into shards: shard k has the keys from bound k up to, but without, the next bound. There
+/// must be 1 to 4,096 bounds of at most 255 bytes. The first must be empty, and each must be above the one before it.
 #[derive(Drop)]
 pub struct Layout {
     bounds: Vec<Bound>,
@@ -30,7 +30,7 @@ impl Model for Layout {
     ghost invariant = { λ layout. IsLayout layout.bounds.items };
 }
 
-// Where a shard begins. Unlike a key, it may be empty.
+// The start of a shard. Unlike a key, it may be empty.
 #[derive(Drop)]
 struct Bound {
     bytes: Vec<u8>,
@@ -60,7 +60,7 @@ impl Bound {
     }
 }
 
-/// Why bounds are not a layout; `at` is the place of a bound, from 0.
+/// Why bounds are not a layout. `at` is the place of a bound, from 0.
 #[derive(Clone, Copy, Debug, PartialEq, Eq, Drop, Error)]
 pub enum LayoutFault {
     /// There are no bounds.
@@ -69,16 +69,16 @@ pub enum LayoutFault {
     /// The first bound has a byte or more.
     #[error("the first bound is not empty")]
     FirstNotEmpty,
-    /// The bound is the first that is not above the one before it.
+    /// The bound at `at` is the first that is not above the one before it.
     #[error("bound {at} is not above the one before it")]
     NotRising { at: usize },
-    /// The bound is the first of more than 255 bytes.
+    /// The bound at `at` is the first of more than 255 bytes.
     #[error("bound {at} has more than 255 bytes")]
     KeyTooLong { at: usize },
     /// There are more than 4,096 bounds.
     #[error("a layout has at most 4096 bounds")]
     TooMany,
-    /// The bounds are a layout, and memory for it was refused.
+    /// The bounds are a layout, but memory for it was refused.
     #[error("out of memory")]
     NoMemory,
 }
@@ -94,12 +94,13 @@ impl From<AllocError> for LayoutFault {
 }
 
 impl Layout {
-    /// The layout with these bounds, or else the first fault that applies, in the order of the faults.
+    /// Returns the layout with these bounds. If they break a rule, returns the first fault that applies, in the order
+    /// of the faults.
     pub fn new(alloc: Global, bounds: &[&[u8]]) -> Result<Layout, LayoutFault>
         ensures ok { IfOk result (λ layout. layout ≡ texts_of bounds.now) }
         ensures is_layout { OnOk result (IsLayout (texts_of bounds.now)) }
 
-        // Only want of memory refuses the bounds of a layout.
+        // If the bounds are a layout, only lack of memory refuses them.
         ensures accepts { IsLayout (texts_of bounds.now) → IsOkUnless result LayoutFault.NoMemory }
         ensures fault { IfSome (first_layout_fault (texts_of bounds.now)) (λ fault. result ≡ Err fault) }
         ensures no_fault { IfNone (first_layout_fault (texts_of bounds.now)) (IsOkUnless result LayoutFault.NoMemory) }
@@ -112,8 +113,8 @@ impl Layout {
         })
     }
 
-    /// The shard of these bytes, which may be any: the last shard whose bound is at most them.
-    /// No clause counts its comparisons; a test of the same search counts 13 at 4,096 bounds.
+    /// Returns the shard of these bytes: the last shard whose bound is at most them. Any bytes have a shard. No clause
+    /// counts its comparisons. A test of the same search counts 13 at 4,096 bounds.
     pub fn shard_of(&self, key: &[u8]) -> ShardId
         ensures within { result < length self.now }
         ensures covers { Covers self.now result key.now }
@@ -123,14 +124,14 @@ impl Layout {
         ShardId::new(last_reached(&self.bounds, key) as u16).unwrap()
     }
 
-    /// Whether the key, which may be any bytes, is this shard's. The bounds of the shard alone tell.
+    /// Returns whether the key is this shard's. Any bytes may be asked for. It compares only the bounds of this shard.
     pub fn covers(&self, k: ShardId, key: &[u8]) -> bool
         ensures { result ≡ (shard_of self.now key.now == k) }
     {
         is_within(&self.bounds, k, key)
     }
 
-    /// The bound at which a shard begins, and the one at which the next shard begins, if there is one.
+    /// Returns the bound at which a shard begins, and the one at which the next shard begins, if there is one.
     pub fn range(&self, k: ShardId) -> (&[u8], Option<&[u8]>)
         requires { k < length self.now }
         ensures low { slice_get self.now k ≡ Some result.0.now }
@@ -141,7 +142,7 @@ impl Layout {
         (low, high.map(Bound::as_bytes))
     }
 
-    /// The number of shards.
+    /// Returns the number of shards.
     pub fn count(&self) -> usize
         ensures value { result ≡ length self.now }
         ensures is_layout { IsLayout self.now }
@@ -149,7 +150,7 @@ impl Layout {
         self.bounds.len()
     }
 
-    /// The same layout again.
+    /// Returns a copy of the layout.
     pub fn try_clone(&self, alloc: Global) -> Result<Layout, AllocError>
         ensures { IfOk result (λ layout. layout ≡ self.now) }
     {
@@ -159,7 +160,7 @@ impl Layout {
     }
 }
 
-// The place of the last bound that is at most the key.
+// Returns the place of the last bound that is at most the key.
 fn last_reached(bounds: &[Bound], key: &[u8]) -> usize
     requires { IsLayout bounds.now }
     ensures within { result < length bounds.now }
@@ -170,7 +171,7 @@ fn last_reached(bounds: &[Bound], key: &[u8]) -> usize
     bounds.partition_point(|bound| is_at_most(bound.as_bytes(), key)) - 1
 }
 
-// Whether the bound at the place is at most the key, and the next one above it.
+// Returns whether the bound at this place is at most the key, and the next bound is above it.
 fn is_within(bounds: &[Bound], k: ShardId, key: &[u8]) -> bool
     ensures covers { IsTrue result → Covers bounds.now k key.now }
     ensures only { Covers bounds.now k key.now → IsTrue result }
@@ -182,7 +183,7 @@ fn is_within(bounds: &[Bound], k: ShardId, key: &[u8]) -> bool
     is_at_most(low.as_bytes(), key) && next.is_none_or(|high| is_below(key, high.as_bytes()))
 }
 
-// What is wrong with the bounds, memory aside.
+// Returns the first fault of the bounds, except for lack of memory.
 fn first_fault(bounds: &[&[u8]]) -> Option<LayoutFault>
     ensures { result ≡ first_layout_fault (texts_of bounds.now) }
 {
@@ -210,7 +211,7 @@ fn first_not_rising(bounds: &[&[u8]]) -> Option<usize>
     first_unordered(bounds).map(|low| low + 1)
 }
 
-// The place of the first bound that the next one is not above.
+// Returns the place of the first bound after which a bound comes that is not above it.
 fn first_unordered(bounds: &[&[u8]]) -> Option<usize>
     ensures value { result ≡ position (λ pair. not (is_below pair.0.now pair.1.now))
         (zip bounds.now (drop 1 bounds.now)) }

@@ -1,9 +1,9 @@
 //! The limits of keys, of layouts, and of the numbers of shards and servers.
 
-/// The greatest number of bytes that a key or a bound has.
+/// The greatest length of a key or a bound in bytes.
 pub const MAX_KEY: usize = 255;
 
-/// The greatest number of shards that a layout has.
+/// The greatest number of shards in a layout.
 pub const MAX_SHARDS: usize = 4096;
 
 /// The greatest number of a shard.

@@ -1,4 +1,4 @@
-//! The one order of keys.
+//! The only order of keys.
 
 ghost use Rattle.std.specs.Prelude.{◌≡◌, ◌+◌, ◌≤◌, length, take, drop};
 ghost use Rattle.std.specs.Slice.Scan.{big_endian};
@@ -6,9 +6,9 @@ ghost use Rattle.sm_ranges.specs.KeyOrder.{key_cmp, is_at_most, is_below};
 
 use std::cmp::Ordering;
 
-/// The order of two keys: their bytes are compared as unsigned numbers, and a proper prefix comes first.
-// Eight bytes at a time as numbers; the last eight may overlap those before. `cmp` goes byte by byte through the eight
-// that differ, and the branch at which it stops is often mispredicted.
+/// Returns the order of two keys. Their bytes are compared as unsigned numbers, and a proper prefix comes first.
+// It compares eight bytes at a time, as numbers. The last eight may overlap those before. We don't use `cmp`, because
+// it goes byte by byte through the eight that differ, and the branch at which it stops is often mispredicted.
 pub fn compare(first: &[u8], second: &[u8]) -> Ordering
     ensures { result ≡ key_cmp first.now second.now }
 {
@@ -32,21 +32,21 @@ pub fn compare(first: &[u8], second: &[u8]) -> Ordering
     first.len().cmp(&second.len())
 }
 
-/// Whether the first key comes before the second.
+/// Returns whether the first key comes before the second.
 pub(crate) fn is_below(first: &[u8], second: &[u8]) -> bool
     ensures { result ≡ is_below first.now second.now }
 {
     compare(first, second).is_lt()
 }
 
-/// Whether the first key comes before the second, or is the second.
+/// Returns whether the first key comes before the second, or is the same.
 pub(crate) fn is_at_most(first: &[u8], second: &[u8]) -> bool
     ensures { result ≡ is_at_most first.now second.now }
 {
     compare(first, second).is_le()
 }
 
-// The number that the eight bytes from a place on spell, the greatest first.
+// Returns the number that the eight bytes from this place on spell, the most significant first.
 fn number_at(bytes: &[u8], at: usize) -> u64
     requires { at + 8 ≤ length bytes.now }
     ensures { result ≡ big_endian 0 (take 8 (drop at bytes.now)) }

@@ -26,7 +26,7 @@ impl Model for ServerId {
 impl ServerId {
     ghost use Rattle.sm_ranges.specs.ServerId.{IsServer};
 
-    /// The server with this number, or none where it is not 1 to 4,095.
+    /// Returns the server with this number, if it is 1 to 4,095.
     pub fn new(number: u16) -> Option<ServerId>
         ensures known { IsSome result ↔ IsServer number }
         ensures value { IfSome result (λ server. server ≡ number) }
@@ -38,7 +38,7 @@ impl ServerId {
         }
     }
 
-    /// The server with this number, which is 1 to 4,095.
+    /// Returns the server with this number, which must be 1 to 4,095.
     pub fn of(number: u16) -> ServerId
         requires { IsServer number }
         ensures { result ≡ number }
@@ -46,7 +46,7 @@ impl ServerId {
         ServerId { number }
     }
 
-    /// The number of the server.
+    /// Returns the number of the server.
     pub fn number(self) -> u16
         ensures value { result ≡ self }
         ensures in_range { IsServer self }

@@ -26,7 +26,7 @@ impl Model for ShardId {
 impl ShardId {
     ghost use Rattle.sm_ranges.specs.ShardId.{IsShard};
 
-    /// The shard with this number, or none where it is above 4,095.
+    /// Returns the shard with this number, if it is at most 4,095.
     pub fn new(number: u16) -> Option<ShardId>
         ensures known { IsSome result ↔ IsShard number }
         ensures value { IfSome result (λ shard. shard ≡ number) }
@@ -38,7 +38,7 @@ impl ShardId {
         }
     }
 
-    /// The number of the shard.
+    /// Returns the number of the shard.
     pub fn number(self) -> u16
         ensures value { result ≡ self }
         ensures in_range { IsShard self }
@@ -46,7 +46,7 @@ impl ShardId {
         self.number
     }
 
-    /// The shard's place in a list with an element for each shard.
+    /// Returns the shard's place in a list with an element for each shard.
     pub fn index(self) -> usize
         ensures value { result ≡ self }
         ensures in_range { IsShard self }

@@ -12,16 +12,16 @@ pub enum Stand {
     Serving(ServerId),
     /// The owner executes requests, and a migration to the next owner has begun.
     Prepared { owner: ServerId, next: ServerId },
-    /// The next owner executes what the owner forwards to it.
+    /// The next owner executes the requests that the owner forwards to it.
     Forwarding { owner: ServerId, next: ServerId },
-    /// The new owner executes requests, and the previous one forwards what still reaches it.
+    /// The new owner executes requests, and the previous one forwards requests that still reach it.
     Taken { owner: ServerId, previous: ServerId },
     /// The server owns the shard, and nobody executes requests until the shard is resumed or reassigned.
     Paused(ServerId),
 }
 
 impl Stand {
-    /// The owner, whom every stand but a vacant one names.
+    /// Returns the owner. Every stand names one, except a vacant stand.
     pub fn owner(&self) -> Option<ServerId>
         ensures { result ≡ owner_of self.now }
     {
@@ -35,7 +35,7 @@ impl Stand {
         }
     }
 
-    /// The next or the previous server, which a stand names during a migration.
+    /// Returns the next or the previous server. A stand names one during a migration.
     pub fn other(&self) -> Option<ServerId>
         ensures { result ≡ other_of self.now }
     {
@@ -46,7 +46,7 @@ impl Stand {
         }
     }
 
-    /// Whether the stand names the server.
+    /// Returns whether the stand names the server.
     pub fn names(&self, server: ServerId) -> bool
         ensures { result ≡ names self.now server }
     {

@@ -1,4 +1,4 @@
--- How the domains that servers are of are found, and compared with rows.
+-- How the domains of servers are found, and compared with rows.
 use Rattle.std.proofs.Common.{ℕ, zero, suc, ◌+◌, ◌-◌, ◌<◌, ◌≤◌, ◌≡◌, ◌≢◌, Bool, true, false, cond, eqb, ltb, List, []}
 use Rattle.std.proofs.Common.{◌∷◌, ◌++◌, length, get_or, take, drop, map}
 use Rattle.std.proofs.Common.{refl, ap, sym, ◌∙◌, append_assoc, append-nil, arith, inl, inr, ◌⊎◌, ◌&&◌}
@@ -13,7 +13,7 @@ use Rattle.sm_rows.specs.declared.limits.TheConstants.{MAX_DOMAIN}
 use Rattle.sm_rows.specs.declared.server_row.ServerRow.{ServerRow}
 use Rattle.sm_rows.specs.Domains.{is_used, domains_from, domains_of, are_same, domain_with, equal_domains}
 
--- the marks of the domains of the first servers, of so many domains
+-- the marks of the domains of the first servers, if there are this many domains
 pub record AreMarked (servers : List ServerRow) (n i : ℕ) (marks : List Bool) : Type 0 where
   pub len : length marks ≡ n
   pub at : (d : ℕ) → d < n → get_or marks d false ≡ is_used (take i servers) d
@@ -24,21 +24,21 @@ AreMarked-none servers n = record {
   at = λ d h. get_or-replicate n d false false h;
 }
 
--- after all servers each mark says whether a server is of the domain
+-- after all servers, each mark says whether a server is in the domain
 pub is_used-marked : (servers : List ServerRow) (n i : ℕ) (marks : List Bool) → length servers ≤ i
     → AreMarked servers n i marks
     → (d : ℕ) → d < n → get_or marks d false ≡ is_used servers d
 is_used-marked servers n i marks all marked d h =
     marked.at d h ∙ ap (λ (xs : List ServerRow). is_used xs d) (take_all i servers all)
 
--- the numbers from a up to b begin with a, where a is below b, and else there are none
+-- the numbers from a up to b begin with a if a is below b, and otherwise there are none
 range_with_len_first : (a b : ℕ) → a < b → range_with_len a (b - a) ≡ a ∷ range_with_len (a + 1) (b - (a + 1))
 range_with_len_first a b h = let e : b - a ≡ suc (b - (a + 1)) = omega arith in ap (range_with_len a) e
 
 range_with_len_none : (a b : ℕ) → b ≤ a → range_with_len a (b - a) ≡ []
 range_with_len_none a b h = let e : b - a ≡ 0 = omega arith in ap (range_with_len a) e
 
--- the domains from low on begin with low where a server is of it
+-- the domains from low on begin with low if a server is in it
 pub domains_from-used : (servers : List ServerRow) (low high : ℕ) → low < high → is_used servers low ≡ true
     → domains_from low high servers ≡ low ∷ domains_from (low + 1) high servers
 domains_from-used servers low high h used =
@@ -54,7 +54,7 @@ domains_from-unused servers low high h used =
 pub domains_from-none : (servers : List ServerRow) (low high : ℕ) → high ≤ low → domains_from low high servers ≡ []
 domains_from-none servers low high h = ap (filter (is_used servers)) (range_with_len_none low high h)
 
--- the numbers from a place on begin with the one at the place
+-- the numbers from a place on begin with the number at this place
 drop_first : (xs : List ℕ) (at : ℕ) → at < length xs → drop at xs ≡ get_or xs at 0 ∷ drop (at + 1) xs
 drop_first [] at h = absurd (omega arith)
 drop_first (x ∷ xs) zero h = refl
@@ -68,7 +68,7 @@ drop_past [] (suc at) h = refl
 drop_past (x ∷ xs) zero h = absurd (omega arith)
 drop_past (x ∷ xs) (suc at) h = drop_past xs at (omega arith)
 
--- whether the numbers are those of the domains is whether the ones from a place on are those from a domain on
+-- the numbers are those of the domains if and only if the numbers from a place on are those from a domain on
 pub record IsLeft (servers : List ServerRow) (numbers : List ℕ) (n at low : ℕ) : Type 0 where
   pub inside : at ≤ length numbers
   pub same : are_same numbers (domains_from 0 n servers) ≡ are_same (drop at numbers) (domains_from low n servers)
@@ -76,7 +76,7 @@ pub record IsLeft (servers : List ServerRow) (numbers : List ℕ) (n at low : �
 pub IsLeft-start : (servers : List ServerRow) (numbers : List ℕ) (n : ℕ) → IsLeft servers numbers n 0 0
 IsLeft-start servers numbers n = record { inside = omega arith; same = refl }
 
--- whether a number at the place is this one
+-- whether the number at this place is this one
 abbrev pub is_number_at : List ℕ → ℕ → ℕ → Bool
 is_number_at numbers at d = ltb at (length numbers) && eqb (get_or numbers at 0) d
 
@@ -106,7 +106,7 @@ IsLeft-unused servers numbers n at low h unused left = record {
   same = left.same ∙ ap (are_same (drop at numbers)) (domains_from-unused servers low n h unused);
 }
 
--- where the number at the place isn't the next domain they are not the same
+-- if the number at this place isn't the next domain, the lists differ
 pub IsLeft-other : (servers : List ServerRow) (numbers : List ℕ) (n at low : ℕ) → low < n → is_used servers low ≡ true
     → is_number_at numbers at low ≡ false
     → IsLeft servers numbers n at low → are_same numbers (domains_from 0 n servers) ≡ false
@@ -125,7 +125,7 @@ IsLeft-other servers numbers n at low h used other left =
     by false e = ap (λ xs. are_same xs (low ∷ domains_from (low + 1) n servers))
         (drop_past numbers at (ltb-false at (length numbers) e))
 
--- after the last domain they are the same where no number is left
+-- after the last domain the lists are equal if no number is left
 pub IsLeft-end : (servers : List ServerRow) (numbers : List ℕ) (n at low : ℕ) → n ≤ low
     → IsLeft servers numbers n at low → eqb at (length numbers) ≡ are_same numbers (domains_from 0 n servers)
 IsLeft-end servers numbers n at low h left =
@@ -146,7 +146,7 @@ pub domains_of-all : (servers : List ServerRow) (n : ℕ) → n ≡ MAX_DOMAIN +
 unfolding domains_of
 domains_of-all servers n e = ap (λ high. domains_from 0 high servers) (sym e)
 
--- rows that were made and those that are still to be made
+-- the rows made so far, and those still to be made
 pub made-start : (servers : List ServerRow) (down n : ℕ) → n ≡ MAX_DOMAIN + 1
     → [] ++ map (domain_with down) (domains_from 0 n servers) ≡ equal_domains down servers
 made-start servers down n e = ap (map (domain_with down)) (sym (domains_of-all servers n e))

@@ -10,7 +10,7 @@ use Rattle.sm_rows.specs.declared.shard_row.ShardRow.{ShardRow}
 use Rattle.sm_rows.specs.declared.domain_row.DomainRow.{DomainRow}
 use Rattle.sm_rows.specs.Domains.{domains_of}
 
--- what holds of servers by their rules
+-- the facts about servers that keep their rules
 pub record AreServers (rows : List ServerRow) : Type 0 where
   pub some : 1 ≤ length rows
   pub few : length rows ≤ MAX_SERVER
@@ -19,14 +19,14 @@ pub record AreServers (rows : List ServerRow) : Type 0 where
   pub domains : All (λ row. row.domain ≤ MAX_DOMAIN) rows
   pub capacities : All (λ row. row.capacity < 2 ^ 32) rows
 
--- what holds of groups by their rules
+-- the facts about groups that keep their rules
 pub record AreGroups (rows : List GroupRow) : Type 0 where
   pub some : 1 ≤ length rows
   pub few : length rows ≤ MAX_GROUPS
   pub limits : All (λ row. row.limit ≤ MAX_LIMIT) rows
   pub downs : All (λ row. row.down ≤ MAX_LIMIT) rows
 
--- what holds of shards by their rules, where there are so many groups
+-- the facts about shards that keep their rules, if there are this many groups
 pub record AreShards (groups : ℕ) (rows : List ShardRow) : Type 0 where
   pub some : 1 ≤ length rows
   pub few : length rows ≤ MAX_SHARDS
@@ -34,7 +34,7 @@ pub record AreShards (groups : ℕ) (rows : List ShardRow) : Type 0 where
   pub loads : All (λ row. row.load < 2 ^ 32) rows
   pub caps : All (λ row. row.cap ≤ MAX_CAP) rows
 
--- what holds of domains by their rules, where these are the servers
+-- the facts about domains that keep their rules, if these are the servers
 pub record AreDomains (servers : List ServerRow) (rows : List DomainRow) : Type 0 where
   pub those_of_servers : map (λ row. row.domain) rows ≡ domains_of servers
   pub domains : All (λ row. row.domain ≤ MAX_DOMAIN) rows

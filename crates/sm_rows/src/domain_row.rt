@@ -7,10 +7,10 @@ use crate::limits::{MAX_DOMAIN, MAX_DOMAIN_DOWN};
 use crate::server_row::ServerRow;
 use std::alloc::{AllocError, Global};
 
-/// How many domains there can be.
+/// The greatest number of domains.
 const DOMAINS: usize = MAX_DOMAIN as usize + 1;
 
-/// A fault domain, as the settings give it.
+/// A fault domain, from the settings.
 #[derive(Clone, Copy, PartialEq, Eq, Drop)]
 pub struct DomainRow {
     /// The fault domain, 0 to 4,095.
@@ -20,7 +20,7 @@ pub struct DomainRow {
 }
 
 impl DomainRow {
-    /// Whether each number of the row is in its range.
+    /// Returns whether each number of the row is in its range.
     pub fn is_in_range(&self) -> bool
         ensures { result ≡ is_domain_row self.now }
     {
@@ -28,15 +28,15 @@ impl DomainRow {
     }
 }
 
-/// Whether there is a row for each domain that servers are of, by rising numbers, each in its ranges. It takes no
-/// memory.
+/// Returns whether the rows are those of the servers' domains: one row for each domain that a server is in, in rising
+/// order, with each number in its range. It takes no memory.
 pub fn are_domains(servers: &[ServerRow], rows: &[DomainRow]) -> bool
     ensures { result ≡ are_domains servers.now rows.now }
 {
     are_those_used(servers, rows) && rows_in_range(rows)
 }
 
-/// A row with this `down` for each domain that servers are of, by rising numbers.
+/// Returns a row with this `down` for each domain that a server is in, in rising order.
 pub fn equal_domains(
     alloc: Global,
     servers: &[ServerRow],
@@ -57,7 +57,7 @@ pub fn equal_domains(
     Ok(rows)
 }
 
-// Whether the rows are of the domains that servers are of, by rising numbers.
+// Returns whether the rows are those of the servers' domains, in rising order.
 fn are_those_used(servers: &[ServerRow], rows: &[DomainRow]) -> bool
     ensures { result ≡ are_same (map (λ row. row.domain) rows.now) (domains_of servers.now) }
 {
@@ -74,7 +74,7 @@ fn are_those_used(servers: &[ServerRow], rows: &[DomainRow]) -> bool
     at == rows.len()
 }
 
-// Whether there is a row at the place, and it is of the domain.
+// Returns whether there is a row at this place, and it is the domain's.
 fn is_at(rows: &[DomainRow], at: usize, domain: usize) -> bool
     ensures { let numbers = map (λ row. row.domain) rows.now in
         result ≡ (nat_lt at (length numbers) && (slice_index_or numbers at 0 == domain)) }
@@ -85,7 +85,7 @@ fn is_at(rows: &[DomainRow], at: usize, domain: usize) -> bool
     }
 }
 
-// For each domain, whether a server is of it.
+// Returns, for each domain, whether a server is in it.
 fn domains_used(servers: &[ServerRow]) -> [bool; DOMAINS]
     ensures { (d : ℕ) → d ≤ MAX_DOMAIN → slice_index_or result d false ≡ is_used servers.now d }
 {

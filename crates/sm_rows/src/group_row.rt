@@ -4,17 +4,17 @@ ghost use Rattle.sm_rows.specs.Rows.{are_groups, is_group_row};
 
 use crate::limits::{MAX_GROUPS, MAX_LIMIT};
 
-/// A group of shards, as the settings give it.
+/// A group of shards, from the settings.
 #[derive(Clone, Copy, PartialEq, Eq, Drop)]
 pub struct GroupRow {
-    /// How many of its shards may name a server of one fault domain, 0 to 4,096.
+    /// How many of its shards may name a server of the same fault domain, 0 to 4,096.
     pub limit: u16,
     /// How many of its shards may be down at once, 0 to 4,096.
     pub down: u16,
 }
 
 impl GroupRow {
-    /// Whether each number of the row is in its range.
+    /// Returns whether each number of the row is in its range.
     pub fn is_in_range(&self) -> bool
         ensures { result ≡ is_group_row self.now }
     {
@@ -22,7 +22,7 @@ impl GroupRow {
     }
 }
 
-/// Whether the rows are 1 to 4,096, each in its ranges.
+/// Returns whether there are 1 to 4,096 rows, each in its range.
 pub fn are_groups(rows: &[GroupRow]) -> bool
     ensures { result ≡ are_groups rows.now }
 {

@@ -1,9 +1,9 @@
-//! The limits of rows. How many servers and shards there may be `sm_ranges` says.
+//! The limits of rows. `sm_ranges` has the limits of servers and shards.
 
 /// The greatest fault domain.
 pub const MAX_DOMAIN: u16 = 4095;
 
-/// The most groups that there are.
+/// The greatest number of groups.
 pub const MAX_GROUPS: usize = 4096;
 
 /// The greatest `limit` and `down` of a group.

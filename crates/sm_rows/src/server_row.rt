@@ -6,30 +6,30 @@ use crate::limits::MAX_DOMAIN;
 use sm_ranges::limits::MAX_SERVER;
 use sm_ranges::server_id::ServerId;
 
-/// A server, as the settings give it.
+/// A server, from the settings.
 #[derive(Clone, Copy, PartialEq, Eq, Drop)]
 pub struct ServerRow {
     /// The number of the server.
     pub id: ServerId,
-    /// The fault domain, 0 to 4,095: servers of one domain tend to fail together.
+    /// The fault domain, 0 to 4,095. Servers in one domain tend to fail together.
     pub domain: u16,
-    /// In books the loads of the shards that name the server add up to at most this, 0 to 4,294,967,295.
+    /// The loads of the shards that name the server must not add up to more than this, 0 to 4,294,967,295.
     pub capacity: u32,
 }
 
 impl ServerRow {
-    /// Whether each number of the row is in its range.
+    /// Returns whether each number of the row is in its range.
     pub fn is_in_range(&self) -> bool
         ensures { result ≡ is_server_row self.now }
     {
-        // The types keep the ranges of the other two.
+        // The other two numbers are in their ranges because of their types.
         prove!(self.id.number() <= 4095);
         prove!(self.capacity <= u32::MAX);
         self.domain <= MAX_DOMAIN
     }
 }
 
-/// Whether the rows are 1 to 4,095, each in its ranges, by rising numbers.
+/// Returns whether there are 1 to 4,095 rows with rising numbers, each in its range.
 pub fn are_servers(rows: &[ServerRow]) -> bool
     ensures { result ≡ are_servers rows.now }
 {

@@ -5,19 +5,19 @@ ghost use Rattle.sm_rows.specs.Rows.{are_shards, is_shard_row};
 use crate::limits::MAX_CAP;
 use sm_ranges::limits::MAX_SHARDS;
 
-/// A shard, as the settings give it.
+/// A shard, from the settings.
 #[derive(Clone, Copy, PartialEq, Eq, Drop)]
 pub struct ShardRow {
     /// The place of its group among the groups, from 0.
     pub group: u16,
-    /// What it takes of the capacity of each server that its stand names, 0 to 4,294,967,295.
+    /// The capacity that it takes on each server that its stand names, 0 to 4,294,967,295.
     pub load: u32,
-    /// How many of its replicas, of which there is one, may be down for a planned restart: 0 or 1.
+    /// How many of its replicas may be down for a planned restart: 0 or 1, because it has one replica.
     pub cap: u8,
 }
 
 impl ShardRow {
-    /// Whether each number of the row is in its range, where there are so many groups.
+    /// Returns whether each number of the row is in its range, if there are this many groups.
     pub fn is_in_range(&self, groups: usize) -> bool
         ensures { result ≡ is_shard_row groups self.now }
     {
@@ -27,7 +27,7 @@ impl ShardRow {
     }
 }
 
-/// Whether the rows are 1 to 4,096, each in its ranges where there are so many groups.
+/// Returns whether there are 1 to 4,096 rows, and each is in its range if there are this many groups.
 pub fn are_shards(groups: usize, rows: &[ShardRow]) -> bool
     ensures { result ≡ are_shards groups rows.now }
 {

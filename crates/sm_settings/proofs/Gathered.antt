@@ -5,7 +5,7 @@ use Rattle.std.specs.List.{list_all}
 use Rattle.std.proofs.lemmas.List.Folds.{list_all-map, list_all_at}
 use Rattle.sm_settings.specs.Members.{when}
 
--- where the value isn't there the test failed
+-- if the value isn't there, the test failed
 pub failed_test : {R : Type 0} (passed : Bool) (row : R) → None ≡ when passed row → passed ≡ false
 failed_test true row none = cc
 failed_test false row none = refl
@@ -33,14 +33,14 @@ gathered_rows : {R : Type 0} (gathered : Bool) (found rows : R) → Some found �
 gathered_rows true found rows some = cc
 gathered_rows false found rows some = cc
 
--- and are given where they keep the rule, and only there
+-- and they are given if and only if they keep the rule
 pub judged_rows : {R : Type 0} (rule : R → Bool) (gathered keeps : Bool) (found rows : R)
     → Some found ≡ when gathered rows → rule found ≡ keeps → when keeps found ≡ when (rule rows) rows
 judged_rows rule gathered keeps found rows some judged =
     let same = gathered_rows gathered found rows some in
     ap (when keeps) same ∙ ap (λ b. when b rows) (sym judged ∙ ap rule same)
 
--- where something is given, the rule holds of what the items say, and it is that
+-- if something is given, the rule holds for the contents of the items, and these are given
 pub given_by : {D R : Type 0} (says : List D → R) (rule : R → Bool) (found : R) (items all : List D)
     → Some found ≡ when (rule (says items)) (says items) → items ≡ all
     → (rule (says all) ≡ true) × (found ≡ says all)
@@ -51,19 +51,19 @@ given_by says rule found items all some same =
     by true some = (refl, cc)
     by false some = absurd (cc)
 
--- and where nothing is, it doesn't
+-- if nothing is given, the rule doesn't hold
 pub broken_by : {D R : Type 0} (says : List D → R) (rule : R → Bool) (items all : List D)
     → None ≡ when (rule (says items)) (says items) → items ≡ all → rule (says all) ≡ false
 broken_by says rule items all none same =
     subst (λ ds. rule (says ds) ≡ false) same (failed_test (rule (says items)) (says items) none)
 
--- a number is given where it is within its limits
+-- if a number is within its limits, it is given
 pub within_limits : {F : Type 0} (within : Bool) (number given : ℕ) (fault : F)
     → Ok given ≡ (if within then Ok number else Err fault) → (within ≡ true) × (given ≡ number)
 within_limits true number given fault is = (refl, cc)
 within_limits false number given fault is = absurd (cc)
 
--- and a fault where it isn't
+-- if it isn't, a fault is given
 pub beyond_limits : {F : Type 0} (within : Bool) (number : ℕ) (given fault : F)
     → Err given ≡ (if within then Ok number else Err fault) → (within ≡ false) × (given ≡ fault)
 beyond_limits true number given fault is = absurd (cc)

@@ -1,4 +1,4 @@
--- What a line gives, by what was read of it.
+-- The result of a line, from the data that was read of it.
 use Rattle.std.proofs.Common.{◌≡◌, ◌≢◌, ◌≤◌, nat_le, arith, ℕ, List, [], length, refl, ap, ◌∙◌, Some, None, Err, true}
 use Rattle.std.proofs.Common.{false, if◌then◌else◌}
 use Rattle.std.specs.Str.{IsUtf8, is_utf8}
@@ -18,7 +18,7 @@ unfolding settings_of
 settings_of_short line short = ap
     (λ b. if b then (if is_utf8 line then verdict_of (read line) else Err BadJson) else Err TooLong) (le-leb _ _ short)
 
--- a line that is read gives what its value gives
+-- the result of a line that is read is that of its value
 pub settings_of_read : (line : List ℕ) (d : Data) → length line ≤ MAX_SETTINGS → IsUtf8 line → read line ≡ Some d
     → settings_of line ≡ verdict_of (Some d)
 settings_of_read line d short text is =
@@ -37,7 +37,7 @@ settings_of_unread line short unread =
       | false ↦ λ _. refl
     ] refl
 
--- a line gives settings or a fault of its own, whatever the memory
+-- a line gives settings or a fault of its own, however much memory there is
 pub settings_of_decides : (line : List ℕ) → settings_of line ≢ Err NoMemory
 unfolding settings_of
 settings_of_decides line h =

@@ -1,4 +1,4 @@
--- Settings that a line gives keep every rule, and no line gives out of memory.
+-- If a line gives settings, they keep every rule; and no line gives out of memory.
 use Rattle.std.proofs.Common.{◌≡◌, ◌≢◌, ◌<◌, ◌&&◌, ℕ, List, [], ◌∷◌, ◌++◌, length, refl, ap, sym, ◌∙◌, subst, Option}
 use Rattle.std.proofs.Common.{Some, None, Ok, Err, Bool, true, false, ◌==◌, if◌then◌else◌, get_or, arith, lit<}
 use Rattle.std.specs.Prelude.{is_none}
@@ -25,7 +25,7 @@ use Rattle.sm_settings.specs.SettingsLine.{verdict_of, with_domains}
 use Rattle.sm_settings.specs.SettingsRows.{rule_of_servers, rule_of_groups, rule_of_shards, rule_of_domains}
 use Rattle.sm_settings.specs.SettingsRules.{KeepsRules, PassTests}
 
--- where a value is given, all tests passed and it is the one to give
+-- if a value is given, all tests passed and it is the value to give
 all_hold : {V F : Type 0} (rs : List (Bool × F)) (s v : V) → value_or_fault rs s ≡ Ok v
     → (list_all (λ r. r.0) rs ≡ true) × (s ≡ v)
 all_hold [] s v h = (refl, cc)
@@ -94,7 +94,7 @@ keeps_rules s d all =
       tests = tests_pass s (holds 3 (lit< tt)) (holds 4 (lit< tt)) (holds 5 (lit< tt)) (holds 10 (lit< tt));
     }
 
--- what is verdict_of good keeps every rule
+-- if verdict_of gives settings, they keep every rule
 pub verdict_keeps : (d : Data) (v : SettingsValues) → verdict_of (Some d) ≡ Ok v → KeepsRules v
 verdict_keeps d v h =
     let all = all_hold (rules d (values_in d)) (values_in d) v h in
@@ -110,7 +110,7 @@ other_fault (r ∷ rs) s e others h =
     elim r.0 as (λ b. (if b then value_or_fault rs s else Err r.1) ≡ Err e → ⊥)
     [ true ↦ λ h. other_fault rs s e others.1 h | false ↦ λ h. let same : r.1 ≡ e = cc in others.0 same ] h
 
--- what is verdict_of is never out of memory
+-- verdict_of is never out of memory
 pub verdict_decides : (o : Option Data) → verdict_of o ≢ Err NoMemory
 verdict_decides None h = cc
 verdict_decides (Some d) h =
@@ -122,7 +122,7 @@ verdict_decides (Some d) h =
       ),
     ) h
 
--- where a value is given the later rules decide, and else its fault is that of all rules
+-- if a value is given, the later rules decide, and otherwise its fault is that of all rules
 pub later_rules : {V W F : Type 0} (rs qs : List (Bool × F)) (s v : V) (w : W) → value_or_fault rs s ≡ Ok v
     → value_or_fault (rs ++ qs) w ≡ value_or_fault qs w
 later_rules [] qs s v w h = refl
@@ -139,7 +139,7 @@ earlier_fault (r ∷ rs) qs s w e h =
     → (if b then value_or_fault (rs ++ qs) w else Err r.1) ≡ Err e)
     [ true ↦ λ h. earlier_fault rs qs s w e h | false ↦ λ h. cc ] h
 
--- where all rules but that of domains hold, it decides
+-- if all rules except for that of domains hold, that rule decides
 pub domains_decide : (d : Data) (v : SettingsValues) → base_verdict d ≡ Ok v
     → verdict_of (Some d)
     ≡ value_or_fault ((rule_of_domains (values_in d).servers (values_in d).domains, BadDomains) ∷ []) (values_in d)
@@ -154,7 +154,7 @@ base_fault d fault h =
     ((rule_of_domains (values_in d).servers (values_in d).domains, BadDomains) ∷ [])
     (with_domains (values_in d) []) (values_in d) fault h
 
--- the values of all rules but that of domains are those of the line
+-- the values of all rules except for that of domains are those of the line
 base_values : (d : Data) (v : SettingsValues) → base_verdict d ≡ Ok v → with_domains (values_in d) [] ≡ v
 base_values d v h = (all_hold (base_rules d (values_in d)) (with_domains (values_in d) []) v h).1
 

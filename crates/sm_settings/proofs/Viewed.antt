@@ -1,4 +1,4 @@
--- What the clauses of `Value` say, in the words of Members.
+-- The clauses of `Value`, in the words of Members.
 use Rattle.std.proofs.Common.{◌≡◌, ◌==◌, nat_eq, ℕ, suc, List, [], ◌∷◌, length, map, refl, ap, ◌∙◌, sym, Option, Some}
 use Rattle.std.proofs.Common.{None, option_map, String, Global, Bool, ◌&&◌}
 use Rattle.serde_json.specs.Data.{Data, Members}
@@ -46,7 +46,7 @@ pub all_viewed : (test : Data → Bool) (values : List Value) (o : Option Data)
 all_viewed test values o items =
     sym (list_all-map test view values) ∙ ap (holds_of (list_all test)) items ∙ sym (holds_of_array test o)
 
--- an object's members are numbers where each of their names has one
+-- an object's members are numbers if each of their names has one
 pub named_numbers : {N : Type 0} (of : N → List ℕ) (names : List N) (d : Data) (sized each : Bool)
     → sized ≡ has_size (length names) d
     → each ≡ list_all (λ name. holds_of is_whole (get (of name) d)) names

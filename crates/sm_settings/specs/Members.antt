@@ -1,6 +1,6 @@
--- Looking into JSON data: what an object's members hold, and tests of their types.
--- What is missing or of another type counts as 0 or as nothing: a line with such a member breaks the rule on
--- shapes, which comes before all rules on values.
+-- Looking into JSON data: the values of an object's members, and tests of their types. If a member is missing or of
+-- another type, it counts as 0 or as nothing. A line with such a member breaks the rule on shapes, which comes before
+-- all rules on values.
 use Rattle.std.specs.Prelude.{ℕ, suc, ◌&&◌, ◌==◌, List, [], ◌∷◌, length, Bool, false, if◌then◌else◌, Option, None, Some}
 use Rattle.std.specs.Prelude.{is_some, unwrap_or, option_map, option_and_then}
 use Rattle.std.specs.List.{list_all}
@@ -9,7 +9,7 @@ use Rattle.serde_json.specs.Find.{get, as_number, as_u64, as_array, as_object, a
 
 -- ---- values
 
--- the number, where it is written in digits alone and is below 2^64
+-- the number, if it is written only in digits and is below 2^64
 abbrev pub as_whole : Data → Option ℕ
 as_whole d = option_and_then as_u64 (as_number d)
 
@@ -36,12 +36,12 @@ items_at name d = unwrap_or (option_and_then array_of (get name d)) []
 
 -- ---- types
 
--- the value is there, and passes
+-- the value exists and passes
 abbrev pub holds_of : {T : Type 0} → (T → Bool) → Option T → Bool
 holds_of test None = false
 holds_of test (Some x) = test x
 
--- a number in digits alone, below 2^64
+-- a number in digits only, below 2^64
 abbrev pub is_whole : Data → Bool
 is_whole d = is_some (as_whole d)
 
@@ -58,16 +58,16 @@ abbrev pub member_count : Members → ℕ
 member_count no_members = 0
 member_count (member name d ms) = suc (member_count ms)
 
--- an object of so many members
+-- an object with this many members
 abbrev pub has_size : ℕ → Data → Bool
 has_size size d = holds_of (λ ms. member_count ms == size) (as_object d)
 
--- an object with exactly these members, the value of each passing its test
+-- an object with exactly these members, each of which passes its test
 abbrev pub is_object_of : List (List ℕ × (Data → Bool)) → Data → Bool
 is_object_of members d = has_size (length members) d && list_all (λ m. holds_of m.1 (get m.0 d)) members
 
 -- ---- tests
 
--- the value where the test holds
+-- the value, if the test passes
 abbrev pub when : {T : Type 0} → Bool → T → Option T
 when holds x = if holds then Some x else None

@@ -7,7 +7,7 @@ use Rattle.sm_settings.specs.declared.settings_fault.SettingsFault.TheVariants.{
 use Rattle.sm_settings.specs.declared.settings_fault.SettingsFault.TheVariants.{BadWorkers, BadDomains, TooManyWorkers}
 use Rattle.sm_settings.specs.declared.settings_fault.SettingsFault.TheVariants.{NoMemory}
 
--- a fault as the answer to a settings line writes it
+-- a fault as it is written in the answer to a settings line
 abbrev pub settings_fault_name : SettingsFault → List ℕ
 settings_fault_name TooLong = codes "TooLong"
 settings_fault_name BadJson = codes "BadJson"

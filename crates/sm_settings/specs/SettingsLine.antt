@@ -1,4 +1,4 @@
--- What a settings line gives: its values, or the first rule that it breaks.
+-- The result of a settings line: its values, or the first rule that it breaks.
 use Rattle.std.specs.Prelude.{ℕ, ◌==◌, ◌||◌, List, [], ◌∷◌, ◌++◌, length, map, is_none, Bool, nat_le, if◌then◌else◌}
 use Rattle.std.specs.Prelude.{Option, None, Some, Result, Ok, Err, codes}
 use Rattle.std.specs.Str.{is_utf8}
@@ -29,7 +29,7 @@ use Rattle.sm_settings.specs.SettingsRows.{rule_of_servers, rule_of_groups, rule
 abbrev pub has_domains : Data → Bool
 has_domains d = number_at (codes "version") d == 2
 
--- whether the settings are of a version that there is
+-- whether the settings have a version that exists
 unfoldable pub has_version : Data → Bool
 has_version d = number_at (codes "version") d == 1 || has_domains d
 
@@ -52,7 +52,7 @@ is_settings_object d =
     if has_domains d then is_object_of ((codes "domains", is_array_of is_domain_object) ∷ settings_members) d
     else is_object_of settings_members d
 
--- what settings say: the bounds of the layout, the rows, and the limits
+-- the values of settings: the bounds of the layout, the rows, and the limits
 pub record SettingsValues : Type 0 where
   pub bounds : List (List ℕ)
   pub servers : List ServerRow
@@ -64,13 +64,13 @@ pub record SettingsValues : Type 0 where
   pub workers : ℕ
   pub domains : List DomainRow
 
--- the rows of domains that an object says, where these are the servers: in version 1 each domain has a row that lets
--- all of its servers be down
+-- the rows of domains of an object, if these are the servers: in version 1 each domain has a row that lets all of its
+-- servers be down
 unfoldable pub domains_in : List ServerRow → Data → List DomainRow
 domains_in servers d =
     if has_domains d then map domain_row_of (items_at (codes "domains") d) else equal_domains MAX_DOMAIN_DOWN servers
 
--- the values that an object says
+-- the values of an object
 abbrev pub values_in : Data → SettingsValues
 values_in d = record {
   bounds = map string_of (items_at (codes "bounds") d);
@@ -84,8 +84,8 @@ values_in d = record {
   domains = domains_in (map server_row_of (items_at (codes "servers") d)) d;
 }
 
--- the rules of settings but for that of domains, in the order of the checks, each with the fault of a line that breaks
--- it
+-- the rules of settings except for that of domains, in the order of the checks, each with the fault of a line that
+-- breaks it
 abbrev pub base_rules : Data → SettingsValues → List (Bool × SettingsFault)
 base_rules d v =
     (has_version d, BadVersion) ∷
@@ -103,7 +103,7 @@ base_rules d v =
 abbrev pub rules : Data → SettingsValues → List (Bool × SettingsFault)
 rules d v = base_rules d v ++ (rule_of_domains v.servers v.domains, BadDomains) ∷ []
 
--- the value where all rules hold, and else the fault of the first that doesn't
+-- the value if all rules hold, and otherwise the fault of the first rule that doesn't
 abbrev pub value_or_fault : {V F : Type 0} → List (Bool × F) → V → Result V F
 value_or_fault [] v = Ok v
 value_or_fault (r ∷ rs) v = if r.0 then value_or_fault rs v else Err r.1
@@ -112,22 +112,22 @@ value_or_fault (r ∷ rs) v = if r.0 then value_or_fault rs v else Err r.1
 abbrev pub with_domains : SettingsValues → List DomainRow → SettingsValues
 with_domains v domains = record v { domains = domains }
 
--- what JSON data gives as settings, but for domains
+-- the result of JSON data as settings, without domains
 abbrev pub base_verdict : Data → Result SettingsValues SettingsFault
 base_verdict d = value_or_fault (base_rules d (values_in d)) (with_domains (values_in d) [])
 
--- what JSON data gives as settings: its values, or the fault of the first rule that it breaks; none was read of what is
--- no JSON
+-- the result of JSON data as settings: its values, or the fault of the first rule that it breaks; if the line was no
+-- JSON, there is no data
 abbrev pub verdict_of : Option Data → Result SettingsValues SettingsFault
 verdict_of None = Err BadJson
 verdict_of (Some d) = value_or_fault (rules d (values_in d)) (values_in d)
 
--- what the bytes of a line give as settings: their values, or their first fault
+-- the result of the bytes of a line as settings: their values, or their first fault
 unfoldable pub settings_of : List ℕ → Result SettingsValues SettingsFault
 settings_of line = if nat_le (length line) MAX_SETTINGS
     then (if is_utf8 line then verdict_of (read line) else Err BadJson) else Err TooLong
 
--- the values that settings hold
+-- the values of settings
 abbrev pub values_of : Settings → SettingsValues
 values_of s = record {
   bounds = s.layout;

@@ -14,7 +14,7 @@ abbrev pub is_server_object : Data → Bool
 is_server_object =
     is_object_of ((codes "id", is_whole) ∷ (codes "domain", is_whole) ∷ (codes "capacity", is_whole) ∷ [])
 
--- the row that an object says
+-- the row of an object
 abbrev pub server_row_of : Data → ServerRow
 server_row_of d = record {
   id = number_at (codes "id") d;
@@ -26,7 +26,7 @@ server_row_of d = record {
 abbrev pub is_group_object : Data → Bool
 is_group_object = is_object_of ((codes "limit", is_whole) ∷ (codes "down", is_whole) ∷ [])
 
--- the row that an object says
+-- the row of an object
 abbrev pub group_row_of : Data → GroupRow
 group_row_of d = record { limit = number_at (codes "limit") d; down = number_at (codes "down") d }
 
@@ -34,7 +34,7 @@ group_row_of d = record { limit = number_at (codes "limit") d; down = number_at 
 abbrev pub is_shard_object : Data → Bool
 is_shard_object = is_object_of ((codes "group", is_whole) ∷ (codes "load", is_whole) ∷ (codes "cap", is_whole) ∷ [])
 
--- the row that an object says
+-- the row of an object
 abbrev pub shard_row_of : Data → ShardRow
 shard_row_of d =
     record { group = number_at (codes "group") d; load = number_at (codes "load") d; cap = number_at (codes "cap") d }
@@ -43,7 +43,7 @@ shard_row_of d =
 abbrev pub is_domain_object : Data → Bool
 is_domain_object = is_object_of ((codes "domain", is_whole) ∷ (codes "down", is_whole) ∷ [])
 
--- the row that an object says
+-- the row of an object
 abbrev pub domain_row_of : Data → DomainRow
 domain_row_of d = record { domain = number_at (codes "domain") d; down = number_at (codes "down") d }
 
@@ -57,10 +57,10 @@ rule_of_servers rows = are_servers rows
 unfoldable pub rule_of_groups : List GroupRow → Bool
 rule_of_groups rows = are_groups rows
 
--- there is a shard for each of so many bounds, and they keep their rules, where there are so many groups
+-- there is a shard for each of this many bounds, and the shards keep their rules, if there are this many groups
 unfoldable pub rule_of_shards : ℕ → ℕ → List ShardRow → Bool
 rule_of_shards bounds groups rows = length rows == bounds && are_shards groups rows
 
--- domains keep their rules, where these are the servers
+-- domains keep their rules, if these are the servers
 unfoldable pub rule_of_domains : List ServerRow → List DomainRow → Bool
 rule_of_domains servers rows = are_domains servers rows

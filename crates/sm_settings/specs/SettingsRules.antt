@@ -13,7 +13,7 @@ PassTests s =
     (are_servers s.servers ≡ true) × (are_groups s.groups ≡ true) × (are_shards (length s.groups) s.shards ≡ true)
     × (are_domains s.servers s.domains ≡ true)
 
--- what holds of the values of every settings line that is accepted
+-- the facts about the values of every settings line that is accepted
 pub record KeepsRules (s : SettingsValues) : Type 0 where
   pub layout : IsLayout s.bounds
   pub servers : AreServers s.servers

@@ -1,3 +1,3 @@
--- Lemmas that the proofs of crates above cite, and what the laws of rows rest on.
+-- The lemmas that proofs of crates above cite, and the basis of the laws of rows.
 pub mod LongLines
 pub mod RuledRows

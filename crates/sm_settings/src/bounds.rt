@@ -10,7 +10,7 @@ use serde_json::Value;
 use sm_ranges::layout::{Layout, LayoutFault};
 use std::alloc::{AllocError, Global};
 
-/// Whether an array is at the member, and each of its items is a text.
+/// Returns whether there is an array at the member, and each of its items is a text.
 #[tactic(auto, using(crate::proofs::Viewed::holds_of_array))]
 pub fn has_texts(value: &Value, name: &str) -> bool
     ensures { result ≡ holds_of (is_array_of is_string) (get name.now (view value.now)) }
@@ -21,14 +21,14 @@ pub fn has_texts(value: &Value, name: &str) -> bool
     }
 }
 
-/// Whether each value is a text.
+/// Returns whether each value is a text.
 fn are_texts(values: &[Value]) -> bool
     ensures { result ≡ list_all (λ value. is_string (view value)) values.now }
 {
     values.iter().all(|value| value.is_string())
 }
 
-/// The layout with the values' texts as its bounds, where they make one.
+/// Returns the layout with the values' texts as its bounds, if they are one.
 pub fn layout_from(alloc: Global, values: &[Value]) -> Result<Option<Layout>, AllocError>
     ensures { let bounds = map string_of (map view values.now) in
         IfOk result (λ found. found ≡ when (is_none (first_layout_fault bounds)) bounds) }

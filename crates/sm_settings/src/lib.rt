@@ -1,4 +1,4 @@
-//! The settings line of a script: read, checked rule by rule, and given as values of exact types.
+//! The settings line of a script. It is read, checked rule by rule, and returned as values of exact types.
 //!
 //! ```rust
 //! let settings = Settings::read(rt.alloc(), PLAIN.as_bytes())?;

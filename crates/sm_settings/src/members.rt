@@ -8,21 +8,21 @@ ghost use Rattle.sm_rows.specs.Rows.{is_within};
 
 use serde_json::Value;
 
-/// The number at a member, and 0 where there is none.
+/// Returns the number at a member, or 0 if there is none.
 pub fn number(value: &Value, name: &str) -> u64
     ensures { result ≡ number_at name.now (view value.now) }
 {
     value.get(name).and_then(Value::as_u64).unwrap_or(0)
 }
 
-/// Whether a number in digits alone and below 2^64 is at the member.
+/// Returns whether the member has a number that is written only in digits and is below 2^64.
 pub fn has_number(value: &Value, name: &str) -> bool
     ensures { result ≡ holds_of is_whole (get name.now (view value.now)) }
 {
     value.get(name).and_then(Value::as_u64).is_some()
 }
 
-/// The number at a member, where it is from `low` to `high`.
+/// Returns the number at a member, if it is from `low` to `high`.
 pub fn number_within(value: &Value, name: &str, low: u64, high: u64) -> Option<u64>
     ensures value { result
         ≡ when (is_within low high (number_at name.now (view value.now))) (number_at name.now (view value.now)) }
@@ -37,7 +37,7 @@ pub fn number_within(value: &Value, name: &str, low: u64, high: u64) -> Option<u
     }
 }
 
-/// Whether the value is an object of so many members.
+/// Returns whether the value is an object with this many members.
 pub fn has_size(value: &Value, size: usize) -> bool
     ensures { result ≡ has_size size (view value.now) }
 {
@@ -47,21 +47,21 @@ pub fn has_size(value: &Value, size: usize) -> bool
     }
 }
 
-/// Whether the value is an object with exactly these members, each a number.
+/// Returns whether the value is an object with exactly these members, each a number.
 pub fn has_numbers(value: &Value, names: &[&str]) -> bool
     ensures { result ≡ is_object_of (map (λ name. (name.now, is_whole)) names.now) (view value.now) }
 {
     has_size(value, names.len()) && have_numbers(value, names)
 }
 
-// Whether a number is at each of the members.
+// Returns whether each of the members has a number.
 fn have_numbers(value: &Value, names: &[&str]) -> bool
     ensures { result ≡ list_all (λ name. holds_of is_whole (get name.now (view value.now))) names.now }
 {
     names.iter().all(|name| has_number(value, name))
 }
 
-/// The items of the array at a member, if there is one.
+/// Returns the items of the array at a member, if there is one.
 pub fn array<'a>(value: &'a Value, name: &str) -> Option<&'a [Value]>
     ensures { option_map (λ items. map view items.now) result
         ≡ option_and_then array_of (get name.now (view value.now)) }
@@ -71,7 +71,7 @@ pub fn array<'a>(value: &'a Value, name: &str) -> Option<&'a [Value]>
     Some(items.as_slice())
 }
 
-/// The items of the array at a member, and none where there is no array.
+/// Returns the items of the array at a member, or none if there is no array.
 pub fn items<'a>(value: &'a Value, name: &str) -> &'a [Value]
     ensures { map view result.now ≡ items_at name.now (view value.now) }
 {

@@ -14,7 +14,7 @@ use sm_rows::{
 };
 use std::alloc::{AllocError, Global};
 
-/// A row that settings write as an object of numbers.
+/// A row, which the settings write as an object of numbers.
 pub(crate) trait Row: Copy + Drop {
     ghost use Rattle.std.specs.Prelude.{◌≡◌, ◌≤◌, ℕ, Bool, false, true, List, length};
     ghost use Rattle.std.specs.List.{list_all};
@@ -27,28 +27,28 @@ pub(crate) trait Row: Copy + Drop {
     /// Whether data is an object with exactly the row's members.
     ghost is_object: { Data → Bool };
 
-    /// The row that an object says.
+    /// The row of an object.
     ghost row_of: { Data → Self };
 
-    /// Whether each number of a row is in its range, where there are so many groups.
+    /// Whether each number of a row is in its range, if there are this many groups.
     ghost is_row: { ℕ → Self → Bool };
 
-    /// Whether rows keep their rules, where there are so many bounds and groups, and these servers.
+    /// Whether rows keep their rules, if there are this many bounds and groups, and these servers.
     ghost rule: { ℕ → ℕ → List Server → List Self → Bool };
 
-    /// Whether the value has exactly the members of a row, each a number.
+    /// Returns whether the value has exactly the members of a row, each a number.
     fn has_shape(value: &Value) -> bool
         ensures { result ≡ is_object (view value.now) };
 
-    /// The row of the value's members, where each number is in its range and there are so many groups.
+    /// Returns the row of the value's members, if each number is in its range. There are this many groups.
     fn from_value(value: &Value, groups: u16) -> Option<Self>
         ensures { result ≡ when (is_row groups (row_of (view value.now))) (row_of (view value.now)) };
 
-    /// Whether the rows keep their rules, where there are so many bounds and groups, and these servers.
+    /// Returns whether the rows keep their rules, if there are this many bounds and groups, and these servers.
     fn keep_rule(rows: &[Self], bounds: usize, groups: u16, servers: &[ServerRow]) -> bool
         ensures { result ≡ rule bounds groups servers.now rows.now };
 
-    // A number out of its range breaks the rule.
+    // If a number is out of its range, it breaks the rule.
     ghost refused: { (bounds groups : ℕ) (servers : List Server) (rows : List Self)
         → list_all (is_row groups) rows ≡ false → rule bounds groups servers rows ≡ false };
 
@@ -207,7 +207,7 @@ impl Row for DomainRow {
     }
 }
 
-/// Whether an array is at the member, and each of its items has the members of a row.
+/// Returns whether there is an array at the member, and each of its items has the members of a row.
 #[tactic(auto, using(crate::proofs::Viewed::holds_of_array))]
 pub(crate) fn has_rows<T: Row>(value: &Value, name: &str) -> bool
     ensures { result ≡ holds_of (is_array_of T.is_object) (get name.now (view value.now)) }
@@ -218,14 +218,14 @@ pub(crate) fn has_rows<T: Row>(value: &Value, name: &str) -> bool
     }
 }
 
-/// Whether each value has the members of a row.
+/// Returns whether each value has the members of a row.
 fn have_shape<T: Row>(values: &[Value]) -> bool
     ensures { result ≡ list_all (λ value. T.is_object (view value)) values.now }
 {
     values.iter().all(|value| T::has_shape(value))
 }
 
-/// The rows of the values, where each number is in its range and there are so many groups.
+/// Returns the rows of the values, if each number is in its range. There are this many groups.
 fn rows_of<T: Row>(
     alloc: Global,
     values: &[Value],
@@ -244,7 +244,7 @@ fn rows_of<T: Row>(
     Ok(Some(rows))
 }
 
-/// The rows that the values say, where they keep their rules for so many bounds and groups, and these servers.
+/// Returns the rows of the values, if they keep their rules for this many bounds and groups, and these servers.
 pub(crate) fn rows_from<T: Row>(
     alloc: Global,
     values: &[Value],

@@ -20,26 +20,26 @@ use sm_rows::limits::MAX_DOMAIN_DOWN;
 use sm_rows::{DomainRow, GroupRow, ServerRow, ShardRow, equal_domains};
 use std::alloc::{AllocError, Global};
 
-/// The most bytes that a settings line may have, without its line feed.
+/// The greatest length of a settings line in bytes, without its line feed.
 pub const MAX_SETTINGS: usize = 1 << 20;
 
 /// The greatest `ops`.
 pub const MAX_OPS: u64 = 4_095;
 
-/// The most requests that a shard may keep.
+/// The greatest number of requests that a shard may keep.
 pub const MAX_KEPT: u64 = 1_048_576;
 
-/// The least ceiling: an assignment, an admission and its end take three generations.
+/// The least ceiling. It is 3 because an assignment, an admission and its end take three generations.
 pub const MIN_CEILING: u64 = 3;
 
-/// The greatest ceiling: the greatest number of 36 bits.
+/// The greatest ceiling, which is the greatest number of 36 bits.
 pub const MAX_CEILING: u64 = (1 << 36) - 1;
 
-/// The most workers that a server may have.
+/// The greatest number of workers of a server.
 pub const MAX_WORKERS: u64 = 8;
 
-/// What a settings line says: how the keys are cut into shards, the servers, groups and shards, and the limits of a
-/// run.
+/// The contents of a settings line: how the keys are cut into shards, the servers, groups and shards, and the limits of
+/// a run.
 #[derive(Drop)]
 pub struct Settings {
     pub layout: Layout,
@@ -47,10 +47,10 @@ pub struct Settings {
     pub groups: Vec<GroupRow>,
     /// A row for each shard of the layout.
     pub shards: Vec<ShardRow>,
-    /// How many servers may be approved to restart, stopped or failed, with the one whose restart is approved: 0 to
-    /// 4,095.
+    /// How many servers may be approved to restart, stopped or failed, including the one whose restart is approved: 0
+    /// to 4,095.
     pub ops: u16,
-    /// How many requests a shard keeps at most: 1 to 1,048,576.
+    /// The greatest number of requests that a shard keeps: 1 to 1,048,576.
     pub kept: u32,
     /// The greatest generation of a shard: 3 to 2^36 - 1.
     pub ceiling: u64,
@@ -61,19 +61,19 @@ pub struct Settings {
 }
 
 impl Settings {
-    /// The settings that a line says, or the fault of the first rule that it breaks.
+    /// Returns the settings in a line, or the fault of the first rule that it breaks.
     ///
-    /// The line is one JSON object, without its line feed. Of two equal members the last counts.
-    /// `NoMemory` is for refused memory, which no clause can tell; whether the line breaks a rule is then open, but for
-    /// its length.
+    /// The line must be one JSON object, without its line feed. If two members have the same name, the last one counts.
+    /// `NoMemory` means that memory was refused, which no clause can predict. It doesn't say whether the line breaks a
+    /// rule, only that it isn't too long.
     #[tactic(auto, using(crate::proofs::Lines::settings_of_decides, crate::proofs::Lines::settings_of_nothing))]
     pub fn read(alloc: Global, line: &[u8]) -> Result<Settings, SettingsFault>
         ensures ok { IfOk result (λ settings. settings_of line.now ≡ Ok (values_of settings)) }
         ensures err { IfErr result (λ fault. fault ≢ SettingsFault.NoMemory → settings_of line.now ≡ Err fault) }
         ensures rules { IfOk result (λ settings. KeepsRules (values_of settings)) }
-        // A line is never out of memory by itself.
+        // The meaning of a line is never `NoMemory`.
         ensures decided { settings_of line.now ≢ Err SettingsFault.NoMemory }
-        // An empty line, as where there is no line, is no JSON.
+        // An empty line, as if there were no line, is no JSON.
         ensures empty { settings_of [] ≡ Err SettingsFault.BadJson }
         ensures too_long { MAX_SETTINGS < length line.now → result ≡ Err SettingsFault.TooLong }
     {
@@ -88,7 +88,7 @@ impl Settings {
     }
 }
 
-// The settings that a JSON value says, or the fault of the first rule that it breaks.
+// Returns the settings of a JSON value, or the fault of the first rule that it breaks.
 fn judge(alloc: Global, value: &Value) -> Result<Settings, SettingsFault>
     ensures ok { IfOk result (λ settings. verdict_of (Some (view value.now)) ≡ Ok (values_of settings)) }
     ensures err { IfErr result
@@ -98,7 +98,7 @@ fn judge(alloc: Global, value: &Value) -> Result<Settings, SettingsFault>
     add_domains(alloc, value, settings)
 }
 
-// The settings with the rows of domains that the value says, where they keep their rules.
+// Returns the settings with the rows of domains of the value, if these keep their rules.
 fn add_domains(alloc: Global, value: &Value, settings: Settings) -> Result<Settings, SettingsFault>
     requires { base_verdict (view value.now) ≡ Ok (values_of settings) }
     ensures ok { IfOk result (λ settings. verdict_of (Some (view value.now)) ≡ Ok (values_of settings)) }
@@ -113,7 +113,7 @@ fn add_domains(alloc: Global, value: &Value, settings: Settings) -> Result<Setti
     Ok(whole)
 }
 
-// The settings that a JSON value says, without rows of domains, or the fault of the first rule that it breaks.
+// Returns the settings of a JSON value without rows of domains, or the fault of the first rule that it breaks.
 fn judge_base(alloc: Global, value: &Value) -> Result<Settings, SettingsFault>
     ensures ok { IfOk result (λ settings. base_verdict (view value.now) ≡ Ok (values_of settings)) }
     ensures err { IfErr result (λ fault. fault ≢ SettingsFault.NoMemory → base_verdict (view value.now) ≡ Err fault) }
@@ -155,7 +155,7 @@ fn judge_base(alloc: Global, value: &Value) -> Result<Settings, SettingsFault>
     })
 }
 
-// The number at a member, or the fault where it is not from `low` to `high`.
+// Returns the number at a member, or the fault if it is not from `low` to `high`.
 fn limit(
     value: &Value,
     name: &str,
@@ -173,7 +173,7 @@ fn limit(
     }
 }
 
-// The rows of domains that the value says, where these are its servers and the rows keep their rules.
+// Returns the rows of domains of the value, if these are its servers and the rows keep their rules.
 #[tactic(auto, unfolding(crate::specs::SettingsLine::domains_in))]
 fn domains_from(
     alloc: Global,
@@ -196,7 +196,7 @@ fn domains_from(
     }
 }
 
-// Whether the settings are of a version that there is.
+// Returns whether the settings have a version that exists.
 #[tactic(auto, unfolding(crate::specs::SettingsLine::has_version))]
 fn has_version(value: &Value) -> bool
     ensures { result ≡ has_version (view value.now) }
@@ -204,14 +204,14 @@ fn has_version(value: &Value) -> bool
     number(value, "version") == 1 || has_domains(value)
 }
 
-// Whether the settings are of version 2.
+// Returns whether the settings are of version 2.
 fn has_domains(value: &Value) -> bool
     ensures { result ≡ has_domains (view value.now) }
 {
     number(value, "version") == 2
 }
 
-// Whether the value has exactly the members of settings of its version, each of its type.
+// Returns whether the value has exactly the members of settings of its version, each of its type.
 #[tactic(auto, unfolding(crate::specs::SettingsLine::is_settings_object))]
 fn has_shape(value: &Value) -> bool
     ensures { result ≡ is_settings_object (view value.now) }
@@ -223,7 +223,7 @@ fn has_shape(value: &Value) -> bool
     }
 }
 
-// Whether the value has the members of settings of both versions, each of its type.
+// Returns whether the value has the members of settings of both versions, each of its type.
 fn has_members(value: &Value) -> bool
     ensures { result ≡ list_all (λ m. holds_of m.1 (get m.0 (view value.now))) settings_members }
 {

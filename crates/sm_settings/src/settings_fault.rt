@@ -2,8 +2,8 @@ use std::alloc::AllocError;
 use std::fmt;
 use thiserror::Error;
 
-/// Why a settings line is refused, in the order of the checks. `NoMemory` may come in place of any answer but
-/// `TooLong`.
+/// Why a settings line is refused, in the order of the checks. `NoMemory` may come in place of any other result, also
+/// of a correct line's settings, except for `TooLong`.
 #[derive(Clone, Copy, Debug, PartialEq, Eq, Drop, Error)]
 pub enum SettingsFault {
     /// The line has more than 1,048,576 bytes.
@@ -14,7 +14,7 @@ pub enum SettingsFault {
     BadVersion,
     /// A member is missing, unknown or of another type, here or in a row.
     BadShape,
-    /// The bounds make no layout.
+    /// The bounds are no layout.
     BadLayout,
     /// The servers break a rule.
     BadServers,
@@ -32,10 +32,10 @@ pub enum SettingsFault {
     BadWorkers,
     /// The domains break a rule.
     BadDomains,
-    /// All servers together would have more workers than an engine runs. It is never the answer of
-    /// [`Settings::read`](crate::Settings::read).
+    /// All servers together would have more workers than an engine runs. [`Settings::read`](crate::Settings::read)
+    /// never returns it.
     TooManyWorkers,
-    /// Memory was refused: the line isn't too long, and whether it has another fault is not known.
+    /// Memory was refused. The line isn't too long, but it isn't known whether it has another fault.
     NoMemory,
 }
 
@@ -43,7 +43,7 @@ impl SettingsFault {
     ghost use Rattle.std.specs.Prelude.{◌≡◌};
     ghost use Rattle.sm_settings.specs.SettingsFault.{settings_fault_name};
 
-    /// The fault as the answer to a settings line writes it.
+    /// Returns the fault as it is written in the answer to a settings line.
     pub fn as_str(self) -> &'static str
         ensures { result.now ≡ settings_fault_name self }
     {

@@ -24,7 +24,7 @@ use Rattle.sm_tasks.proofs.Restarts.{IsApprovable-approvable, IsStoppable-stoppa
 use Rattle.sm_tasks.proofs.Restarts.{is_leaving-away}
 use Rattle.sm_tasks.proofs.Zipped.{domain_count-with_state, one_server-within}
 
--- a test of states that the new state passes only if the old one does passes at no further server
+-- if the new state passes a test only if the old one does, no more servers pass it
 calm : (books : BooksView) (a : ℕ) (state : ServerState) → length books.states ≡ length books.servers
     → IsKnown books.servers a
     → (test : ServerState → Bool) → (test state ≡ true → test (state_of books a) ≡ true)
@@ -35,7 +35,7 @@ calm books a state len known test h b e =
       | inr p ↦ sym (ap test p.1) ∙ e
     ]
 
--- a test of servers that passes only where another does
+-- if a test of servers passes only if another one does, it passes at no more servers of a stand
 one_within : (p q : ℕ → Bool) (stand : Stand) → ((b : ℕ) → p b ≡ true → q b ≡ true) → names_one p stand ≡ true
     → names_one q stand ≡ true
 one_within p q stand h e =
@@ -48,8 +48,7 @@ of_within p q g shard h e =
     let parts = and_parts (eqb shard.row.group g) (p shard.stand) e in
     and_from (eqb shard.row.group g) (q shard.stand) parts.0 (h parts.1)
 
--- a step to a state that is away only if the old one is, and that is stopped only where the shards are paused, keeps
--- the caps
+-- a step keeps the caps if its state is away only if the old one is, and is stopped only if the shards are paused
 pub MeetsCaps-calm : (allowed : RestartCaps) (books : BooksView) (a : ℕ) (state : ServerState)
     → length books.states ≡ length books.servers → IsKnown books.servers a
     → (is_away state ≡ true → is_away (state_of books a) ≡ true)
@@ -92,7 +91,7 @@ MeetsCaps-calm allowed books a state len known away stopped caps =
           omega (arith, set, less, caps.domains d);
     }
 
--- a server that is asked for, comes back or fails
+-- a server whose restart is asked for, or that comes back or fails
 pub MeetsCaps-ask : (allowed : RestartCaps) (books : BooksView) (a : ℕ) → length books.states ≡ length books.servers
     → IsKnown books.servers a
     → MeetsCaps allowed books → MeetsCaps allowed (with_state books a Asked)

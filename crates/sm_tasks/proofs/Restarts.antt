@@ -1,4 +1,4 @@
--- What a step of a restart that is made shows, and how counts compare.
+-- The facts about a step of a restart that is made, and how counts compare.
 use Rattle.std.proofs.Common.{ℕ, ◌+◌, ◌<◌, ◌≤◌, ◌≡◌, Bool, true, false, cond, eqb, List, [], ◌∷◌, length}
 use Rattle.std.proofs.Common.{get_or, Option, Some, None, Result, Ok, Err, refl, ap, sym, ◌∙◌, arith}
 use Rattle.std.proofs.Common.{◌&&◌, zero-add}
@@ -24,7 +24,7 @@ use Rattle.sm_tasks.specs.Caps.{RestartCaps}
 no_place : (n len : ℕ) → cond (nat_lt n len) (Some n) None ≡ None → len ≤ n
 no_place n len h = grind (arith, nat_tests)
 
--- where no place is the first that passes, every element fails
+-- if no place is the first whose element passes, every element fails
 pub fails_everywhere : {X : Type 0} (p : X → Bool) (xs : List X) (k : ℕ) (d : X) → position p xs ≡ None
     → k < length xs → p (get_or xs k d) ≡ false
 fails_everywhere p xs k d h lt =
@@ -35,14 +35,14 @@ pub false_within : (p q : Bool) → (p ≡ true → q ≡ true) → q ≡ false 
 false_within false q h e = refl
 false_within true q h e = let t = h refl in absurd (cc)
 
--- what counts only where another thing counts adds no more than that
+-- if a number counts only if another number counts too, it adds no more than that one
 pub cond_within : (p q : Bool) (n : ℕ) → (p ≡ true → q ≡ true) → cond p n 0 ≤ cond q n 0
 cond_within false q n h = omega arith
 cond_within true true n h = omega arith
 cond_within true false n h = let e = h refl in absurd (cc)
 
--- a test that passes only where another does passes no more often, also where it does so only at elements that a third
--- test refuses, which refuses all
+-- if a test passes only if another one does, it passes no more often; this holds also if it does so only at elements
+-- that a third test refuses, and that test refuses all
 pub count_by-within : {X : Type 0} (p q : X → Bool) (xs : List X) → ((x : X) → p x ≡ true → q x ≡ true)
     → count_by p xs ≤ count_by q xs
 count_by-within p q xs h =
@@ -67,7 +67,7 @@ count_by-within_but p q r (x ∷ xs) none h =
     no_one false n e = refl
     no_one true n e = absurd (omega arith)
 
--- what an approval shows
+-- the facts behind an approval
 pub record IsApprovable (allowed : RestartCaps) (books : BooksView) (a : ℕ) : Type 0 where
   pub asked : is_asked (state_of books a) ≡ true
   pub few : leaving_count books + 1 ≤ allowed.ops
@@ -118,7 +118,7 @@ IsApprovable-approvable allowed books a e =
     unnamed true v h e = e
     unnamed false v h e = absurd (cc)
 
--- what a stop shows
+-- the facts behind a stop
 pub record IsStoppable (books : BooksView) (a : ℕ) : Type 0 where
   pub approved : is_approved (state_of books a) ≡ true
   pub paused : (k : ℕ) → k < length books.shards → names (shard_at books.shards k).stand a ≡ true
@@ -148,7 +148,7 @@ IsStoppable-stoppable books a e =
     held true true h e = refl
     held true false h e = absurd (cc)
 
--- servers away are leaving
+-- if a server is away, it is leaving
 pub is_leaving-away : (state : ServerState) → is_away state ≡ true → is_leaving state ≡ true
 is_leaving-away state away = or_left (is_away state) (is_failed state) away
 

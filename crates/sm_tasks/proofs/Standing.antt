@@ -1,4 +1,4 @@
--- Books at the start meet the caps, and which new stands keep them.
+-- Books at the start meet the caps, and which new stands keep the caps.
 use Rattle.std.proofs.Common.{ℕ, ◌<◌, ◌≤◌, ◌≡◌, Bool, true, false, cond, eqb, List, length, get_or, All, refl}
 use Rattle.std.proofs.Common.{ap, sym, ◌∙◌, arith, inl, inr, ◌⊎◌, ◌&&◌}
 use Rattle.std.specs.Prelude.{count_by}
@@ -26,7 +26,7 @@ use Rattle.sm_tasks.specs.Domains.{domain_count}
 use Rattle.sm_tasks.proofs.Zipped.{domain_count-none}
 use Rattle.sm_tasks.proofs.Restarts.{cond_within, false_within, is_away-stopped, is_leaving-away}
 
--- nothing is counted where nothing passes
+-- if nothing passes, nothing is counted
 none_counted : {X : Type 0} (p : X → Bool) (xs : List X) → All (λ x. p x ≡ false) xs → count_by p xs ≤ 0
 none_counted p xs all =
     let le = sum_by-le (λ x. cond (p x) 1 0) 0 xs (λ k d h. zero_where (p (get_or xs k d)) (all k d h)) in
@@ -35,7 +35,7 @@ none_counted p xs all =
     zero_where : (u : Bool) → u ≡ false → cond u 1 0 ≤ 0
     zero_where u e = rw e (omega arith)
 
--- a vacant shard is of no use to a test
+-- if the test refuses vacant stands, a vacant shard is not counted
 of_vacant : (test : Stand → Bool) (g : ℕ) (shard : Shard) → test Vacant ≡ false → shard.stand ≡ Vacant
     → is_in_group test g shard ≡ false
 of_vacant test g shard fails e = and_right (eqb shard.row.group g) (test shard.stand) (ap test e ∙ fails)
@@ -70,7 +70,7 @@ MeetsCaps-new allowed servers groups shards domains =
     (All-replicate (λ state. state ≡ Up) (length servers) Up refl)
     (All-map (λ shard. shard.stand ≡ Vacant) vacant_shard shards (λ k d h. refl))
 
--- a stand that takes on none that is leaving names one that is away only if the old one does
+-- a stand that takes on no server that is leaving names one that is away only if the old stand does
 old_away : (books : BooksView) (old stand : Stand) → TakesNoneLeaving books old stand → names_away books stand ≡ true
     → names_away books old ≡ true
 old_away books old stand takes e =
@@ -83,7 +83,7 @@ old_away books old stand takes e =
       | inr named ↦ names_one-named (λ b. is_away (state_of books b)) old found.0 named.0 found.1.1
     ]
 
--- and one that is stopped only if the old one does, and stays paused
+-- and it names one that is stopped only if the old stand does, and stays paused
 still_paused : (books : BooksView) (old stand : Stand) → TakesNoneLeaving books old stand
     → (names_stopped books old ≡ true → is_paused old ≡ true) → names_stopped books stand ≡ true
     → is_paused stand ≡ true
@@ -150,14 +150,14 @@ MeetsCaps-taken allowed books k stand inside takes caps =
       domains = caps.domains;
     }
 
--- a server that stays serves the shard
+-- a server that isn't leaving serves the shard
 pub MeetsCaps-serving : (allowed : RestartCaps) (books : BooksView) (k a : ℕ) → k < length books.shards
     → is_leaving (state_of books a) ≡ false
     → MeetsCaps allowed books → MeetsCaps allowed (record books { shards = with_stand books.shards k (Serving a) })
 MeetsCaps-serving allowed books k a inside stays caps =
     MeetsCaps-taken allowed books k (Serving a) inside (inl stays, tt) caps
 
--- a server that stays makes ready beside the owner
+-- a server that isn't leaving is prepared beside the owner
 pub MeetsCaps-prepared : (allowed : RestartCaps) (books : BooksView) (k owner a : ℕ) → k < length books.shards
     → (shard_at books.shards k).stand ≡ Serving owner → is_leaving (state_of books a) ≡ false
     → MeetsCaps allowed books
@@ -167,7 +167,7 @@ MeetsCaps-prepared allowed books k owner a inside serves stays caps =
     MeetsCaps-taken allowed books k (Prepared owner a) inside
     (inr (names-owner (shard_at books.shards k).stand owner (ap owner_of serves), λ held. absurd (cc)), inl stays) caps
 
--- a shard that isn't paused names no further server
+-- a shard that isn't paused names no more servers
 pub MeetsCaps-fewer : (allowed : RestartCaps) (books : BooksView) (k : ℕ) (stand : Stand) → k < length books.shards
     → is_paused (shard_at books.shards k).stand ≡ false
     → AllNamed (λ a. names (shard_at books.shards k).stand a ≡ true) stand

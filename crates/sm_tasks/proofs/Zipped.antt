@@ -1,4 +1,4 @@
--- Counts of a domain's servers, where the state of one was set.
+-- Counts of a domain's servers, if the state of one was set.
 use Rattle.std.proofs.Common.{ℕ, zero, suc, ◌+◌, ◌<◌, ◌≤◌, ◌≡◌, Bool, true, false, cond, eqb, List, [], ◌∷◌, length}
 use Rattle.std.proofs.Common.{get_or, set, refl, ap, sym, ◌∙◌, arith, ◌&&◌}
 use Rattle.std.specs.Prelude.{All, count_by, zip}
@@ -31,7 +31,7 @@ length-zip (x ∷ xs) [] i h k = absurd (omega arith)
 length-zip (x ∷ xs) (y ∷ ys) zero h k = omega arith
 length-zip (x ∷ xs) (y ∷ ys) (suc i) h k = let rest = length-zip xs ys i (omega arith) (omega arith) in omega arith
 
--- what the server whose state is set adds to a count before and after
+-- how much the server whose state is set adds to a count, before and after
 pub domain_count-with_state : (test : ServerState → Bool) (books : BooksView) (a : ℕ) (state : ServerState) (d : ℕ)
     → length books.states ≡ length books.servers → IsKnown books.servers a
     → domain_count test (with_state books a state) d
@@ -52,7 +52,7 @@ domain_count-with_state test books a state d len known =
     (sym (get_or-zip books.servers books.states at no_server Up known inside))
     ∙ set_at
 
--- no server is counted where the state of none passes
+-- if the state of no server passes, none is counted
 pub domain_count-none : (test : ServerState → Bool) (servers : List ServerRow) (states : List ServerState) (d : ℕ)
     → All (λ state. test state ≡ false) states → count_by (is_server_of test d) (zip servers states) ≡ 0
 domain_count-none test [] states d all = refl
@@ -71,7 +71,7 @@ domain_count-none test (row ∷ servers) (state ∷ states) d all =
     neither true v e = e
     neither false v e = refl
 
--- a server counts no more than before where its new state passes only if the old one does, and at most once
+-- if a server's new state passes only if the old one does, it counts no more than before, and at most once
 pub one_server-within : (test : ServerState → Bool) (d : ℕ) (row : ServerRow) (old new : ServerState)
     → (test new ≡ true → test old ≡ true)
     → cond (is_server_of test d (row, new)) 1 0 ≤ cond (is_server_of test d (row, old)) 1 0

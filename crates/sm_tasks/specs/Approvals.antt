@@ -40,7 +40,8 @@ would_be_down books a b = (b == a) || is_leaving (state_of books b)
 abbrev pub names_down : BooksView → ℕ → Stand → Bool
 names_down books a stand = names_one (would_be_down books a) stand
 
--- whether a shard of the group names the server, and more of its shards than may be would name a server that is down
+-- whether a shard of the group names the server, and more of the group's shards than its `down` would name a server
+-- that is down
 abbrev pub is_full : BooksView → ℕ → ℕ → Bool
 is_full books a g =
     nat_lt 0 (group_count (λ stand. names stand a) books.shards g)
@@ -50,13 +51,13 @@ is_full books a g =
 abbrev pub full_group : BooksView → ℕ → Option ℕ
 full_group books a = position (is_full books a) (range_with_len 0 (length books.groups))
 
--- the server's domain, where with the server more of its servers than may be would be leaving
+-- the server's domain if, with the server, more of its servers would be leaving than its row allows
 abbrev pub full_domain : BooksView → ℕ → Option ℕ
 full_domain books a =
     let d = domain_of books.servers a in
     if nat_lt (domain_down books d) (domain_count is_leaving books d + 1) then Some d else None
 
--- whether the restart of the server is approved, where at most `ops` servers may be leaving
+-- whether the restart of the server is approved, if at most `ops` servers may be leaving
 abbrev pub approvable : RestartCaps → BooksView → ℕ → Result (Unit {0}) RestartFault
 approvable caps books a =
     if not (is_asked (state_of books a)) then Err NotAsked
@@ -95,7 +96,7 @@ restart_fault_name (StillServing shard) = codes "StillServing"
 restart_fault_name AlreadyUp = codes "AlreadyUp"
 restart_fault_name AlreadyFailed = codes "AlreadyFailed"
 
--- the number of the shard, group or domain at which it came
+-- the number of the shard, group or domain because of which it came
 abbrev pub restart_fault_number : RestartFault → Option ℕ
 restart_fault_number (ShardCap shard) = Some shard
 restart_fault_number (GroupCap group) = Some group

@@ -1,4 +1,4 @@
--- The caps of approved restarts. A failed server is not one of them: approvals count it, the caps do not.
+-- The caps of approved restarts. They don't count a failed server, but approvals do.
 use Rattle.std.specs.Prelude.{◌≡◌, ℕ, ◌<◌, ◌≤◌, ◌⊎◌, Bool, true, false, length, count_by}
 use Rattle.sm_ranges.specs.declared.stand.Stand.{Stand}
 use Rattle.sm_place.specs.Books.{BooksView, shard_at, state_of}
@@ -15,13 +15,13 @@ names_away books stand = names_one (λ b. is_away (state_of books b)) stand
 abbrev pub names_stopped : BooksView → Stand → Bool
 names_stopped books stand = names_one (λ b. is_stopped (state_of books b)) stand
 
--- the caps that are numbers: how many servers may be leaving for an approval
+-- the caps that are numbers: how many servers may be leaving when a restart is approved
 pub record RestartCaps : Type 0 where
   pub ops : ℕ
 
--- what approved restarts keep to: at most `ops` servers are away, no shard of cap 0 names one of them, of each group at
--- most `down` shards name one, each shard that names a stopped server is paused, and of each domain at most `down`
--- servers are away
+-- the caps that approved restarts must keep: at most `ops` servers are away, no shard of cap 0 names one of them, of
+-- each group at most `down` shards name one, each shard that names a stopped server is paused, and of each domain at
+-- most `down` servers are away
 pub record MeetsCaps (caps : RestartCaps) (books : BooksView) : Type 0 where
   pub servers : count_by is_away books.states ≤ caps.ops
   pub shards : (k : ℕ) → k < length books.shards
@@ -31,7 +31,8 @@ pub record MeetsCaps (caps : RestartCaps) (books : BooksView) : Type 0 where
       → names_stopped books (shard_at books.shards k).stand ≡ true → is_paused (shard_at books.shards k).stand ≡ true
   pub domains : (d : ℕ) → domain_count is_away books d ≤ domain_down books d
 
--- each server that the new stand names is not leaving; or the old stand named it, and a paused shard stays paused
+-- each server that the new stand names is not leaving; or the old stand named it, and if the shard is paused, it stays
+-- paused
 abbrev pub TakesNoneLeaving : BooksView → Stand → Stand → Type 0
 TakesNoneLeaving books old stand =
     let Stays : ℕ → Type 0 = λ a. is_leaving (state_of books a) ≡ false in

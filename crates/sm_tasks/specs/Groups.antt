@@ -4,7 +4,7 @@ use Rattle.sm_ranges.specs.declared.stand.Stand.{Stand}
 use Rattle.sm_place.specs.declared.shard.Shard.{Shard}
 use Rattle.sm_place.specs.Books.{BooksView, no_group}
 
--- whether the shard is of the group and its stand passes the test
+-- whether the shard is in the group and its stand passes the test
 abbrev pub is_in_group : (Stand → Bool) → ℕ → Shard → Bool
 is_in_group test g shard = (shard.row.group == g) && test shard.stand
 

@@ -7,7 +7,7 @@ ghost use Rattle.sm_tasks.specs.Approvals.{capped_shard, leaving_count, names_do
 use sm_place::Books;
 use sm_ranges::{ServerId, ShardId, Stand};
 
-/// How many servers are leaving.
+/// Returns how many servers are leaving.
 pub(crate) fn leaving_count(books: &Books) -> usize
     ensures { result ≡ leaving_count books.now }
 {
@@ -18,7 +18,7 @@ pub(crate) fn leaving_count(books: &Books) -> usize
         .count()
 }
 
-/// The lowest shard of cap 0 that names the server.
+/// Returns the lowest shard of cap 0 that names the server.
 pub(crate) fn capped_shard(books: &Books, a: ServerId) -> Option<ShardId>
     ensures { result ≡ capped_shard books.now a }
 {
@@ -30,7 +30,7 @@ pub(crate) fn capped_shard(books: &Books, a: ServerId) -> Option<ShardId>
     shard_id(place)
 }
 
-/// The lowest shard that names the server and is not paused.
+/// Returns the lowest shard that names the server and is not paused.
 pub(crate) fn serving_shard(books: &Books, a: ServerId) -> Option<ShardId>
     ensures { result ≡ serving_shard books.now a }
 {
@@ -40,7 +40,7 @@ pub(crate) fn serving_shard(books: &Books, a: ServerId) -> Option<ShardId>
     shard_id(place)
 }
 
-// The shard of the place, where there is one.
+// Returns the shard at this place, if there is one.
 fn shard_id(place: Option<usize>) -> Option<ShardId>
     requires { IfSome place IsShard }
     ensures { result ≡ place }
@@ -51,7 +51,7 @@ fn shard_id(place: Option<usize>) -> Option<ShardId>
     }
 }
 
-/// Whether the stand names the server or one that is leaving.
+/// Returns whether the stand names the server, or a server that is leaving.
 pub(crate) fn names_down(books: &Books, stand: &Stand, a: ServerId) -> bool
     requires { AllNamed (IsKnown books.now.servers) stand.now }
     ensures { result ≡ names_down books.now a stand.now }
@@ -59,7 +59,7 @@ pub(crate) fn names_down(books: &Books, stand: &Stand, a: ServerId) -> bool
     is_down(books, stand.owner(), a) || is_down(books, stand.other(), a)
 }
 
-// Whether the server, where there is one, is this one or is leaving.
+// Returns whether there is a server, and it is this one or is leaving.
 fn is_down(books: &Books, server: Option<ServerId>, a: ServerId) -> bool
     requires { IfSome server (IsKnown books.now.servers) }
     ensures { result ≡ passes (would_be_down books.now a) server }

@@ -7,7 +7,7 @@ ghost use Rattle.sm_tasks.specs.Domains.{domain_count, domain_down};
 use sm_place::Books;
 use sm_ranges::ServerId;
 
-/// The server's domain, where with the server more of its servers than may be would be leaving.
+/// Returns the server's domain if, with the server, more of its servers would be leaving than its row allows.
 pub(crate) fn full_domain(books: &Books, a: ServerId) -> Option<u16>
     requires { IsKnown books.now.servers a }
     ensures { result ≡ full_domain books.now a }
@@ -20,7 +20,7 @@ pub(crate) fn full_domain(books: &Books, a: ServerId) -> Option<u16>
     }
 }
 
-// How many servers of the domain are leaving.
+// Returns how many servers of the domain are leaving.
 fn leaving_in(books: &Books, domain: u16) -> usize
     ensures { result ≡ domain_count is_leaving books.now domain }
 {
@@ -32,7 +32,7 @@ fn leaving_in(books: &Books, domain: u16) -> usize
         .count()
 }
 
-// How many servers of the domain may be down.
+// Returns how many servers of the domain may be down.
 fn domain_down(books: &Books, domain: u16) -> u16
     ensures { result ≡ domain_down books.now domain }
 {

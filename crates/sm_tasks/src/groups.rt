@@ -9,8 +9,8 @@ use sm_place::Books;
 use sm_ranges::ServerId;
 use sm_rows::limits::MAX_GROUPS;
 
-/// The lowest group, by its place from 0, of which a shard names the server, where more shards than the group's `down`
-/// name it or a server that is leaving. The counts stand on the stack, so that no memory is taken.
+/// Returns the lowest group, by its place from 0, that has a shard on the server, if more of its shards than its `down`
+/// name this server or one that is leaving. The counts are on the stack, so it takes no memory.
 pub(crate) fn full_group(books: &Books, a: ServerId) -> Option<u16>
     ensures { result ≡ full_group books.now a }
 {
@@ -25,7 +25,7 @@ pub(crate) fn full_group(books: &Books, a: ServerId) -> Option<u16>
     None
 }
 
-// For each group, how many of its shards name the server.
+// Returns, for each group, how many of its shards name the server.
 fn named_by_group(books: &Books, a: ServerId) -> [u16; MAX_GROUPS]
     ensures { (g : ℕ) → g < MAX_GROUPS
         → slice_index result g ≡ group_count (λ stand. names stand a) books.now.shards g }
@@ -40,7 +40,7 @@ fn named_by_group(books: &Books, a: ServerId) -> [u16; MAX_GROUPS]
     counts
 }
 
-// For each group, how many of its shards name the server or one that is leaving.
+// Returns, for each group, how many of its shards name the server or one that is leaving.
 fn down_by_group(books: &Books, a: ServerId) -> [u16; MAX_GROUPS]
     ensures { (g : ℕ) → g < MAX_GROUPS
         → slice_index result g ≡ group_count (names_down books.now a) books.now.shards g }

@@ -1,4 +1,4 @@
-//! Laws of the caps of approved restarts, for the layers above: what keeps them.
+//! Laws of the caps of approved restarts, for the layers above: which steps and stands keep the caps.
 
 ghost use Rattle.std.specs.Prelude.{◌≡◌, ℕ, ◌<◌, All, Ok, List, false, length, true};
 ghost use Rattle.sm_ranges.specs.declared.stand.Stand.{Stand};
@@ -14,7 +14,7 @@ ghost use Rattle.sm_place.specs.ServerState.{is_leaving};
 ghost use Rattle.sm_tasks.specs.Approvals.{approvable, stoppable};
 ghost use Rattle.sm_tasks.specs.Caps.{MeetsCaps, RestartCaps, TakesNoneLeaving};
 
-/// Books whose servers are all up and whose shards are all vacant meet the caps, and so do new books.
+/// If all servers are up and all shards are vacant, the books meet the caps. So do new books.
 pub fn all_up_meets_caps()
     ensures all_up { (caps : RestartCaps) (books : BooksView)
         → All (λ state. state ≡ Up) books.states → All (λ shard. shard.stand ≡ Vacant) books.shards
@@ -24,7 +24,7 @@ pub fn all_up_meets_caps()
         → MeetsCaps caps (new_books servers groups shards domains) }
 {}
 
-/// Each step of a restart that is made keeps the caps. Coming back and failing keep them whatever the state was.
+/// If a step of a restart is made, it keeps the caps. Coming back and failing keep them in every state.
 pub fn steps_keep_caps()
     ensures ask { (caps : RestartCaps) (books : BooksView) (a : ℕ)
         → length books.states ≡ length books.servers → IsKnown books.servers a
@@ -43,9 +43,9 @@ pub fn steps_keep_caps()
         → MeetsCaps caps books → MeetsCaps caps (with_state books a Failed) }
 {}
 
-/// A new stand of a shard keeps the caps where it takes on no server that is leaving: so where a server that isn't
-/// leaving comes to serve the shard, or is prepared beside the owner, and where a shard that is not paused names no
-/// further server. A shard that is paused and keeps naming a server that is leaving has to stay paused.
+/// A new stand of a shard keeps the caps if it takes on no server that is leaving. So they are kept if a server that
+/// isn't leaving comes to serve the shard or is prepared beside the owner, and if a shard that is not paused names no
+/// more servers than before. If a paused shard keeps naming a server that is leaving, it must stay paused.
 pub fn stands_keep_caps()
     ensures taken { (caps : RestartCaps) (books : BooksView) (k : ℕ) (stand : Stand) → k < length books.shards
         → TakesNoneLeaving books (shard_at books.shards k).stand stand

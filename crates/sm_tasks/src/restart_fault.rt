@@ -4,13 +4,14 @@ ghost use Rattle.sm_tasks.specs.Approvals.{restart_fault_name, restart_fault_num
 use sm_ranges::ShardId;
 use thiserror::Error;
 
-/// Why a step of a restart is refused. Of an approval, and of a stop, the first reason that applies, in this order.
+/// Why a step of a restart is refused. An approval and a stop are refused for the first reason that applies, in this
+/// order.
 #[derive(Clone, Copy, Debug, PartialEq, Eq, Drop, Error)]
 pub enum RestartFault {
-    /// A restart is asked for, and the server is not Up.
+    /// A restart is asked for, but the server is not Up.
     #[error("the server is not up")]
     NotUp,
-    /// A restart is to be approved, and the server is not Asked.
+    /// A restart is to be approved, but the server is not Asked.
     #[error("the restart is not asked for")]
     NotAsked,
     /// With this server, more than `ops` servers would be Approved, Stopped or Failed.
@@ -19,29 +20,30 @@ pub enum RestartFault {
     /// The lowest shard of cap 0 that names the server.
     #[error("shard {0} may not be down")]
     ShardCap(ShardId),
-    /// The lowest group, by its place from 0, of which a shard names the server, where more of its shards than its
-    /// `down` name the server or one that is leaving.
+    /// The lowest group, by its place from 0, that has a shard on the server, if more of its shards than its `down`
+    /// would name this server or one that is leaving.
     #[error("too many shards of group {0} would be down")]
     GroupCap(u16),
-    /// The domain of the server, of which with this server more than its `down` would be Approved, Stopped or Failed.
+    /// The domain of the server, if with this server more of its servers than its `down` would be Approved, Stopped or
+    /// Failed.
     #[error("too many servers of domain {0} would be down")]
     DomainCap(u16),
-    /// The server is to be stopped, and is not Approved.
+    /// The server is to be stopped, but is not Approved.
     #[error("the restart is not approved")]
     NotApproved,
-    /// The lowest shard that names the server that is to be stopped, and is not paused.
+    /// The lowest shard that is not paused and names the server that is to be stopped.
     #[error("shard {0} is not paused")]
     StillServing(ShardId),
-    /// The server comes back, and was Up.
+    /// The server comes back, but was Up already.
     #[error("the server is up already")]
     AlreadyUp,
-    /// The server fails, and had Failed.
+    /// The server fails, but had Failed already.
     #[error("the server failed already")]
     AlreadyFailed,
 }
 
 impl RestartFault {
-    /// Its name, as scripts and other languages have it.
+    /// Returns the fault's name in scripts and in other languages.
     pub fn name(self) -> &'static str
         ensures { result.now ≡ restart_fault_name self }
     {
@@ -59,7 +61,7 @@ impl RestartFault {
         }
     }
 
-    /// The number of the shard, group or domain at which the step is refused, where it is at one.
+    /// Returns the number of the shard, group or domain because of which the step is refused, if there is one.
     pub fn number(self) -> Option<u16>
         ensures { result ≡ restart_fault_number self }
     {

@@ -11,9 +11,8 @@ use sm_place::{Books, ServerState};
 use sm_ranges::ServerId;
 use std::marker::Model;
 
-/// The steps of planned restarts, and what an approval keeps to.
-/// A step that is refused changes nothing, and none can be refused for want of memory. Each has a check, which says
-/// whether it would be made.
+/// The steps of planned restarts, and the caps that an approval must keep. If a step is refused, it changes nothing. No
+/// step is refused for lack of memory. Each step has a check, which says whether the step would be made.
 #[derive(Clone, Copy, Drop)]
 pub struct Tasks {
     ops: u16,
@@ -37,7 +36,7 @@ impl Tasks {
         Tasks { ops }
     }
 
-    /// Whether `ask` would be made, or why not.
+    /// Returns whether `ask` would be made, or why not.
     pub fn check_ask(&self, books: &Books, a: ServerId) -> Result<(), RestartFault>
         requires { IsKnown books.now.servers a }
         ensures { result ≡ askable books.now a }
@@ -48,7 +47,7 @@ impl Tasks {
         }
     }
 
-    /// Asks for a restart of the server, which is Up.
+    /// Asks for a restart of the server, which must be Up.
     pub fn ask(&self, books: &mut Books, a: ServerId) -> Result<(), RestartFault>
         requires { IsKnown books.old.servers a }
         ensures answer { result ≡ askable books.old a }
@@ -60,7 +59,7 @@ impl Tasks {
         Ok(())
     }
 
-    /// Whether `approve` would be made, or why not.
+    /// Returns whether `approve` would be made, or why not.
     pub fn check_approve(&self, books: &Books, a: ServerId) -> Result<(), RestartFault>
         requires { IsKnown books.now.servers a }
         ensures { result ≡ approvable self.now books.now a }
@@ -83,7 +82,7 @@ impl Tasks {
         Ok(())
     }
 
-    /// Approves the restart of the server, which is Asked: it is leaving from then on.
+    /// Approves the restart of the server, which must be Asked. From then on the server is leaving.
     pub fn approve(&self, books: &mut Books, a: ServerId) -> Result<(), RestartFault>
         requires { IsKnown books.old.servers a }
         ensures answer { result ≡ approvable self.now books.old a }
@@ -95,7 +94,7 @@ impl Tasks {
         Ok(())
     }
 
-    /// Whether `stopped` would be made, or why not.
+    /// Returns whether `stopped` would be made, or why not.
     pub fn check_stopped(&self, books: &Books, a: ServerId) -> Result<(), RestartFault>
         requires { IsKnown books.now.servers a }
         ensures { result ≡ stoppable books.now a }
@@ -109,7 +108,7 @@ impl Tasks {
         }
     }
 
-    /// Notes that the server, which is Approved, was stopped.
+    /// Notes that the server was stopped. It must be Approved.
     pub fn stopped(&self, books: &mut Books, a: ServerId) -> Result<(), RestartFault>
         requires { IsKnown books.old.servers a }
         ensures answer { result ≡ stoppable books.old a }
@@ -121,7 +120,7 @@ impl Tasks {
         Ok(())
     }
 
-    /// Whether `back` would be made, or why not.
+    /// Returns whether `back` would be made, or why not.
     pub fn check_back(&self, books: &Books, a: ServerId) -> Result<(), RestartFault>
         requires { IsKnown books.now.servers a }
         ensures { result ≡ returnable books.now a }
@@ -132,7 +131,7 @@ impl Tasks {
         }
     }
 
-    /// Notes that the server, which is not Up, is Up again.
+    /// Notes that the server is Up again. It must not be Up before.
     pub fn back(&self, books: &mut Books, a: ServerId) -> Result<(), RestartFault>
         requires { IsKnown books.old.servers a }
         ensures answer { result ≡ returnable books.old a }
@@ -144,7 +143,7 @@ impl Tasks {
         Ok(())
     }
 
-    /// Whether `fail` would be made, or why not.
+    /// Returns whether `fail` would be made, or why not.
     pub fn check_fail(&self, books: &Books, a: ServerId) -> Result<(), RestartFault>
         requires { IsKnown books.now.servers a }
         ensures { result ≡ failable books.now a }
@@ -155,7 +154,7 @@ impl Tasks {
         }
     }
 
-    /// Notes that the server failed, whatever its restart had come to. One that is Failed already is refused.
+    /// Notes that the server failed, in every state except Failed. If it is Failed already, this is refused.
     pub fn fail(&self, books: &mut Books, a: ServerId) -> Result<(), RestartFault>
         requires { IsKnown books.old.servers a }
         ensures answer { result ≡ failable books.old a }

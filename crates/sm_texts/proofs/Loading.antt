@@ -13,7 +13,7 @@ use Rattle.sm_texts.specs.Saves.{front_bytes, pair_at, spelled_pairs}
 use Rattle.sm_texts.proofs.Pairs.{FitsPair, pair_again}
 use Rattle.sm_texts.proofs.Reached.{IsHeld}
 
--- these were put, and the bytes spell those that are left
+-- the first pairs were put, and the bytes spell the pairs that are left
 abbrev pub Loading : List KeyPair → List KeyPair → List ℕ → Type 0
 Loading m done rest = (todo : List KeyPair) × (m ≡ done ++ todo) × (rest ≡ spelled_pairs todo)
 

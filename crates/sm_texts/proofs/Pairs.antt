@@ -53,7 +53,7 @@ number_small : (value : KeyValue) → FitsValue value → value_number value < 2
 number_small (Text text) fits = omega (arith, fits)
 number_small (Count count) fits = unsigned_small count fits
 
--- by what is read of both numbers
+-- the pair, if both numbers are read again
 parts_again : (kind a b : ℕ) (first second key text rest : List ℕ)
     → ((xs : List ℕ) → wide_number_in w64 (first ++ xs) ≡ Some (a, xs))
     → ((xs : List ℕ) → wide_number_in w64 (second ++ xs) ≡ Some (b, xs)) → length key ≡ a

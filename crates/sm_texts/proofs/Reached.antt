@@ -1,4 +1,4 @@
--- What the machine holds after any requests.
+-- The contents of the machine after any requests.
 use Rattle.std.proofs.Common.{◌≡◌, ℕ, ◌^◌, ◌≤◌, Bool, true, false, cond, ltb, leb, eqb, List, [], ◌∷◌}
 use Rattle.std.proofs.Common.{length, take, drop, ℤ, pos, negsuc, Option, Some, None, refl, sym, ◌∙◌, arith}
 use Rattle.std.proofs.Common.{⊎_elim}

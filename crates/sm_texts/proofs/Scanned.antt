@@ -29,7 +29,7 @@ all_scanned p xs n e =
     let all : filter p xs ≡ xs = whole p xs long in
     take_all n (filter p xs) (omega (arith, e, length-take n (filter p xs), ap length all)) ∙ all
 
--- where the rows that a scan gives are as many as there are pairs, they are all
+-- if a scan gives as many rows as there are pairs, they are all pairs
 pub all_rows : {X R : Type 0} (p : X → Bool) (n : ℕ) (row : R → X) (rows : List R) (xs : List X)
     → map row rows ≡ take n (filter p xs) → length rows ≡ length xs → map row rows ≡ xs
 all_rows p n row rows xs found long =

@@ -1,4 +1,4 @@
--- The bytes that stand for keys: each key behind how many bytes it has.
+-- The bytes that encode keys: each key, with its length before it.
 use Rattle.std.specs.Prelude.{ℕ, List, ◌++◌, length}
 use Rattle.std.specs.List.{flat_map}
 use Rattle.std.specs.Int.{w64, to_be_bytes}

@@ -1,5 +1,5 @@
--- The bytes that stand for a map: its pairs in the order of their keys, each as its kind, how many bytes its key has,
--- how many its text has or the bits of its count, the key, and the text.
+-- The bytes that encode a map: its pairs in the order of their keys. Each pair is its kind, the length of its key, the
+-- length of its text or the bits of its count, the key, and the text.
 use Rattle.std.specs.Prelude.{ℕ, ◌==◌, nat_lt, if◌then◌else◌, List, [], ◌∷◌, ◌++◌, length, take, drop, Option, Some}
 use Rattle.std.specs.Prelude.{None}
 use Rattle.std.specs.List.{flat_map}
@@ -15,12 +15,12 @@ abbrev pub value_kind : KeyValue → ℕ
 value_kind (Text text) = 0
 value_kind (Count count) = 1
 
--- the number that is spelled of a value
+-- the number of a value, as it is spelled
 abbrev pub value_number : KeyValue → ℕ
 value_number (Text text) = length text
 value_number (Count count) = cast_unsigned w64 count
 
--- what comes first of a pair
+-- the first bytes of a pair: its kind and the two numbers
 unfoldable pub front_bytes : ℕ → ℕ → ℕ → List ℕ
 front_bytes kind count number = kind ∷ (to_be_bytes w64 count ++ to_be_bytes w64 number)
 
@@ -48,13 +48,13 @@ pair_keyed kind number key rest =
     else Some (record { key = key; value = Text (take number rest) }, drop number rest))
     else Some (record { key = key; value = Count (cast_signed w64 number) }, rest)
 
--- the same, with so many bytes of a key first
+-- the same pair, if its key, of this many bytes, is still to be read
 abbrev pub pair_numbered : ℕ → ℕ → Option (ℕ × List ℕ) → Option (KeyPair × List ℕ)
 pair_numbered kind count None = None
 pair_numbered kind count (Some (number, rest)) =
     if nat_lt (length rest) count then None else pair_keyed kind number (take count rest) (drop count rest)
 
--- the same, with its number first
+-- the same pair, if its number is still to be read
 abbrev pub pair_counted : ℕ → Option (ℕ × List ℕ) → Option (KeyPair × List ℕ)
 pair_counted kind None = None
 pair_counted kind (Some (count, rest)) = pair_numbered kind count (wide_number_in w64 rest)

@@ -1,4 +1,4 @@
-//! The bytes that stand for keys.
+//! The bytes that encode keys.
 ghost use Rattle.std.specs.Prelude.{◌≡◌, ◌++◌, IfOk, OnOk, map};
 ghost use Rattle.sm_map.specs.Val.{row_of};
 ghost use Rattle.sm_texts.specs.Keys.{key_bytes, spelled_keys};
@@ -6,7 +6,7 @@ ghost use Rattle.sm_texts.specs.Keys.{key_bytes, spelled_keys};
 use sm_map::val::Val;
 use std::alloc::{AllocError, Global};
 
-/// Returns the keys of a scan's rows as bytes: each key behind its length in 8 bytes, the highest first.
+/// Returns the keys of a scan's rows as bytes: each key behind its length in 8 bytes, the highest byte first.
 ///
 /// # Errors
 ///

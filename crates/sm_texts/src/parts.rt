@@ -11,7 +11,8 @@ use sm_shard::{BasePart, LastRequest};
 use sm_store::item::Item;
 use std::alloc::{AllocError, Global};
 
-/// The bytes of a part of a base. None where it has 2 ^ 32 bytes of the machine, or clients, or more.
+/// Returns the bytes of a part of a base. Returns nothing if the part has 2 ^ 32 bytes of the machine, or clients, or
+/// more.
 pub fn write_base_part(
     alloc: Global,
     part: &BasePart<TextReply>,
@@ -30,7 +31,7 @@ pub fn write_base_part(
     Ok(Some(write_part(alloc, &stored)?))
 }
 
-// The last requests as items.
+// Returns the last requests as items.
 fn items_of(
     alloc: Global,
     lasts: &[(u64, LastRequest<TextReply>)],
@@ -73,7 +74,8 @@ fn bytes_of(alloc: Global, reply: TextReply) -> Result<Vec<u8>, AllocError>
     Ok(bytes)
 }
 
-/// The part of a base that the bytes spell, all of the bytes. None where a last request of it has no reply.
+/// Returns the part of a base that all the bytes together spell. Returns nothing if they spell none, or if a last
+/// request of it has no reply.
 pub fn read_base_part(alloc: Global, bytes: &[u8]) -> Result<Option<BasePart<TextReply>>, ReadError>
     ensures { IfOk result (λ found. IfSome found (λ part. bytes.now ≡ part_bytes (part_text part))) }
 {
@@ -104,7 +106,7 @@ fn lasts_of(
     Ok(Some(lasts))
 }
 
-// The last request that the item stands for.
+// Returns the last request that the item stands for.
 fn last_of(item: &Item<Vec<u8>>) -> Option<(u64, LastRequest<TextReply>)>
     ensures { IfSome result (λ last. item_view item.now ≡ last_item last) }
 {

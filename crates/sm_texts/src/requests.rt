@@ -15,7 +15,7 @@ use sm_service::counter_text::MAX_TEXT;
 use sm_shard::ReadAnswer;
 use std::alloc::{AllocError, Global};
 
-/// The kind, the key and the rest of a request.
+/// Returns the kind, the key and the rest of a request.
 pub fn parts_of(bytes: &[u8]) -> Option<(u8, &[u8], &[u8])>
     ensures { option_map (λ parts. (parts.0, parts.1.now, parts.2.now)) result ≡ parts_in bytes.now }
 {
@@ -33,7 +33,7 @@ pub fn parts_of(bytes: &[u8]) -> Option<(u8, &[u8], &[u8])>
     }
 }
 
-/// A number of 64 bits, and the bytes after it.
+/// Returns a number of 64 bits, and the bytes after it.
 pub(crate) fn number_of(bytes: &[u8]) -> Option<(u64, &[u8])>
     ensures exact { option_map (λ read. (read.0, read.1.now)) result ≡ wide_number_in w64 bytes.now }
     ensures fewer { IfSome result (λ read. length read.1.now < length bytes.now) }
@@ -48,7 +48,7 @@ pub(crate) fn number_of(bytes: &[u8]) -> Option<(u64, &[u8])>
     Some((number, rest))
 }
 
-/// The reply to the request of this kind.
+/// Returns the reply to the request of this kind.
 pub(crate) fn answer_to(
     map: &mut ArenaMap,
     kind: u8,
@@ -73,7 +73,7 @@ pub(crate) fn answer_to(
     }
 }
 
-/// The reply to a request for what the key holds.
+/// Returns the reply to a request that reads the key.
 pub(crate) fn get(map: &ArenaMap, key: &[u8]) -> TextReply
     ensures { result ≡ reply_parts (reply map.now.pairs (Get key.now)) }
 {
@@ -84,7 +84,7 @@ pub(crate) fn get(map: &ArenaMap, key: &[u8]) -> TextReply
     }
 }
 
-/// Reads what the key holds: the reply to a request for it, and its text.
+/// Reads the key: returns the reply to a request for its value, and its text.
 pub(crate) fn read(
     alloc: Global,
     map: &ArenaMap,
@@ -169,7 +169,7 @@ fn del(map: &mut ArenaMap, key: &[u8]) -> TextReply
     }
 }
 
-// The sum, where it has 64 bits.
+// Returns the sum, if 64 bits hold it.
 fn sum_of(count: i64, amount: i64) -> Option<i64>
     ensures { result ≡ sum_of count amount }
 {

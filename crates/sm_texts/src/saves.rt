@@ -1,4 +1,4 @@
-//! The bytes that stand for a map.
+//! The bytes that encode a map.
 ghost use Rattle.std.specs.Prelude.{◌≡◌, ◌<◌, ◌≤◌, ◌++◌, ℕ, List, IfSome, Some, IfOk, OnOk, length, map};
 ghost use Rattle.std.specs.Option.{option_map};
 ghost use Rattle.sm_map.specs.Val.{held_of, row_of};
@@ -15,11 +15,11 @@ use sm_map::arena_map::ArenaMap;
 use sm_map::val::Val;
 use std::alloc::{AllocError, Global};
 
-// No key of a map is as great as this one.
+// Every key of a map is below this one.
 const ABOVE_KEYS: [u8; 256] = [255; 256];
 
-/// The bytes that stand for the map. Where there is a key of other bytes than a request can have, memory is said to be
-/// refused.
+/// Returns the bytes that encode the map. Returns the error of refused memory also if a key has bytes that no request's
+/// key can have.
 pub(crate) fn save(alloc: Global, map: &ArenaMap) -> Result<Vec<u8>, AllocError>
     ensures { IfOk result (λ bytes. bytes.items ≡ spelled_pairs map.now.pairs) }
 {
@@ -30,7 +30,7 @@ pub(crate) fn save(alloc: Global, map: &ArenaMap) -> Result<Vec<u8>, AllocError>
     rows_bytes(alloc, &rows)
 }
 
-// The rows of a scan, which are all pairs where there are as many.
+// Returns the rows of a scan. If they are as many as the map's pairs, they are all of them.
 fn found<'a>(
     texts: &'a ArenaMap,
     low: &[u8],
@@ -89,7 +89,7 @@ fn put_front(out: &mut Vec<u8>, kind: u8, count: u64, number: u64) -> Result<(),
     Ok(())
 }
 
-// The first pair that the bytes spell, and the bytes after it.
+// Returns the first pair that the bytes spell, and the bytes after it.
 fn pair_of(bytes: &[u8]) -> Option<(&[u8], Val<'_>, &[u8])>
     ensures exact { option_map (λ read. (record { key = read.0.now; value = held_of read.1 }, read.2.now)) result
         ≡ pair_at bytes.now }
@@ -104,7 +104,7 @@ fn pair_of(bytes: &[u8]) -> Option<(&[u8], Val<'_>, &[u8])>
     }
 }
 
-// The pair of this kind, whose key has so many bytes, and the bytes after it.
+// Returns the pair of this kind with a key of this many bytes, and the bytes after it.
 fn numbered(kind: u8, count: u64, bytes: &[u8]) -> Option<(&[u8], Val<'_>, &[u8])>
     ensures exact { option_map (λ read. (record { key = read.0.now; value = held_of read.1 }, read.2.now)) result
         ≡ pair_numbered kind count (wide_number_in w64 bytes.now) }
@@ -116,7 +116,7 @@ fn numbered(kind: u8, count: u64, bytes: &[u8]) -> Option<(&[u8], Val<'_>, &[u8]
     }
 }
 
-// The pair of this kind and number, whose key has so many bytes, and the bytes after it.
+// Returns the pair of this kind and number with a key of this many bytes, and the bytes after it.
 fn keyed(kind: u8, number: u64, count: u64, bytes: &[u8]) -> Option<(&[u8], Val<'_>, &[u8])>
     ensures exact { option_map (λ read. (record { key = read.0.now; value = held_of read.1 }, read.2.now)) result
         ≡ pair_numbered kind count (Some (number, bytes.now)) }
@@ -132,7 +132,7 @@ fn keyed(kind: u8, number: u64, count: u64, bytes: &[u8]) -> Option<(&[u8], Val<
     }
 }
 
-// The value of this kind and number, and the bytes after it.
+// Returns the value of this kind and number, and the bytes after it.
 fn value_of(kind: u8, number: u64, bytes: &[u8]) -> Option<(Val<'_>, &[u8])>
     ensures exact { (key : List ℕ) → option_map (λ read. (record { key = key; value = held_of read.0 }, read.1.now))
         result ≡ pair_keyed kind number key bytes.now }
@@ -148,7 +148,7 @@ fn value_of(kind: u8, number: u64, bytes: &[u8]) -> Option<(Val<'_>, &[u8])>
     Some((Val::Text(text), rest))
 }
 
-/// The map that the bytes stand for: that after some requests, where the bytes are those of it.
+/// Returns the map that the bytes encode. If a map after some requests was encoded as these bytes, that is the map.
 pub(crate) fn load(alloc: Global, bytes: &[u8]) -> Result<Option<ArenaMap>, AllocError>
     ensures { (items : List (Item (Vec ℕ)))
         → bytes.now ≡ spelled_pairs (state_after texts_service texts_service.start items)

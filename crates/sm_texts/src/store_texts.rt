@@ -11,12 +11,12 @@ use sm_shard::{ReadAnswer, StoreMachine};
 use std::alloc::{AllocError, Global};
 use std::marker::Model;
 
-/// Texts and counts by key, as the machine of a shared store. A request is its kind (1 get, 2 put, 3 append, 4 inc,
-/// 5 del), how many bytes its key has, 1 to 255, the key, and then the text, or the amount in 8 bytes.
+/// Texts and counts by key, as the machine of a shared store. A request is its kind (1 get, 2 put, 3 append, 4 inc, 5
+/// del), the length of its key, 1 to 255, the key, and then the text, or the amount in 8 bytes.
 #[derive(Drop)]
 pub struct StoreTexts {
     map: ArenaMap,
-    // If memory was refused to move the map, the next try waits until so many bytes are dead.
+    // If memory was refused to move the map, the next try must wait until this many bytes are dead.
     tries_at: u128,
 }
 
@@ -97,22 +97,22 @@ impl StoreTexts {
     ghost use Rattle.sm_map.specs.KeyMap.{held_at, within};
     ghost use Rattle.sm_map.specs.Val.{held_of, row_of};
 
-    /// What the key holds, or none where it holds nothing.
+    /// Returns the value of the key, or nothing if it has none.
     pub fn look(&self, key: &[u8]) -> Option<Val<'_>>
         ensures { option_map held_of result ≡ held_at self.now key.now }
     {
         self.map.get(key)
     }
 
-    /// Returns how many keys hold something.
+    /// Returns how many keys have a value.
     pub fn count(&self) -> u128
         ensures { result ≡ length self.now }
     {
         self.map.len()
     }
 
-    /// Returns the pairs with keys from low on and below high, in the order of their keys, and of these the first
-    /// `most`.
+    /// Returns the first `most` of the pairs whose keys are at or above `low` and below `high`, in the order of their
+    /// keys.
     ///
     /// # Errors
     ///
@@ -128,8 +128,8 @@ impl StoreTexts {
         self.map.scan(low, high, most)
     }
 
-    // Moves the map into fresh memory if much of the old is dead. If memory is refused, the map stays, and the next try
-    // waits until twice as much is dead.
+    // Moves the map into fresh memory if much of the old memory is dead. If memory is refused, the map stays, and the
+    // next try must wait until twice as much is dead.
     fn drop_the_dead(&mut self)
         ensures { self.new ≡ self.old }
     {
@@ -146,7 +146,7 @@ impl StoreTexts {
     }
 }
 
-/// Whether the request only reads.
+/// Returns whether the request only reads.
 pub fn is_read(request: &[u8]) -> bool
     ensures { result ≡ is_read request.now }
 {

@@ -1,4 +1,4 @@
--- A struct of a marker alone, as the machine has it, and its making out of nothing.
+-- A struct with only a marker, as the machine has it, and how it is made from nothing.
 use Rattle.std.proofs.Common.{[], ◌∷◌, refl}
 use seplogic.Ra.Ura.{Ura}
 use mir.Val.{Val, vstruct, vcons, vnil}

@@ -1,4 +1,4 @@
-//! What proofs alone read: a list, or a value, that takes no memory and whose calls do nothing when they run.
+//! Values that only proofs read: a list, or a value, that takes no memory and whose calls do nothing when they run.
 //!
 //! ```rust
 //! for value in [3u64, 4, 5] {

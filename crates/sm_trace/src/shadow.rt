@@ -3,7 +3,7 @@ ghost use Rattle.std.specs.Borrow.{ftrue};
 
 use std::marker::{Model, PhantomData};
 
-/// What a value was when [`Shadow::of`] was called, for proofs alone: it takes no memory.
+/// The value at the time when [`Shadow::of`] was called, only for proofs: it takes no memory.
 pub struct Shadow<T> {
     of: PhantomData<T>,
     pub ghost value: { T },
@@ -25,7 +25,7 @@ impl<T> Drop for Shadow<T> {
 }
 
 impl<T> Shadow<T> {
-    /// What the value is now.
+    /// Returns the shadow of the present value.
     pub fn of(value: &T) -> Shadow<T>
         ensures { result.value ≡ value.now }
     {

@@ -3,7 +3,7 @@ ghost use Rattle.std.specs.Borrow.{ftrue};
 
 use std::marker::{Model, PhantomData};
 
-/// A list that grows at its end, for proofs alone: it takes no memory.
+/// A list that grows at its end, only for proofs: it takes no memory.
 ///
 /// Contracts see its items, in the order in which they came.
 pub struct Trace<T> {
@@ -27,7 +27,7 @@ impl<T> Drop for Trace<T> {
 }
 
 impl<T> Trace<T> {
-    /// The empty list.
+    /// Returns the empty list.
     pub fn empty() -> Trace<T>
         ensures { result.items ≡ [] }
     {

@@ -1,4 +1,4 @@
--- Entries of known servers alone.
+-- Entries that name only known servers.
 use Rattle.std.specs.Prelude.{List, All, IfSome}
 use Rattle.sm_ranges.specs.ServerId.{IsServer}
 use Rattle.sm_ownership.specs.declared.change.Change.{Change}
@@ -7,7 +7,7 @@ use Rattle.sm_ownership.specs.declared.entry.Kind.{Kind}
 use Rattle.sm_ownership.specs.declared.entry.Kind.TheVariants.{Change as Changed, Admit, Done}
 use Rattle.sm_ownership.specs.Rules.{newly_named}
 
--- the server that a change newly names, if it does, is a server
+-- if the change newly names a server, its number is a server's
 abbrev pub NewlyNamesServer : Change → Type 0
 NewlyNamesServer change = IfSome (newly_named change) IsServer
 

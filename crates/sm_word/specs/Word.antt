@@ -19,7 +19,7 @@ phase_of (Forwarding owner next) = 3
 phase_of (Taken owner previous) = 4
 phase_of (Paused owner) = 5
 
--- the server of a number, where 0 stands for none
+-- the server with this number; 0 is no server
 abbrev pub server_of : ℕ → Option ℕ
 server_of number = if number == 0 then None else Some number
 
@@ -34,11 +34,11 @@ word_of state =
     phase_of state.stand * 2 ^ 61 + bit_of state.admitted * 2 ^ 60 + owner_number state.stand * 2 ^ 48
     + other_number state.stand * 2 ^ 36 + state.generation
 
--- a stand names servers alone, and two where it names two
+-- a stand names only servers; if it names two, they differ
 abbrev pub NamesServers : Stand → Type 0
 NamesServers stand = AllNamed IsServer stand × IsApart stand
 
--- a shard that nobody executes for is idle, and one has had no entry exactly where it is vacant
+-- a shard for which nobody executes is idle, and a shard has had no entry if and only if it is vacant
 abbrev pub FitsStand : Stand → Bool → ℕ → Type 0
 FitsStand stand admitted generation =
     (executor_of stand ≡ None → admitted ≡ false) × (is_vacant stand ≡ (generation == 0))

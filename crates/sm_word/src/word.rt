@@ -12,22 +12,22 @@ use sm_ownership::record::Record;
 use sm_ranges::server_id::ServerId;
 use sm_ranges::stand::Stand;
 
-/// Where the phase begins in a word: 0 vacant, 1 serving, 2 prepared, 3 forwarding, 4 taken, 5 paused.
+/// The lowest bit of the phase in a word: 0 vacant, 1 serving, 2 prepared, 3 forwarding, 4 taken, 5 paused.
 pub const PHASE: u64 = 1 << 61;
 
-/// Where a word tells whether a server is admitted.
+/// The bit of a word that says whether a server is admitted.
 pub const ADMITTED: u64 = 1 << 60;
 
-/// Where the owner's number begins, 0 for none.
+/// The lowest bit of the owner's number in a word. The number is 0 if there is no owner.
 pub const OWNER: u64 = 1 << 48;
 
-/// Where the number of the next or the previous server begins; below it stands the generation.
+/// The lowest bit of the number of the next or the previous server. Below it is the generation.
 pub const OTHER: u64 = 1 << 36;
 
-/// How many numbers of servers a part has room for.
+/// How many numbers of servers fit in a part.
 pub const SERVERS: u64 = 1 << 12;
 
-/// The word of a well-formed record.
+/// Returns the word of a well-formed record.
 pub fn pack(state: Record) -> u64
     requires { IsWellFormed state }
     ensures { result ≡ word_of state }
@@ -40,7 +40,7 @@ pub fn pack(state: Record) -> u64
         + state.generation
 }
 
-/// The well-formed record that has this word, or none where no record has it.
+/// Returns the well-formed record that has this word, or nothing if no record has it.
 pub fn unpack(word: u64) -> Option<Record>
     ensures { (state : RecordValue) → (result ≡ Some state) ↔ (IsWellFormed state × (word_of state ≡ word)) }
 {
@@ -59,8 +59,8 @@ pub fn unpack(word: u64) -> Option<Record>
     })
 }
 
-/// The record of a word that has one.
-// Where a caller reads one part alone, the others cost nothing once this is inlined.
+/// Returns the record of a word. The word must have one.
+// If a caller reads only one part, the other parts cost nothing once this is inlined.
 #[inline(always)]
 pub fn record_of_word(word: u64) -> Record
     requires { (state : RecordValue) × IsWellFormed state × (word_of state ≡ word) }
@@ -75,7 +75,8 @@ pub fn record_of_word(word: u64) -> Record
     }
 }
 
-/// Whether the word of a record is one by which this server serves the shard and isn't admitted to it: one comparison.
+/// Returns whether, by the word of a record, this server serves the shard and isn't admitted to it. It takes one
+/// comparison.
 pub fn is_served(word: u64, server: ServerId) -> bool
     ensures { IsTrue result → (state : RecordValue) → IsWellFormed state → word_of state ≡ word
         → (state.stand ≡ Serving server) × (state.admitted ≡ false) }
@@ -83,7 +84,7 @@ pub fn is_served(word: u64, server: ServerId) -> bool
     word / OTHER == PHASE / OTHER + u64::from(server.number()) * (OWNER / OTHER)
 }
 
-/// The word after an admission, of the word of an idle record.
+/// Returns the word after an admission. The word's record must be idle.
 pub fn admit_word(word: u64) -> u64
     requires { (state : RecordValue) × IsWellFormed state × (state.admitted ≡ false) × (word_of state ≡ word) }
     ensures { (state : RecordValue) → state.admitted ≡ false → word_of state ≡ word
@@ -92,7 +93,7 @@ pub fn admit_word(word: u64) -> u64
     word + (ADMITTED + 1)
 }
 
-/// The word after the end of an admission, of the word of an admitted record.
+/// Returns the word after the end of an admission. The word's record must be admitted.
 pub fn done_word(word: u64) -> u64
     requires { (state : RecordValue) × IsWellFormed state × (state.admitted ≡ true) × (word_of state ≡ word) }
     ensures { (state : RecordValue) → state.admitted ≡ true → word_of state ≡ word
@@ -101,7 +102,7 @@ pub fn done_word(word: u64) -> u64
     word - (ADMITTED - 1)
 }
 
-// The stand of this phase that names these servers, or as many of them as it names.
+// Returns the stand of this phase with these servers, or with as many of them as it names.
 #[inline(always)]
 fn known_stand(phase: u64, owner: u16, other: u16) -> Stand
     requires owner { phase ≢ 0 → IsServer owner }
@@ -141,7 +142,7 @@ fn phase(stand: Stand) -> u64
     }
 }
 
-// The number of the server, or 0 where there is none.
+// Returns the number of the server, or 0 if there is none.
 fn number(server: Option<ServerId>) -> u64
     ensures { result ≡ unwrap_or server 0 }
 {
@@ -151,7 +152,7 @@ fn number(server: Option<ServerId>) -> u64
     }
 }
 
-// The stand of this phase that names these servers, where there is one.
+// Returns the stand of this phase with these servers, if there is one.
 fn stand_of(phase: u64, owner: Option<ServerId>, other: Option<ServerId>) -> Option<Stand>
     ensures some { IfSome result (λ stand. NamesServers stand × (phase_of stand ≡ phase)
         × (server_of (owner_number stand) ≡ owner) × (server_of (other_number stand) ≡ other)) }
@@ -186,7 +187,7 @@ fn stand_of(phase: u64, owner: Option<ServerId>, other: Option<ServerId>) -> Opt
     }
 }
 
-// Whether a record of this stand may be admitted so, and have this generation.
+// Returns whether a record of this stand may be admitted or idle as given, and have this generation.
 fn fits_stand(stand: &Stand, admitted: bool, generation: u64) -> bool
     ensures { IsTrue result ↔ FitsStand stand.now admitted generation }
 {

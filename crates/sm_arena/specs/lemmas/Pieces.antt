@@ -1,4 +1,4 @@
--- Pieces by their spans: a span is the same as itself alone, and what was placed stays.
+-- Pieces by their spans: a span is the same only as itself, and placed pieces stay.
 use Rattle.std.proofs.Common.{◌≡◌, ℕ, Bool, true, false, cond, ◌<◌, List, [], ◌∷◌, ◌++◌, length, count_by, unwrap_or}
 use Rattle.std.proofs.Common.{Option, Some, None, IsSome, refl, ap, arith, inl, inr, ◌⊎◌}
 use mathlib.Core.Bool.{false≢true}
@@ -31,12 +31,12 @@ placed_or_none es s = by (piece_of es s) refl
     by None e = inl e
     by (Some x) e = inr (rw e refl)
 
--- the piece at a span where the first place has it, or hasn't
+-- the piece at a span, if the first place has it, or if it hasn't
 abbrev pub piece_behind : Bool → Span × List ℕ → Places → Span → Option (List ℕ)
 piece_behind here x es s = option_map (λ (place : Span × List ℕ). place.1)
     (cond here (Some x) (find (λ (place : Span × List ℕ). same_span place.0 s) es))
 
--- what was placed stays
+-- placed pieces stay
 pub placed_stays : (es : Places) (e : Span × List ℕ) (s : Span) → IsPlaced es s
     → piece_of (es ++ e ∷ []) s ≡ piece_of es s
 placed_stays [] e s is = absurd (false≢true is)
@@ -47,7 +47,7 @@ placed_stays (x ∷ es) e s is = by (same_span x.0 s) is (placed_stays es e s)
     by true is again = refl
     by false is again = again is
 
--- the sum of the lengths at these spans stays where each span of the list reads the same
+-- if each span of the list reads the same, the sum of the lengths at these spans stays
 pub same_sum : (old new : Places) (l : List Span)
     → ((s : Span) → 0 < count_by (λ t. same_span t s) l → piece_of new s ≡ piece_of old s)
     → sum_by (λ s. length (bytes_of new s)) l ≡ sum_by (λ s. length (bytes_of old s)) l

@@ -1,10 +1,10 @@
--- Answers to one more line, and none.
+-- Answers to one more line, and to no line.
 use Rattle.std.proofs.Common.{ℕ, List, [], ◌∷◌, ◌++◌, refl, ap, sym, ◌∙◌, append_assoc, append-nil, subst}
 use Rattle.std.proofs.KnownBytes.{Appends-nil}
 use Rattle.sm_lines.specs.Answers.{AnswersAll}
 use Rattle.sm_lines.specs.Writing.{Writing, Sends}
 
--- one more line
+-- the answers with one more line
 pub AnswersAll-more : {E : Type 0} (answers : E → List ℕ → List ℕ → E → Type 0) (before mid after : E)
     (done : List (List ℕ)) (line text more : List ℕ)
     → AnswersAll answers before done text mid → answers mid line more after

@@ -1,4 +1,4 @@
--- What was to be written, in other words.
+-- The bytes that must be written, said in another way.
 use Rattle.std.proofs.Common.{ℕ, List, Result, ◌++◌, ◌∷◌, [], inl, inr}
 use Rattle.sm_lines.specs.Reading.{Reading}
 use Rattle.sm_lines.specs.Transcripts.{Transcript}
@@ -8,7 +8,7 @@ use Rattle.sm_lines.specs.declared.begin_fault.BeginFault.{BeginFault}
 use Rattle.sm_lines.specs.declared.run_fault.RunFault.{RunFault}
 use Rattle.sm_lines.specs.declared.status.Status.{Status}
 
--- from one wording of what was to be written to another
+-- from one way to say which bytes must be written to another
 abbrev pub Rewords : (List (List ℕ) → List ℕ → Type 0) → (List (List ℕ) → List ℕ → Type 0) → Type 0
 Rewords writes says = (before : List (List ℕ)) (text : List ℕ) → writes before text → says before text
 
@@ -72,7 +72,7 @@ all_as answers also reads (line ∷ lines) before text after (first, rest, betwe
   all_as answers also reads lines between rest after all,
 )
 
--- what a session's answers are, in other words
+-- a session's answers, said in another way
 pub answers_as : {S : Type 0} (begins : List ℕ → S → Type 0) (answers also : S → List ℕ → List ℕ → S → Type 0)
     → ((before : S) (line text : List ℕ) (after : S) → answers before line text after → also before line text after)
     → Rewords (WritesFor begins answers) (WritesFor begins also)

@@ -71,7 +71,7 @@ reads_last was now taken false reads =
       after = reads.after;
     }
 
--- once the end was seen, there is none
+-- once the end was seen, there are no more bytes
 pub none_after_end : (was now : Reading) (taken : List ℕ) (last : Bool) → was.ended ≡ true → Reads was now taken last
     → taken ≡ []
 none_after_end was now taken last ended reads =
@@ -155,7 +155,7 @@ took_more was now next lines more one two = record {
 feed_first : (b : ℕ) (bytes : List ℕ) → b ≡ 10 → lines_of (b ∷ bytes) ≡ [] ∷ lines_of bytes
 feed_first b bytes is = rw is refl
 
--- bytes without a line are none
+-- if bytes have no line, there are no bytes
 pub no_lines : (bytes : List ℕ) → lines_of bytes ≡ [] → bytes ≡ []
 no_lines [] none = refl
 no_lines (b ∷ bytes) none = absurd (elim (cases_eq b 10) [
@@ -170,7 +170,7 @@ no_lines (b ∷ bytes) none = absurd (elim (cases_eq b 10) [
     onto [] is = some (b ∷ []) [] is
     onto (line ∷ lines) is = some (b ∷ line) lines is
 
--- lines that were taken off known bytes are their first; where the end was seen, they are all
+-- lines that were taken off known bytes are the first of their lines; if the end was seen, they are all of them
 pub lines_ahead : (was now : Reading) (lines : List (List ℕ)) (bytes : List ℕ) → to_come was ≡ Some bytes
     → TookLines was now lines
     → (rest : List (List ℕ)) × (lines_of bytes ≡ lines ++ rest) × (now.ended ≡ true → rest ≡ [])

@@ -1,4 +1,4 @@
--- What is read of books after a stand or a state was set.
+-- Reading books after a stand or a state was set.
 use Rattle.std.proofs.Common.{◌≡◌, ◌≢◌, ℕ, ◌<◌, false, eqb, List, length, get_or, set, ap, sym, ◌∙◌, inl, inr, ◌⊎◌}
 use Rattle.std.proofs.lemmas.Bool.{eqb-true}
 use Rattle.std.proofs.lemmas.Bool.Decides.{eqb_tells}
@@ -12,7 +12,7 @@ use Rattle.sm_place.specs.declared.shard.Shard.{Shard}
 use Rattle.sm_place.specs.Books.{BooksView, IsKnown, moved, no_server, no_shard, place_of, shard_at, state_of}
 use Rattle.sm_place.specs.Books.{with_stand, with_state}
 
--- the shard whose stand was set has it, each other is as before, and there are as many
+-- the shard whose stand was set has it, every other shard is as before, and there are as many
 pub shard_at-same : (shards : List Shard) (k : ℕ) (stand : Stand) → k < length shards
     → shard_at (with_stand shards k stand) k ≡ moved (shard_at shards k) stand
 shard_at-same shards k stand h = get_or-set_same shards k (moved (shard_at shards k) stand) no_shard h
@@ -30,7 +30,7 @@ pub id-at_place : (servers : List ServerRow) (a : ℕ) → IsKnown servers a
     → (get_or servers (place_of servers a) no_server).id ≡ a
 id-at_place servers a known = eqb-true _ _ (passes_at_first (λ row. eqb row.id a) servers no_server known)
 
--- two servers at one place are one
+-- if two servers have the same place, they are the same
 pub same_place : (servers : List ServerRow) (a b : ℕ) → IsKnown servers a → place_of servers b ≡ place_of servers a
     → b ≡ a
 same_place servers a b known e =
@@ -39,7 +39,7 @@ same_place servers a b known e =
     let there = id-at_place servers b b_known in
     sym there ∙ ap (λ i. (get_or servers i no_server).id) e ∙ here
 
--- the state of a server, after that of a was set: its own new one, or another's old one
+-- after the state of a was set, a has the new state, and every other server has its old one
 pub state_of-set : (books : BooksView) (a b : ℕ) (state : ServerState)
     → length books.states ≡ length books.servers → IsKnown books.servers a
     → ((b ≡ a) × (state_of (with_state books a state) b ≡ state))

@@ -1,11 +1,11 @@
--- What holds of one server that a stand names, and what one of them shows.
+-- The servers that a stand names: facts about all of them hold for one, and one of them shows that there is one.
 use Rattle.std.proofs.Common.{◌≡◌, ℕ, Bool, true, eqb, Option, Some, None, refl, ap, sym, ◌∙◌, inl, inr}
 use Rattle.std.specs.Prelude.{IfSome}
 use Rattle.std.proofs.lemmas.Bool.{eqb-true, eq-eqb, or_cases, or_left, or_right}
 use Rattle.sm_ranges.specs.declared.stand.Stand.{Stand}
 use Rattle.sm_ranges.specs.Stand.{passes, names, names_one, owner_of, other_of, AllNamed}
 
--- a server that passes, and is the one of the option
+-- if an option passes, it holds a server that passes
 passes-found : (test : ℕ → Bool) (x : Option ℕ) → passes test x ≡ true
     → (b : ℕ) × ((passes (λ c. eqb c b) x ≡ true) × (test b ≡ true))
 passes-found test None e = absurd (cc)
@@ -16,7 +16,7 @@ passes-one : (test : ℕ → Bool) (x : Option ℕ) (b : ℕ) → passes (λ c. 
 passes-one test None b e t = absurd (cc)
 passes-one test (Some a) b e t = ap test (eqb-true a b e) ∙ t
 
--- where a named server passes, there is one
+-- if a named server passes, there is such a server
 pub names_one-found : (test : ℕ → Bool) (stand : Stand) → names_one test stand ≡ true
     → (b : ℕ) × ((names stand b ≡ true) × (test b ≡ true))
 names_one-found test stand e =
@@ -39,7 +39,7 @@ names_one-found test stand e =
       )
     ]
 
--- a named server that passes is one
+-- if a server passes and the stand names it, a named server passes
 pub names_one-named : (test : ℕ → Bool) (stand : Stand) (b : ℕ) → names stand b ≡ true → test b ≡ true
     → names_one test stand ≡ true
 names_one-named test stand b e t =
@@ -54,7 +54,7 @@ IfSome-at : (P : ℕ → Type 0) (x : Option ℕ) (b : ℕ) → IfSome x P → p
 IfSome-at P None b h e = absurd (cc)
 IfSome-at P (Some a) b h e = rw (sym (eqb-true a b e)) h
 
--- what holds of each named server holds of this one
+-- a fact about each named server holds for this one
 pub AllNamed-at : (P : ℕ → Type 0) (stand : Stand) → AllNamed P stand → (b : ℕ) → names stand b ≡ true → P b
 AllNamed-at P stand all b e =
     elim (or_cases (passes (λ c. eqb c b) (owner_of stand)) (passes (λ c. eqb c b) (other_of stand)) e) [
@@ -62,7 +62,7 @@ AllNamed-at P stand all b e =
       | inr p ↦ IfSome-at P (other_of stand) b all.1 p
     ]
 
--- the owner is named
+-- the owner is one of the named servers
 pub names-owner : (stand : Stand) (a : ℕ) → owner_of stand ≡ Some a → names stand a ≡ true
 names-owner stand a e =
     or_left (passes (λ c. eqb c a) (owner_of stand)) (passes (λ c. eqb c a) (other_of stand))

@@ -1,4 +1,4 @@
--- Lists that a place cuts in two: what filters and `find` give of them, and what a write there leaves.
+-- Lists that are cut in two at a place: the results of filters and of `find`, and of a write there.
 use Rattle.std.proofs.Common.{◌≡◌, ℕ, zero, suc, ◌<◌, Bool, true, false, List, [], ◌∷◌, ◌++◌, length, get_or, set, take}
 use Rattle.std.proofs.Common.{drop, Some, None, refl, ap, arith}
 use Rattle.std.specs.List.{All, AllPairs, AllWithin, filter, find}
@@ -12,7 +12,7 @@ module _ {X : Type 0} (p : X → Bool) where
   abbrev pub Fails : List X → ℕ → ℕ → Type 0
   Fails xs low high = AllWithin (λ x. p x ≡ false) xs low high
 
-  -- the elements below the place pass, and no other
+  -- only the elements below the place pass
   pub filter-take : (xs : List X) (at : ℕ) → Passes xs 0 at → Fails xs at (length xs) → filter p xs ≡ take at xs
   filter-take [] zero pass fail = refl
   filter-take [] (suc at) pass fail = refl
@@ -25,7 +25,7 @@ module _ {X : Type 0} (p : X → Bool) where
       rw here (ap (λ l. x ∷ l) (filter-take xs at (λ k d low high. pass (suc k) d (omega arith) (omega arith))
       (λ k d low high. fail (suc k) d (omega arith) (omega arith))))
 
-  -- the elements from the place on pass, and no other
+  -- only the elements from the place on pass
   pub filter-drop : (xs : List X) (at : ℕ) → Fails xs 0 at → Passes xs at (length xs) → filter p xs ≡ drop at xs
   filter-drop [] zero fail pass = refl
   filter-drop [] (suc at) fail pass = refl
@@ -62,7 +62,7 @@ module _ {X : Type 0} where
   set-cut (y ∷ ys) zero x within = refl
   set-cut (y ∷ ys) (suc at) x within = ap (λ l. y ∷ l) (set-cut ys at x (omega arith))
 
-  -- each pair within one part, and each pair across
+  -- all pairs within each part, and all pairs across the parts
   pub AllPairs-append : (R : X → X → Type 0) (xs ys : List X) → AllPairs R xs → AllPairs R ys
       → All (λ x. All (R x) ys) xs → AllPairs R (xs ++ ys)
   AllPairs-append R [] ys left right across = right

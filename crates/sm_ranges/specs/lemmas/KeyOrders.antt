@@ -27,7 +27,7 @@ greater_is Less passes = cc
 greater_is Equal passes = cc
 greater_is Greater passes = refl
 
--- of two rising keys, the lower one is in no higher order to a third
+-- if one key is below another, its order to a third key is no higher than the other's
 pub index_rises : (a b key : List ℕ) → key_cmp a b ≡ Less
     → ordering_index (key_cmp a key) ≤ ordering_index (key_cmp b key)
 index_rises a b key below = by (key_cmp b key) refl

@@ -1,4 +1,4 @@
--- Lists in the order of keys: what a place or a gap in one tells, and what a change there leaves.
+-- Lists in the order of keys: the facts about a place or a gap in such a list, and about the list after a change there.
 use Rattle.std.proofs.Common.{◌≡◌, ℕ, suc, ◌<◌, ◌≤◌, ◌+◌, false, List, ◌∷◌, length, get_or, set, take, drop, Some, None}
 use Rattle.std.proofs.Common.{sym, ap, subst, inl, inr, arith}
 use Rattle.std.specs.List.{All, AllWithin, HoldsAt, filter, find, insert, remove}
@@ -18,7 +18,7 @@ use Rattle.sm_ranges.specs.lemmas.KeyOrders.{above_from_below, below_from_above,
 use Rattle.sm_ranges.specs.lemmas.KeyOrders.{index_rises}
 
 module _ {X : Type 0} (key_of : X → List ℕ) (xs : List X) (key : List ℕ) (order : IsInKeyOrder key_of xs) where
-  -- the premise of std's binary search
+  -- the premise of the standard library's binary search
   pub rises : IsNonDecreasingBy (λ x. ordering_index (key_cmp (key_of x) key)) xs
   rises i j d upto within =
       elim (cases_lt i j) [
@@ -26,7 +26,8 @@ module _ {X : Type 0} (key_of : X → List ℕ) (xs : List X) (key : List ℕ) (
         | inr above ↦ (let same : i ≡ j = omega arith in rw same (omega arith))
       ]
 
-  -- what is before an element that is below the key is below it too, and likewise above
+  -- if an element is below the key, each one before it is too; and if an element is above the key, each one after it is
+  -- too
   pub below_up_to : (at : ℕ) → at < length xs → HoldsAt (λ x. key_cmp (key_of x) key ≡ Less) xs at
       → AllWithin (λ x. key_cmp (key_of x) key ≡ Less) xs 0 (at + 1)
   below_up_to at within here k d _ low =
@@ -50,7 +51,7 @@ module _ {X : Type 0} (key_of : X → List ℕ) (xs : List X) (key : List ℕ) (
     pub key_here : (d : X) → key_of (get_or xs at d) ≡ key
     key_here d = same_key _ _ (place.same d)
 
-    -- the elements before the key's are below it, and those after it above
+    -- the elements before the key's element are below the key, and those after it are above
     pub front : (k : ℕ) (d : X) → k < at → key_cmp (key_of (get_or xs k d)) key ≡ Less
     front k d low = rw (← key_here d) (order k at d low place.within)
 
@@ -145,7 +146,7 @@ module _ {X : Type 0} (key_of : X → List ℕ) (xs : List X) (key : List ℕ) (
 
 module _ {X : Type 0} (key_of : X → List ℕ) (xs : List X) (order : IsInKeyOrder key_of xs) (at : ℕ)
     (within : at < length xs) (d : X) where
-  -- the element at a place stands where its own key is
+  -- an element stands at the place of its own key
   pub place_itself : IsKeyPlace key_of xs (key_of (get_or xs at d)) at
   place_itself = record {
     within = within;

@@ -1,4 +1,4 @@
--- The bounds of a layout are those without a fault, and each key has one of its shards.
+-- Bounds are a layout if and only if they have no fault, and each key belongs to one of a layout's shards.
 use Rattle.std.proofs.Common.{◌≡◌, ℕ, ◌+◌, ◌-◌, ◌<◌, ◌≤◌, Bool, true, false, cond, List, [], ◌∷◌, Option, Some, None}
 use Rattle.std.proofs.Common.{length, get_or, drop, refl, sym, ap, ◌∙◌, arith}
 use Rattle.std.specs.Prelude.{not, position, nat_lt, All}
@@ -21,7 +21,7 @@ no_place n len h = grind (arith, nat_tests)
 past_the_end : (n len : ℕ) → n ≡ len → ◌≡◌ {A = Option ℕ} (cond (nat_lt n len) (Some n) None) None
 past_the_end n len h = grind (arith, nat_tests)
 
--- where no place is the first that passes, every element fails
+-- if no place is the first whose element passes, every element fails
 fails_everywhere : {X : Type 0} (p : X → Bool) (xs : List X) → position p xs ≡ None → (k : ℕ) (d : X) → k < length xs
     → p (get_or xs k d) ≡ false
 fails_everywhere p xs h k d lt =
@@ -74,7 +74,7 @@ short bounds h k d lt =
     let fails = fails_everywhere (λ bound. nat_lt 255 (length bound)) bounds h k d lt in
     grind (arith, nat_tests)
 
--- bounds without a fault make a layout
+-- if bounds have no fault, they are a layout
 pub no_fault-layout : (bounds : List (List ℕ)) → first_layout_fault bounds ≡ None → IsLayout bounds
 no_fault-layout [] h = cc
 no_fault-layout ((byte ∷ bytes) ∷ bounds) h = cc
@@ -113,7 +113,7 @@ none_too_long : (bounds : List (List ℕ)) → All (λ bound. length bound ≤ 2
 none_too_long bounds fits = no_place_where_all_fail (λ bound. nat_lt 255 (length bound)) bounds
     (λ k d lt. at_most_255 (length (get_or bounds k d)) (fits k d lt))
 
--- and bounds of a layout have no fault
+-- if bounds are a layout, they have no fault
 pub layout-no_fault : (bounds : List (List ℕ)) → IsLayout bounds → first_layout_fault bounds ≡ None
 layout-no_fault [] layout = absurd (omega (arith, layout.some))
 layout-no_fault ((byte ∷ bytes) ∷ bounds) layout = cc

@@ -1,4 +1,4 @@
--- Rows that pass the tests of their rules keep the rules.
+-- If rows pass the tests of their rules, they keep the rules.
 use Rattle.std.proofs.Common.{◌≡◌, ◌≤◌, ◌<◌, ◌+◌, ◌-◌, ◌^◌, ◌&&◌, ℕ, zero, suc, List, [], ◌∷◌, length, map, subst, refl}
 use Rattle.std.proofs.Common.{ap, ◌∙◌, eqb, Bool, true, get_or, arith, nat_le, nat_lt}
 use Rattle.std.specs.Prelude.{All}
@@ -25,7 +25,7 @@ pub is_within-true : (low high n : ℕ) → is_within low high n ≡ true → (l
 is_within-true low high n e =
     let parts = and_parts (nat_le low n) (nat_le n high) e in (leb-true low n parts.0, leb-true n high parts.1)
 
--- a test that all pass tells a fact of each
+-- if all elements pass a test, the fact behind the test holds for each
 pub All-list_all : {X : Type 0} (P : X → Type 0) (test : X → Bool) → ((x : X) → test x ≡ true → P x) → (xs : List X)
     → list_all test xs ≡ true → All P xs
 All-list_all P test tells [] e = All-nil P
@@ -33,11 +33,11 @@ All-list_all P test tells (x ∷ xs) e =
     let parts = and_parts (test x) (list_all test xs) e in
     All-cons P x xs (tells x parts.0) (All-list_all P test tells xs parts.1)
 
--- each of three tests of which all hold
+-- each of three tests, if all three hold
 three : (p q r : Bool) → (p && q && r) ≡ true → (p ≡ true) × (q ≡ true) × (r ≡ true)
 three p q r e = let last = and_parts (p && q) r e in let firsts = and_parts p q last.0 in (firsts.0, firsts.1, last.1)
 
--- where each number is below the next one's, the numbers rise strictly
+-- if each number is below the next one, the numbers rise strictly
 pub IsStrictlyIncreasing-are_rising : (rows : List ServerRow) → are_rising rows ≡ true
     → IsStrictlyIncreasing (map (λ row. row.id) rows)
 IsStrictlyIncreasing-are_rising [] e k within = absurd (omega arith)
@@ -51,7 +51,7 @@ IsStrictlyIncreasing-are_rising (row ∷ next ∷ rows) e (suc k) within =
     let ids : List ServerRow → List ℕ = map (λ row. row.id) in
     subst (λ j. get_or (ids (next ∷ rows)) k 0 < get_or (ids (row ∷ next ∷ rows)) j 0) place rest
 
--- servers that pass keep their rules
+-- if servers pass, they keep their rules
 pub AreServers-are_servers : (rows : List ServerRow) → are_servers rows ≡ true → AreServers rows
 AreServers-are_servers rows e =
     let tests = three (is_within 1 MAX_SERVER (length rows)) (list_all is_server_row rows) (are_rising rows) e in
@@ -74,7 +74,7 @@ AreServers-are_servers rows e =
     parts row t = three (is_within 1 MAX_SERVER row.id) (is_within 0 MAX_DOMAIN row.domain)
         (is_within 0 4294967295 row.capacity) t
 
--- groups that pass keep their rules
+-- if groups pass, they keep their rules
 pub AreGroups-are_groups : (rows : List GroupRow) → are_groups rows ≡ true → AreGroups rows
 AreGroups-are_groups rows e =
     let tests = and_parts (is_within 1 MAX_GROUPS (length rows)) (list_all is_group_row rows) e in
@@ -92,7 +92,7 @@ AreGroups-are_groups rows e =
         → (is_within 0 MAX_LIMIT row.limit ≡ true) × (is_within 0 MAX_LIMIT row.down ≡ true)
     parts row t = and_parts (is_within 0 MAX_LIMIT row.limit) (is_within 0 MAX_LIMIT row.down) t
 
--- shards that pass keep their rules
+-- if shards pass, they keep their rules
 pub AreShards-are_shards : (groups : ℕ) (rows : List ShardRow) → are_shards groups rows ≡ true → AreShards groups rows
 AreShards-are_shards groups rows e =
     let tests = and_parts (is_within 1 MAX_SHARDS (length rows)) (list_all (is_shard_row groups) rows) e in
@@ -113,7 +113,7 @@ AreShards-are_shards groups rows e =
         × (is_within 0 MAX_CAP row.cap ≡ true)
     parts row t = three (nat_lt row.group groups) (is_within 0 4294967295 row.load) (is_within 0 MAX_CAP row.cap) t
 
--- numbers that are the same one by one are the same
+-- if numbers are equal one by one, the lists are equal
 same-are_same : (xs ys : List ℕ) → are_same xs ys ≡ true → xs ≡ ys
 same-are_same [] [] e = refl
 same-are_same [] (y ∷ ys) e = absurd (cc)
@@ -137,7 +137,7 @@ domains_of-few servers = below (MAX_DOMAIN + 1)
           length-range_with_len 0 (n - 0),
         )
 
--- domains that pass keep their rules
+-- if domains pass, they keep their rules
 pub AreDomains-are_domains : (servers : List ServerRow) (rows : List DomainRow) → are_domains servers rows ≡ true
     → AreDomains servers rows
 AreDomains-are_domains servers rows e =

@@ -1,4 +1,4 @@
--- What the rules on rows say: a number out of its range breaks them, and rows that keep them are few.
+-- The effect of the rules on rows: if a number is out of its range, it breaks them, and rows that keep them are few.
 use Rattle.std.proofs.Common.{◌≡◌, ℕ, ◌≤◌, ◌&&◌, ◌==◌, List, length, map, refl, ap, ◌∙◌, true, false, Bool, arith}
 use Rattle.std.specs.List.{list_all}
 use Rattle.std.proofs.lemmas.Bool.{and_parts}

@@ -1,4 +1,4 @@
--- The records of a legal history of known servers are well formed.
+-- If a history is legal and its servers are known, its records are well formed.
 use Rattle.std.proofs.Common.{◌≡◌, ◌≢◌, ℕ, ◌<◌, ◌+◌, ◌^◌, Bool, true, false, not, List, [], ◌∷◌, refl, sym, ap, subst}
 use Rattle.std.proofs.Common.{◌∙◌, arith, ⊎_elim}
 use Rattle.std.specs.Prelude.{Some, None, is_some, unwrap_or, ◌==◌, nat_lt, nat_le, if◌then◌else◌}
@@ -26,7 +26,7 @@ use Rattle.sm_ownership.specs.Rules.{accepts_at, executor_of, is_server, stand_a
 use Rattle.sm_word.specs.Known.{NewlyNamesServer, KnownKind, AreKnown}
 use Rattle.sm_word.specs.Word.{NamesServers, FitsStand, IsWellFormed}
 
--- well formed but for the greatest generation
+-- well formed, except for the greatest generation
 abbrev IsShaped : Record → Type 0
 IsShaped state = NamesServers state.stand × FitsStand state.stand state.admitted state.generation
 
@@ -137,7 +137,7 @@ module _ {Q : Type 0} (count ceiling : ℕ) where
       (All-head Is entry earlier known) shaped))
       (next_record count ceiling entry earlier shard legal.0)
 
-  -- every record of the table of a legal history of known servers has a word
+  -- if a history is legal and its servers are known, every record of its table has a word
   pub well_formed : (earlier : List (Entry Q)) (shard : ℕ) → ceiling < 2 ^ 36 → IsLegalLatest count ceiling earlier
       → AreKnown earlier → IsWellFormed (record_at (table_of_latest count ceiling earlier) shard)
   well_formed earlier shard low legal known =

@@ -1,4 +1,4 @@
--- A word has one record.
+-- A word has only one record.
 use Rattle.std.proofs.Common.{◌≡◌, ℕ, ◌/◌, ◌%◌, ◌^◌, ◌<◌, Bool, true, false, refl, sym, ap, ◌∙◌, arith}
 use Rattle.std.specs.Prelude.{Option, None, Some, IfSome, unwrap_or}
 use Rattle.sm_ranges.specs.ServerId.{IsServer}
@@ -71,7 +71,7 @@ module _ (state : Record) (formed : IsWellFormed state) where
       (other_number state.stand) state.generation low
       (other_below state.stand formed.servers) (owner_below state.stand formed.servers) (bit_below state.admitted)
 
--- well-formed records with one word are one
+-- if two well-formed records have the same word, they are the same
 pub word_once : (one two : Record) → IsWellFormed one → IsWellFormed two → word_of one ≡ word_of two → one ≡ two
 word_once one two first second same =
     let generation = sym (word_generation one first) ∙ ap (λ w. w % 2 ^ 36) same ∙ word_generation two second in

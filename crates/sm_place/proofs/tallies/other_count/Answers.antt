@@ -10,7 +10,7 @@ use Rattle.sm_place.specs.Room.{count_in, names_domain}
 use Rattle.sm_place.proofs.Counting.{count_others}
 use Rattle.sm_place.proofs.tallies.other_count.Goals as goal
 
--- the counter of the server's domain has the other shards, and the shard where it names a server there
+-- the counter of the server's domain has the other shards, and this shard if it names a server there
 count_of_others : (servers : List ServerRow) (r : Ranking) (shards : List Shard) (k a cell d own count : ℕ)
     (counts : List ℕ) (shard : Shard)
     → k < length shards → AreRanked servers r → HasCells counts (shard_at shards k).row.group r → IsKnown servers a

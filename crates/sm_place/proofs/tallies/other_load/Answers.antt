@@ -8,7 +8,7 @@ use Rattle.sm_place.specs.Counters.{HasLoads}
 use Rattle.sm_place.proofs.Sharing.{load_on-remove}
 use Rattle.sm_place.proofs.tallies.other_load.Goals as goal
 
--- the server's counter has the loads of the other shards, and what the shard takes of the server
+-- the server's counter has the loads of the other shards, and how much this shard takes of the server
 load_others : (servers : List ServerRow) (shards : List Shard) (k a place own : ℕ) (loads : List ℕ) (shard : Shard)
     → k < length shards
     → IsKnown servers a → HasLoads servers shards loads → place ≡ place_of servers a → shard ≡ shard_at shards k

@@ -1,4 +1,4 @@
--- `bytes` reads the pointer and the count through the `&`, and hands out what the `&` lends. Assumes `Logic`.
+-- `bytes` reads the pointer and the count through the `&`, and hands out the bytes that the `&` lends. Assumes `Logic`.
 use Rattle.std.proofs.Common.{◌≡◌, ℕ, ◌+◌, ◌*◌, ◌^◌, List, [], ◌∷◌, ◌++◌, length, refl, ap, arith}
 use mir.Syntax.{Fn}
 use mir.Val.{Val, vptr}

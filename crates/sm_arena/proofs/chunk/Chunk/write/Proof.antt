@@ -1,4 +1,4 @@
--- `write` copies the piece byte by byte behind what is written; each turn of its loop moves one byte from the room to
+-- `write` copies the piece byte by byte behind the written bytes; each turn of its loop moves one byte from the room to
 -- the written ones. Assumes `Logic`.
 use Rattle.std.proofs.Common.{◌≡◌, ℕ, ◌+◌, ◌-◌, ◌^◌, ◌≤◌, ◌<◌, List, [], ◌∷◌, ◌++◌, length, take, get_or, refl, sym, ap}
 use Rattle.std.proofs.Common.{subst, ◌∙◌, arith, lit<, nltb→le, w8, w64, length-append}
@@ -101,7 +101,7 @@ module _ (A : RattleType) (d dd : Dict) where
     Turned t = after_turn 𝓤 H (Below 𝓛 Nearer Now t) (after_block 𝓤 H (after_block 𝓤 H
         (after_seq 𝓤 H (Wp 𝓤 H 𝓣.C 𝓣.Λ E (after 4 fn.body) (at_return 𝓤 H E Post)) (at_return 𝓤 H E Post))))
 
-    -- what is held where the loop has ended, but for the last test in local 9
+    -- the state at the end of the loop, except for the last test in local 9
     abbrev Done : List (Item 𝓤)
     Done = written (used + n) (xs ++ ys) ∷ left (used + n) ∷ ‵ (row u8 p ys sb so) ∷ F
         ∷ holding 𝓛 E ((1, vptr rb ro) ∷ (2, slice_val (sb, so) n) ∷ (3, vint w64 n) ∷ (4, vint w64 used) ∷ (

@@ -10,7 +10,7 @@ use Rattle.sm_map.proofs.Blocks.{blocks_counted, entry_read, number_inside}
 use Rattle.sm_map.proofs.Indexes.{has_in, remove_entries, remove_kept, gone_entries, gone_kept}
 use Rattle.sm_map.proofs.index.Index.remove.Goals as goal
 
--- what was asked for of the index as it is seen, said of its blocks; and what is found of these, said of the index
+-- the conditions on the index, said of its blocks; and the results for the blocks, said of the index
 module _ {seen now : IndexValue} (is : seen ≡ now) (place : Place)
     (asked : HasEntry (lengths_in now.blocks) place) where
   has : HasEntry (lengths_in seen.blocks) place

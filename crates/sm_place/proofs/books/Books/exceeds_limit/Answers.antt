@@ -7,7 +7,7 @@ use Rattle.sm_place.specs.Books.{no_group, shard_at, domain_of}
 use Rattle.sm_place.specs.Room.{count_in}
 use Rattle.sm_place.proofs.books.Books.exceeds_limit.Goals as goal
 
--- a limit is reached where one more is above it
+-- a limit is reached if one more is above it
 reached : (limit n : ℕ) → leb limit n ≡ nat_lt limit (n + 1)
 reached limit n = rw (add-one, leb-suc-suc) refl
 

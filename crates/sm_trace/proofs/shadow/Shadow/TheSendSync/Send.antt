@@ -1,4 +1,4 @@
--- What has no bytes and owns nothing may go to any thread.
+-- A value that has no bytes and owns nothing may go to any thread.
 use denote.RattleType.{RattleType}
 use denote.Param.Send.{IsSend, owning_send, sendable}
 use Rattle.sm_trace.specs.contracts.shadow.Shadow.{the_row, the_type}

@@ -1,4 +1,4 @@
--- What has no bytes and owns nothing may be shared by threads.
+-- A value that has no bytes and owns nothing may be shared by threads.
 use denote.Memory.{part_of, raw_all}
 use denote.RattleType.{RattleType}
 use denote.Param.Send.{IsSync, cell_keyless, owning_send, sendable}
