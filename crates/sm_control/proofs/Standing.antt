@@ -34,7 +34,7 @@ module _ {Q : Type 0} (books : BooksView) (p r : ChairValue Q) (board : r.board 
       (λ i. (sym board i, sym is i)) same
 
 module _ {Q : Type 0} (books : BooksView) (p : ChairValue Q) (same : AreStandsSeen books p) where
-  -- passes change none
+  -- passes change no stands
   pub stands_last : (others : List (Entry Q)) → IsLegal p.board.limits.count p.board.limits.ceiling (p.seen ++ others)
       → NoneBy 0 others → AreStandsIn books p.board.limits (p.seen ++ others)
   stands_last others legal none = (

@@ -1,4 +1,4 @@
--- No stopped server executes, where the caps are kept.
+-- No stopped server executes, if the caps are kept.
 use Rattle.std.proofs.Common.{◌≡◌, ℕ, ◌<◌, Bool, true, false, List, length, refl, sym, ap, ◌∙◌, subst, arith, ⊎_elim}
 use Rattle.std.specs.Prelude.{All, Option, Some, None, ◌||◌}
 use Rattle.std.proofs.lemmas.Bool.{true≢false, cases_lt, or_right}
@@ -46,7 +46,7 @@ module _ (allowed : RestartCaps) (books : BooksView) (caps : MeetsCaps allowed b
       absurd (cc))
       (cases_lt shard (length books.shards))
 
-  -- where the caps are kept, an executor isn't stopped
+  -- if the caps are kept, an executor isn't stopped
   pub executor_runs : is_stopped (state_of books server) ≡ false
   executor_runs = by (is_stopped (state_of books server)) refl
     where
@@ -59,7 +59,7 @@ module _ (allowed : RestartCaps) (books : BooksView) (caps : MeetsCaps allowed b
 
 module _ {Q : Type 0} (allowed : RestartCaps) (books : BooksView) (caps : MeetsCaps allowed books) (p : ChairValue Q)
     (same : AreStandsSeen books p) (history : List (Entry Q)) (led : PassesLeadTo p history) where
-  -- the stands are the shards' still
+  -- the stands are still the shards'
   pub stands_led : AreStandsIn books p.board.limits history
   stands_led =
       subst (λ (entries : List (Entry Q)). AreStandsIn books p.board.limits entries) (sym led.1)
@@ -71,7 +71,7 @@ module _ {Q : Type 0} (allowed : RestartCaps) (books : BooksView) (caps : MeetsC
   executor_led shard server is =
       executor_runs allowed books caps shard server (ap executor_of (stands_led.1 shard) ∙ is)
 
-  -- what holds of the admissions that stand, by the law of executors
+  -- the property of present admissions, by the law of executors
   abbrev IsOfExecutor : ℕ → Entry Q → Type 0
   IsOfExecutor shard entry = (server : ℕ) × (mode : Mode) × (entry.kind ≡ Admit server mode)
       × (executor (record_in p.board.limits history shard) ≡ Some server)

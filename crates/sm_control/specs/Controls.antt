@@ -1,4 +1,4 @@
--- The control as contracts see it, a chair and its desk, and what a command leaves of them.
+-- The control as contracts see it, a chair and its desk, and the effect of a command on them.
 use Rattle.std.specs.Prelude.{ℕ, false, ◌≡◌, ◌++◌, List, Option, Some, None, Result, Ok, Err, length}
 use Rattle.sm_ownership.specs.declared.change.Change.{Change}
 use Rattle.sm_ownership.specs.declared.change_fault.ChangeFault.TheVariants.{Spent as SpentRecord, Busy as BusyRecord}
@@ -24,17 +24,17 @@ pub record ControlValue (Q : Type 0) : Type 0 where
   pub chair : ChairValue Q
   pub desk : DeskView
 
--- the books have a row for each shard, whose stand is the shard's after this history
+-- the books have a row for each shard, with the shard's stand after this history
 abbrev pub AreStandsIn : {Q : Type 0} → BooksView → Limits → List (Entry Q) → Type 0
 AreStandsIn books limits history =
     (length books.shards ≡ limits.count)
     × ((shard : ℕ) → (shard_at books.shards shard).stand ≡ (record_in limits history shard).stand)
 
--- the stands of the desk are those of all that the chair has seen
+-- the stands of the desk are those of the whole history that the chair has seen
 abbrev pub AreStandsSeen : {Q : Type 0} → BooksView → ChairValue Q → Type 0
 AreStandsSeen books chair = AreStandsIn books chair.board.limits chair.seen
 
--- passes alone may lead from all that the chair has seen to this legal history
+-- passes alone may extend the history that the chair has seen to this legal history
 abbrev pub PassesLeadTo : {Q : Type 0} → ChairValue Q → List (Entry Q) → Type 0
 PassesLeadTo chair history =
     (later : List (Entry _)) × (history ≡ chair.seen ++ later) × NoneBy 0 later
@@ -51,13 +51,13 @@ fault_of (Spent state) = ChangeRefused (SpentRecord state)
 fault_of (Busy state) = ChangeRefused (BusyRecord state)
 fault_of (Raced read found) = CommandRaced read found
 
--- what the control answers and is then, where the desk refuses the command
+-- the control's answer and its state after it, if the desk refuses the command
 abbrev pub CommandIsRefused : {Q : Type 0} → CommandFault → ControlValue Q → ControlValue Q
     → Result (Unit {0}) CommandFault → Type 0
 CommandIsRefused fault before after result = (result ≡ Err fault) × (after ≡ before)
 
--- what a change answers whose fault by the desk is this one, or none. Made, the chair has added it, and the desk has it
--- too. Where the board refuses it, the chair may have seen more, and the desk is as it was
+-- the answer of a change whose fault at the desk is this one, or none; if it is made, the chair has added it, and the
+-- desk has it, too; if the board refuses it, the chair may have seen more, and the desk is as it was
 abbrev pub Changed : {Q : Type 0} → Option CommandFault → ControlValue Q → ControlValue Q → ℕ → Change
     → Result (Unit {0}) CommandFault → Type 0
 Changed (Some fault) before after shard change result = CommandIsRefused fault before after result
@@ -67,14 +67,14 @@ Changed None before after shard change (Err fault) =
     (refusal : ChangeRefusal) × (fault ≡ fault_of refusal)
     × ChairLooks before.chair after.chair × NotMade before.chair after.chair shard refusal × (after.desk ≡ before.desk)
 
--- what a step of a restart answers whose fault by the desk is this one, or none. Made, the chair is as it was
+-- the answer of a restart's step whose fault at the desk is this one, or none; if it is made, the chair is as it was
 abbrev pub IsMadeOrRefused : {Q : Type 0} → Option CommandFault → ControlValue Q → ControlValue Q → Command
     → Result (Unit {0}) CommandFault → Type 0
 IsMadeOrRefused (Some fault) before after step result = CommandIsRefused fault before after result
 IsMadeOrRefused None before after step result =
     (result ≡ Ok tt) × (after ≡ record { chair = before.chair; desk = commanded before.desk step })
 
--- what a command answers whose fault by the desk is this one, or none
+-- the answer of a command whose fault at the desk is this one, or none
 abbrev pub Commanded : {Q : Type 0} → Option CommandFault → ControlValue Q → ControlValue Q → Command
     → Result (Unit {0}) CommandFault → Type 0
 Commanded fault before after (ChangeOf shard change) result = Changed fault before after shard change result

@@ -1,4 +1,4 @@
--- What the control answers of a shard's route.
+-- The control's answer about a shard's route.
 use Rattle.std.specs.Prelude.{ℕ, ◌≡◌, Option, Some, None, Result, Ok, Err, if◌then◌else◌, length, nat_lt, not}
 use Rattle.sm_ranges.specs.Stand.{is_vacant, owner_of}
 use Rattle.sm_ownership.specs.declared.route.Route.{Route}
@@ -21,7 +21,7 @@ IsRouteOf chair shard route =
     (route.shard ≡ shard) × (owner_of (record_at_chair chair shard).stand ≡ Some route.server)
     × (route.generation ≡ (record_at_chair chair shard).generation)
 
--- what the control answers, whose fault is this one, or none
+-- the control's answer if the fault is this one, or none
 abbrev pub Routed : {Q : Type 0} → Option RouteFault → ControlValue Q → ControlValue Q → ℕ → Result Route RouteFault
     → Type 0
 Routed (Some fault) before after shard result = (result ≡ Err fault) × (after ≡ before)

@@ -22,8 +22,8 @@ use sm_ownership::laws::executor_admitted;
 use sm_rule::{Board, Chair};
 use std::marker::Model;
 
-/// The chair of a board, and the desk that its changes are checked against. The desk's stands are at all times those of
-/// all that the chair has seen.
+/// The chair of a board, and the desk that checks its changes. The desk's stands are always those of the whole history
+/// that the chair has seen.
 #[derive(Drop)]
 pub struct Control<S: Service> {
     chair: Chair<S>,
@@ -41,8 +41,8 @@ impl<S: Service> Model for Control<S> {
 }
 
 impl<S: Service> Control<S> {
-    /// The control of a new board: its chair has seen nothing yet, and the desk's books have a vacant row for each
-    /// shard.
+    /// Returns the control of a new board: its chair has seen nothing yet, and the desk's books have a vacant row for
+    /// each shard.
     pub fn new(chair: Chair<S>, desk: Desk) -> Control<S>
         requires seen { chair.seen ≡ [] }
         requires count { length desk.books.shards ≡ chair.board.limits.count }
@@ -52,14 +52,14 @@ impl<S: Service> Control<S> {
         Control { chair, desk }
     }
 
-    /// The desk.
+    /// Returns the desk.
     pub fn desk(&self) -> &Desk
         ensures { result.now ≡ self.now.desk }
     {
         &self.desk
     }
 
-    /// The chair and the desk, as where the board is to be closed.
+    /// Returns the chair and the desk, for instance because the board must be closed.
     pub fn into_parts(self) -> (Chair<S>, Desk)
         ensures chair { result.0 ≡ self.chair }
         ensures desk { result.1 ≡ self.desk }
@@ -68,8 +68,8 @@ impl<S: Service> Control<S> {
         (chair, desk)
     }
 
-    /// Says, for proofs alone, that what the chair has seen is a legal history, after which the desk's stands are the
-    /// shards'; that the books are sound, so that there is room; and that the caps of approved restarts are kept. It
+    /// Tells proofs that the history which the chair has seen is legal, and that the desk's stands are the shards'
+    /// after it; that the books are sound, so that there is room; and that the caps of approved restarts are kept. It
     /// does nothing.
     pub fn soundness(&self)
         ensures legal { let limits = self.now.chair.board.limits in
@@ -82,8 +82,8 @@ impl<S: Service> Control<S> {
         self.desk.soundness();
     }
 
-    /// Says, for proofs alone, that passes change nothing of that. Where they alone have added to what the chair has
-    /// seen, the desk's stands are the shards' still, and no stopped server executes a shard or is admitted to one. It
+    /// Tells proofs that passes change nothing of that. If only passes have added to the history that the chair has
+    /// seen, the desk's stands are still the shards', and no stopped server executes a shard or is admitted to one. It
     /// does nothing.
     pub fn stays_sound(&self)
         ensures stands { (history : List (Entry S.Request)) → PassesLeadTo self.now.chair history

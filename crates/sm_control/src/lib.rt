@@ -1,4 +1,4 @@
-//! The control of a running board: its chair and its desk, which one lock is to hold. Each migration call checks the
+//! The control of a running board: its chair and its desk, which must be under one lock. Each migration call checks the
 //! books, changes the board, and then the books.
 //!
 //! A shard is assigned, and migrates:

@@ -1,4 +1,4 @@
--- Whom a stand names after a change, and why a change that is let through keeps room and caps.
+-- Which servers a stand names after a change, and why a change that is let through keeps room and caps.
 use Rattle.std.proofs.Common.{ℕ, ◌≡◌, ◌<◌, ◌==◌, ◌⊎◌, Bool, true, false, cond, eqb, Option, Some, None, Result, Ok, Err}
 use Rattle.std.proofs.Common.{length, ltb, refl, ap, sym, ◌∙◌, inl, inr, subst}
 use Rattle.std.specs.Prelude.{is_some, unwrap_or, not}
@@ -33,12 +33,12 @@ names-other stand a e =
     or_right (passes (λ c. eqb c a) (owner_of stand)) (passes (λ c. eqb c a) (other_of stand))
     (ap (passes (λ c. eqb c a)) e ∙ eq-eqb a a refl)
 
--- the change newly names the server; or the stand named it, and isn't paused or is resumed
+-- the change newly names the server; or the stand named it, and either isn't paused or is resumed
 abbrev Held : Stand → Change → ℕ → Type 0
 Held stand change b = (newly_named change ≡ Some b)
     ⊎ ((names stand b ≡ true) × ((is_paused stand ≡ false) ⊎ (resumed stand change ≡ Some b)))
 
--- where the new server isn't the owner, the change is made
+-- if the new server isn't the owner, the change is made
 unless_same : (P : ℕ → Type 0) (same : Bool) (after before : Stand)
     → cond (is_some (cond same None (Some after))) None (Some (cond same SameServer WrongPhase)) ≡ None
     → AllNamed P after → AllNamed P (unwrap_or (cond same None (Some after)) before)
@@ -111,12 +111,12 @@ held (Paused o) (Reassign a) e =
 abbrev pub stand_of : BooksView → ℕ → Change → Stand
 stand_of books k change = unwrap_or (stand_after (shard_at books.shards k).stand change) (shard_at books.shards k).stand
 
--- it is the stand that the change leads to
+-- it is the stand to which the change leads
 pub stand_of-leads : (books : BooksView) (k : ℕ) (change : Change) (stand : Stand)
     → stand_after (shard_at books.shards k).stand change ≡ Some stand → stand_of books k change ≡ stand
 stand_of-leads books k change stand leads = ap (λ one. unwrap_or one (shard_at books.shards k).stand) leads
 
--- what holds of the servers that were named and of the one that is newly named holds of each
+-- a fact about the servers that were named, and about the one that is newly named, holds for each
 after_each : (P : ℕ → Type 0) (Q : ℕ → Type 0) (stand : Stand) → ((b : ℕ) → P b → Q b) → AllNamed P stand
     → AllNamed Q stand
 after_each P Q stand h all = (IfSome_then (owner_of stand) all.0 h, IfSome_then (other_of stand) all.1 h)
@@ -171,7 +171,7 @@ changes_known books k change sound through =
     ])
     (held stand change through.phase)
 
--- what the laws of room and of caps say
+-- the laws of room and of caps
 abbrev pub LeavesRoom : Type 0
 LeavesRoom = (books : BooksView) (k a : ℕ) (stand : Stand) → k < length books.shards
     → HasRoom books.servers books.groups books.shards → fit books k a ≡ Ok tt
@@ -232,7 +232,7 @@ takes_none_leaving stays books k change through =
     ])
     (held stand change through.phase)
 
--- a step of a restart that isn't refused is of a known server, and has no fault of its own
+-- if a step of a restart isn't refused, its server is known, and the step has no fault of its own
 pub restart_through : (books : BooksView) (a : ℕ) (step : Result (Unit {0}) RestartFault)
     → restart_fault books a step ≡ None → IsKnown books.servers a × (step ≡ Ok tt)
 restart_through books a step e =

@@ -1,4 +1,4 @@
--- Why the server of a change has no room, read off what the books answer.
+-- Why there is no room on the server of a change, from the answer of the books.
 use Rattle.std.proofs.Common.{◌≡◌, ℕ, Option, Some, None, Result, ap, ◌∙◌}
 use Rattle.std.specs.Option.{option_map}
 use Rattle.std.specs.Result.{result_err}

@@ -1,5 +1,4 @@
--- Books stay sound where a state is set, and where a stand is set that leaves room; and the state of a server without a
--- row.
+-- If a state is set, or a stand that leaves room, books stay sound. Also the state of a server without a row.
 use Rattle.std.proofs.Common.{◌≡◌, ◌≢◌, ℕ, ◌<◌, length, sym, ap, subst, ◌∙◌, ⊎_elim}
 use Rattle.std.proofs.lemmas.Bool.{cases_eq}
 use Rattle.std.proofs.lemmas.List.{length-set}

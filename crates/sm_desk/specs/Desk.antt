@@ -1,5 +1,5 @@
--- The desk: what the control knows when it checks a command. Rules of stands, of room and of approvals are those of the
--- crates below; here stand their order, and what a command leaves.
+-- The desk: everything that the control knows when it checks a command. The rules of stands, of room and of approvals
+-- are those of the crates below. Here are the order in which they apply, and the desk after a command.
 use Rattle.std.specs.Prelude.{ℕ, Bool, true, false, Option, Some, None, nat_lt, not, if◌then◌else◌, unwrap_or, List}
 use Rattle.std.specs.Prelude.{Result, length, map}
 use Rattle.std.specs.Option.{option_map, option_or}
@@ -32,16 +32,16 @@ pub record DeskView : Type 0 where
   pub books : BooksView
   pub caps : RestartCaps
 
--- there is a row of the server
+-- there is a row for the server
 abbrev pub is_known : List ServerRow → ℕ → Bool
 is_known servers server = nat_lt (place_of servers server) (length servers)
 
--- a server is named, and there is no row of it
+-- a server is named, and it has no row
 abbrev pub is_unknown : List ServerRow → Option ℕ → Bool
 is_unknown servers None = false
 is_unknown servers (Some server) = not (is_known servers server)
 
--- whether the command is a step of a server's restart, and no change of a shard
+-- whether the command is a step of a server's restart, not a change of a shard
 abbrev pub is_restart : Command → Bool
 is_restart (Change shard change) = false
 is_restart command = true
@@ -54,22 +54,22 @@ stands_of desk = map (λ shard. shard.stand) desk.books.shards
 abbrev pub is_reached : DeskView → ℕ → Bool
 is_reached desk server = not (is_unreached (state_of desk.books server))
 
--- why the shard has no room on the server that a change newly names
+-- why there is no room for the shard on the server that a change newly names
 abbrev pub room_fault : BooksView → ℕ → Option ℕ → Option CommandFault
 room_fault books shard None = None
 room_fault books shard (Some server) = option_map Place (result_err (fit books shard server))
 
--- the owner that is to execute again
+-- the owner that will execute again
 abbrev pub resumed : Stand → AnyChange → Option ℕ
 resumed (Paused owner) Resume = Some owner
 resumed _ _ = None
 
--- why that owner may not
+-- why that owner may not execute again
 abbrev pub resume_fault : BooksView → Option ℕ → Option CommandFault
 resume_fault books None = None
 resume_fault books (Some owner) = if is_leaving (state_of books owner) then Some (Place Leaving) else None
 
--- the first reason for which the desk refuses a change of a shard
+-- the first reason why the desk refuses a change of a shard
 abbrev pub desk_change_fault : BooksView → ℕ → AnyChange → Option CommandFault
 desk_change_fault books shard change =
     let stand = (shard_at books.shards shard).stand in
@@ -78,12 +78,12 @@ desk_change_fault books shard change =
     else option_or (option_map ChangeRefused (phase_fault stand change))
     (option_or (room_fault books shard (newly_named change)) (resume_fault books (resumed stand change)))
 
--- the fault of a step of the server's restart, where the server has a row
+-- the fault of a step of the server's restart, if the server has a row
 abbrev pub restart_fault : BooksView → ℕ → Result (Unit {0}) RestartFault → Option CommandFault
 restart_fault books server step =
     if is_known books.servers server then option_map RestartRefused (result_err step) else Some UnknownServer
 
--- the first reason for which the desk refuses a command
+-- the first reason why the desk refuses a command
 abbrev pub desk_fault : DeskView → Command → Option CommandFault
 desk_fault desk (Change shard change) = desk_change_fault desk.books shard change
 desk_fault desk (Ask server) = restart_fault desk.books server (askable desk.books server)

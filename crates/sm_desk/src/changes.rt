@@ -13,7 +13,7 @@ use sm_ranges::server_id::ServerId;
 use sm_ranges::shard_id::ShardId;
 use sm_ranges::stand::Stand;
 
-/// The stand that the change leads to, where the books allow it, or the first fault that applies.
+/// Returns the stand to which the change leads, if the books allow it, or the first fault that applies.
 pub(crate) fn check_change(
     books: &Books,
     k: ShardId,
@@ -43,7 +43,7 @@ pub(crate) fn check_change(
     }
 }
 
-/// Whether the books allow the change, or the first fault that applies.
+/// Returns whether the books allow the change, or the first fault that applies.
 pub(crate) fn allows_change(books: &Books, k: ShardId, change: &Change) -> Result<(), CommandFault>
     ensures { result_err result ≡ desk_change_fault books.now k change.now }
 {
@@ -53,7 +53,7 @@ pub(crate) fn allows_change(books: &Books, k: ShardId, change: &Change) -> Resul
     }
 }
 
-// Whether the shard has room on the server that a change newly names.
+// Returns whether there is room for the shard on the server that a change newly names.
 fn check_room(books: &Books, k: ShardId, server: Option<ServerId>) -> Result<(), CommandFault>
     requires shard { k < length books.now.shards }
     requires known { IfSome server (IsKnown books.now.servers) }
@@ -68,7 +68,7 @@ fn check_room(books: &Books, k: ShardId, server: Option<ServerId>) -> Result<(),
     }
 }
 
-// Whether the owner that is to execute again isn't leaving.
+// Returns whether the owner that will execute again isn't leaving.
 fn check_resumed(books: &Books, owner: Option<ServerId>) -> Result<(), CommandFault>
     requires { IfSome owner (IsKnown books.now.servers) }
     ensures { result_err result ≡ resume_fault books.now owner }
@@ -83,7 +83,7 @@ fn check_resumed(books: &Books, owner: Option<ServerId>) -> Result<(), CommandFa
     }
 }
 
-// The owner that the change has execute again.
+// Returns the owner that executes again because of the change.
 fn resumed(stand: &Stand, change: &Change) -> Option<ServerId>
     ensures { result ≡ resumed stand.now change.now }
 {
@@ -96,7 +96,7 @@ fn resumed(stand: &Stand, change: &Change) -> Option<ServerId>
     }
 }
 
-/// Makes a change that isn't refused, and leads to this stand.
+/// Makes a change that isn't refused. It must lead to this stand.
 pub(crate) fn commit_change(books: &mut Books, k: ShardId, change: &Change, stand: &Stand)
     requires allowed { desk_change_fault books.old k change.now ≡ None }
     requires stand { stand_after (shard_at books.old.shards k).stand change.now ≡ Some stand.now }

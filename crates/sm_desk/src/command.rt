@@ -24,9 +24,10 @@ pub enum Command {
     Fail(ServerId),
 }
 
-/// Why a command was refused. The first that applies is answered. Of a change: an unknown shard, an unknown server, the
-/// other reasons of the shard's stand, then those of the server that the change newly names, or has execute again. The
-/// desk finds these; where a board is to make the change too, `Spent` or `Busy` of the record read, and then `Raced`.
+/// Why a command was refused: the first reason that applies. For a change the order is: an unknown shard, an unknown
+/// server, the other reasons of the shard's stand, then those of the server that the change newly names or that
+/// executes again. The desk finds these. If a board makes the change too, `Spent` or `Busy` of the record read come
+/// next, and then `Raced`.
 #[derive(Clone, Copy, Debug, PartialEq, Eq, Drop, Error)]
 pub enum CommandFault {
     /// There is no such server.
@@ -41,7 +42,7 @@ pub enum CommandFault {
     /// The server's restart doesn't allow the step.
     #[error("{0}")]
     Restart(RestartFault),
-    /// The record read allows the change, but another one was found when it was to be made.
+    /// The record read allows the change, but the board found another record when it made the change.
     #[error("another thread was first")]
     Raced { read: Record, found: Record },
 }

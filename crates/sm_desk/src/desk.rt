@@ -19,8 +19,8 @@ use sm_ranges::stand::Stand;
 use sm_tasks::Tasks;
 use std::marker::Model;
 
-/// What the control checks its commands against: the books, and the steps of restarts with their caps.
-/// At all times the books have room, and the caps of approved restarts are kept.
+/// The desk checks the control's commands. It has the books, and the steps of restarts with their caps. At all times
+/// the books have room, and the caps of approved restarts are kept.
 #[derive(Drop)]
 pub struct Desk {
     books: Books,
@@ -39,7 +39,7 @@ impl Model for Desk {
 }
 
 impl Desk {
-    /// A desk over these books, which keep the caps.
+    /// Makes a desk over these books, which must keep the caps.
     pub fn new(books: Books, tasks: Tasks) -> Desk
         requires { MeetsCaps tasks books }
         ensures books { result.books ≡ books }
@@ -48,14 +48,14 @@ impl Desk {
         Desk { books, tasks }
     }
 
-    /// The books.
+    /// Returns the books.
     pub fn books(&self) -> &Books
         ensures { result.now ≡ self.now.books }
     {
         &self.books
     }
 
-    /// Says, for proofs alone, that the books are sound, and that the caps are kept. It does nothing.
+    /// Tells proofs that the books are sound and the caps are kept. It does nothing.
     pub fn soundness(&self)
         ensures books { AreSound self.now.books }
         ensures caps { MeetsCaps self.now.caps self.now.books }
@@ -63,14 +63,14 @@ impl Desk {
         self.books.soundness();
     }
 
-    /// Whether the server exists.
+    /// Returns whether the server exists.
     pub fn knows(&self, server: ServerId) -> bool
         ensures { result ≡ is_known self.now.books.servers server }
     {
         self.books.knows(server)
     }
 
-    /// Whether requests reach the server. They don't where it is Stopped or Failed.
+    /// Returns whether requests reach the server. They don't if it is Stopped or Failed.
     pub fn reaches(&self, server: ServerId) -> bool
         ensures { result ≡ is_reached self.now server }
     {
@@ -81,8 +81,8 @@ impl Desk {
         !self.books.state(server).is_unreached()
     }
 
-    /// The stand that the change leads to, where the desk allows it, or the first fault that applies. `Spent` and
-    /// `Busy` are for the ownership table to answer.
+    /// Returns the stand to which the change leads, if the desk allows it, or the first fault that applies. The desk
+    /// never answers `Spent` or `Busy`, because only the ownership table knows about them.
     pub fn check_change(&self, k: ShardId, change: &Change) -> Result<Stand, CommandFault>
         ensures fault { result_err result ≡ desk_fault self.now (ChangeOf k change.now) }
         ensures stand { IfOk result (λ stand.
@@ -91,7 +91,7 @@ impl Desk {
         check_change(&self.books, k, change)
     }
 
-    /// Makes the change, which the desk allows, and which leads to this stand.
+    /// Makes the change. The desk must allow it, and it must lead to this stand.
     pub fn commit_change(&mut self, k: ShardId, change: &Change, stand: &Stand)
         requires allowed { desk_fault self.old (ChangeOf k change.now) ≡ None }
         requires stand { stand_after (shard_at self.old.books.shards k).stand change.now ≡ Some stand.now }
@@ -102,8 +102,8 @@ impl Desk {
         commit_change(&mut self.books, k, change, stand);
     }
 
-    /// Whether books and caps allow the command, or the first fault that applies. `Spent` and `Busy` are for the
-    /// ownership table to answer.
+    /// Returns whether books and caps allow the command, or the first fault that applies. The desk never answers
+    /// `Spent` or `Busy`, because only the ownership table knows about them.
     pub fn check(&self, command: &Command) -> Result<(), CommandFault>
         ensures { result_err result ≡ desk_fault self.now command.now }
     {
@@ -117,7 +117,7 @@ impl Desk {
         }
     }
 
-    /// Makes the change or the step of a restart. The desk doesn't refuse the command.
+    /// Makes the change or the step of a restart. The desk must not refuse the command.
     pub fn commit(&mut self, command: Command)
         requires { desk_fault self.old command ≡ None }
         ensures { self.new ≡ commanded self.old command }

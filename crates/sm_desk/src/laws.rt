@@ -1,4 +1,4 @@
-//! What commands that the desk doesn't refuse keep.
+//! What stays true after a command that the desk doesn't refuse.
 
 ghost use Rattle.std.specs.Prelude.{◌≡◌, None};
 ghost use Rattle.sm_place.specs.Sound.{AreSound};
@@ -9,7 +9,7 @@ ghost use Rattle.sm_desk.specs.Desk.{DeskView, books_commanded, commanded, desk_
 use sm_place::laws::{fewer_names_leave_room, fit_leaves_room};
 use sm_tasks::laws::{stands_keep_caps, steps_keep_caps};
 
-/// A command that the desk doesn't refuse keeps the caps of approved restarts.
+/// If the desk doesn't refuse a command, the command keeps the caps of approved restarts.
 pub fn commands_keep_caps()
     ensures { (desk : DeskView) (command : Command) → AreSound desk.books → MeetsCaps desk.caps desk.books
         → desk_fault desk command ≡ None → MeetsCaps desk.caps (books_commanded desk.books command) }
@@ -19,8 +19,8 @@ pub fn commands_keep_caps()
     steps_keep_caps();
 }
 
-/// A command that the desk doesn't refuse keeps the books sound: there is room, and each server that a shard names has
-/// a row.
+/// If the desk doesn't refuse a command, the command keeps the books sound: there is room, and each server that a shard
+/// names has a row.
 pub fn commands_keep_soundness()
     ensures { (desk : DeskView) (command : Command) → AreSound desk.books → desk_fault desk command ≡ None
         → AreSound (commanded desk command).books }

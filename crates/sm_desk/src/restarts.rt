@@ -8,7 +8,7 @@ use sm_place::Books;
 use sm_ranges::server_id::ServerId;
 use sm_tasks::Tasks;
 
-/// Whether a restart of the server may be asked for, or the first fault that applies.
+/// Returns whether a restart of the server may be asked for, or the first fault that applies.
 pub(crate) fn check_ask(tasks: &Tasks, books: &Books, a: ServerId) -> Result<(), CommandFault>
     ensures { result_err result ≡ restart_fault books.now a (askable books.now a) }
 {
@@ -18,7 +18,7 @@ pub(crate) fn check_ask(tasks: &Tasks, books: &Books, a: ServerId) -> Result<(),
     Ok(tasks.check_ask(books, a)?)
 }
 
-/// Whether the restart of the server is approved, or the first fault that applies.
+/// Returns whether the restart of the server is approved, or the first fault that applies.
 pub(crate) fn check_approve(tasks: &Tasks, books: &Books, a: ServerId) -> Result<(), CommandFault>
     ensures { result_err result ≡ restart_fault books.now a (approvable tasks.now books.now a) }
 {
@@ -28,7 +28,7 @@ pub(crate) fn check_approve(tasks: &Tasks, books: &Books, a: ServerId) -> Result
     Ok(tasks.check_approve(books, a)?)
 }
 
-/// Whether the server may be stopped, or the first fault that applies.
+/// Returns whether the server may be stopped, or the first fault that applies.
 pub(crate) fn check_stopped(tasks: &Tasks, books: &Books, a: ServerId) -> Result<(), CommandFault>
     ensures { result_err result ≡ restart_fault books.now a (stoppable books.now a) }
 {
@@ -38,7 +38,7 @@ pub(crate) fn check_stopped(tasks: &Tasks, books: &Books, a: ServerId) -> Result
     Ok(tasks.check_stopped(books, a)?)
 }
 
-/// Whether the server may come back, or the first fault that applies.
+/// Returns whether the server may come back, or the first fault that applies.
 pub(crate) fn check_back(tasks: &Tasks, books: &Books, a: ServerId) -> Result<(), CommandFault>
     ensures { result_err result ≡ restart_fault books.now a (returnable books.now a) }
 {
@@ -48,7 +48,7 @@ pub(crate) fn check_back(tasks: &Tasks, books: &Books, a: ServerId) -> Result<()
     Ok(tasks.check_back(books, a)?)
 }
 
-/// Whether the server may be said to have failed, or the first fault that applies.
+/// Returns whether the server may be noted as failed, or the first fault that applies.
 pub(crate) fn check_fail(tasks: &Tasks, books: &Books, a: ServerId) -> Result<(), CommandFault>
     ensures { result_err result ≡ restart_fault books.now a (failable books.now a) }
 {

@@ -1,4 +1,4 @@
--- What a handle lends.
+-- The state that a handle lends.
 use Rattle.std.specs.Prelude.{Some}
 use Rattle.std.specs.Borrow.{Fml, Lends, MutBor}
 use Rattle.sm_handle_state.specs.declared.handle_state.HandleState.{HandleState}
@@ -6,7 +6,7 @@ use Rattle.sm_handle.specs.declared.owned.Owned.{Owned}
 use Rattle.sm_handle_state.specs.contracts.handle_state.HandleState as State
 use Rattle.sm_handle.specs.contracts.owned.Owned.{the_row}
 
--- what owns this state in place of its own
+-- the owner of this state in place of its own
 abbrev pub owning_state : Owned → HandleState → Owned
 owning_state owned state = record { ptr = owned.ptr; alloc = owned.alloc; state = Some state }
 

@@ -51,8 +51,8 @@ abbrev pub KeepsLayout : Option HandleState → List (List ℕ) → Type 0
 KeepsLayout (Some (Layout kept)) bounds = kept ≡ bounds
 KeepsLayout state bounds = ⊥
 
--- the line says settings of so many shards, and the handles keep the control of a board of the sample service, and the
--- layout, that they say
+-- the line has settings of so many shards, and the handles keep the control of a board of the sample service, and the
+-- layout, by these settings
 abbrev pub OpensService : List ℕ → Option HandleState → Option HandleState → ℕ → Type 0
 OpensService line control layout count =
     (settings : SettingsValues) × (settings_of line ≡ Ok settings) × KeepsService control settings
@@ -64,7 +64,7 @@ OpensBoard line numbers after control layout =
     (settings : SettingsValues) × (settings_of line ≡ Ok settings) × KeepsBoard control settings numbers after
     × KeepsLayout layout settings.bounds
 
--- why the line opens no board with so many bodies: its first fault, or it says another number of shards, or memory was
+-- why the line opens no board with so many bodies: its first fault, or it has another number of shards, or memory was
 -- refused
 abbrev pub OpensNoBoard : List ℕ → ℕ → SettingsOpenFault → Type 0
 OpensNoBoard line count (Settings fault) = fault ≢ NoMemory → settings_of line ≡ Err fault

@@ -15,8 +15,9 @@ use sm_ranges::shard_id::ShardId;
 use std::alloc::Global;
 
 impl Handle {
-    /// Keeps the control of a new board with a body for each number, of servers 1 to this one, at most `ops` of which
-    /// restart at once, with this fence, in place of what was kept; or says why not, and the handle is as it was.
+    /// Keeps the control of a new board with a body for each number, of so many servers from 1 on, at most `ops` of
+    /// which restart at once, with this fence, in place of the earlier state. If there is a fault, returns it, and the
+    /// handle is as it was.
     pub fn open(
         &mut self,
         alloc: Global,
@@ -42,7 +43,8 @@ impl Handle {
     }
 
     /// Admits the pass to the shard for a request that came so: the number of the shard's body, or why not.
-    // Two calls from C reach it, and a call of its own would pass what is told through memory between two atomic steps.
+    // It is inlined because two calls from C reach it, and a function call would pass the result through memory between
+    // two atomic steps.
     #[inline(always)]
     pub fn admit(&mut self, k: ShardId, mode: Mode) -> Result<u64, ActFault>
         ensures admitted { IfOk result (AdmitsHandle self.old.owned.state self.new.owned.state k mode) }
@@ -66,7 +68,7 @@ impl Handle {
         acts::finish(self.owned.state_mut())
     }
 
-    /// The fencing token of the admission of the pass; or why there is none. The handle is as it was.
+    /// Returns the fencing token of the admission of the pass, or why there is none. The handle is as it was.
     pub fn token(&mut self) -> Result<u64, ActFault>
         ensures told { IfOk result (TellsToken self.old.owned.state) }
         ensures refused { IfErr result (λ fault. (fault ≡ ActFault.WrongHandle) × HoldsNothing self.old.owned.state) }
@@ -78,7 +80,8 @@ impl Handle {
         acts::token(self.owned.state_mut())
     }
 
-    /// The word of the shard's record after all that the pass then has seen; or why not, and the handle is as it was.
+    /// Returns the word of the shard's record after all that the pass then has seen; or why not, and the handle is as
+    /// it was.
     pub fn look(&mut self, k: ShardId) -> Result<u64, ActFault>
         ensures seen { IfOk result (TellsWord self.old.owned.state self.new.owned.state k) }
         ensures refused { IfErr result (LooksNowhere self.old.owned.state k) }
@@ -100,8 +103,8 @@ impl Handle {
         acts::command(self.owned.state_mut(), command)
     }
 
-    /// Keeps a new pass on the board whose control the other handle keeps, with this server or none, in place of what
-    /// was kept; or says why not, and this handle is as it was. The other one is as it was.
+    /// Keeps a new pass on the board whose control the other handle keeps, with this server or none, in place of the
+    /// earlier state. If there is a fault, returns it, and this handle is as it was. The other one is as it was.
     pub fn pass(
         &mut self,
         alloc: Global,

@@ -11,8 +11,8 @@ use sm_ranges::shard_id::ShardId;
 use std::alloc::Global;
 
 impl Handle {
-    /// Keeps the layout whose bounds are these parts of the text, in place of what was kept; or says why not, and the
-    /// handle is as it was.
+    /// Keeps the layout whose bounds are these parts of the text, in place of the earlier state. If there is a fault,
+    /// returns it, and the handle is as it was.
     pub fn cut(&mut self, alloc: Global, text: &[u8], parts: &[TextPart]) -> Result<(), CutFault>
         ensures made { OnOk result (IsLayoutOf self.new.owned.state text.now parts.now) }
         ensures refused { IfErr result (CutsNothing text.now parts.now) }
@@ -25,7 +25,7 @@ impl Handle {
         }
     }
 
-    /// The shard of the key, which may be any bytes, in the layout that the handle keeps.
+    /// Returns the shard of the key, which may be any bytes, in the layout that the handle keeps.
     pub fn shard_of(&mut self, key: &[u8]) -> Result<ShardId, ActFault>
         ensures shard { IfOk result (IsShardOf self.old.owned.state key.now) }
         ensures refused { IfErr result (λ fault. (fault ≡ ActFault.WrongHandle) × KeepsNoLayout self.old.owned.state) }

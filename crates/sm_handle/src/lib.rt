@@ -1,4 +1,4 @@
-//! What a caller in C keeps between calls: a handle of a board's control, of a pass, or of an admission.
+//! The state that a caller in C keeps between calls: a handle of a board's control, of a pass, or of an admission.
 //!
 //! ```rust
 //! let fence = Fence::first();

@@ -12,8 +12,8 @@ use sm_service::{KeyMachine, LentRequest, Reply};
 use std::alloc::{AllocError, Global};
 
 impl Handle {
-    /// Keeps an empty map, in place of what was kept. It is refused for want of memory alone, and the handle is as it
-    /// was.
+    /// Keeps an empty map, in place of the earlier state. It fails only if memory is refused, and then the handle is as
+    /// it was.
     pub fn map(&mut self, alloc: Global) -> Result<(), AllocError>
         ensures made { OnOk result (IsEmptyMap self.new.owned.state) }
         ensures refused { IfErr result (λ fault. self.new.owned.state ≡ self.old.owned.state) }
@@ -22,7 +22,7 @@ impl Handle {
         self.keep(alloc, HandleState::Map(map))
     }
 
-    /// How many keys of the map that the handle keeps hold something.
+    /// Returns how many keys of the map that the handle keeps hold something.
     pub fn map_len(&mut self) -> Result<u128, ActFault>
         ensures count { IfOk result (HoldsKeys self.old.owned.state) }
         ensures refused { IfErr result (λ fault. (fault ≡ ActFault.WrongHandle) × KeepsNoMap self.old.owned.state) }
@@ -34,8 +34,8 @@ impl Handle {
         len_of(self.owned.state_mut())
     }
 
-    /// What the key of the map that the handle keeps holds, by its parts; and a text's bytes in front of the caller's
-    /// room, where it has room for all of them.
+    /// Returns the parts of the value at the key of the handle's map. Writes a text's bytes to the front of the
+    /// caller's room, if there is room for all of them.
     pub fn get(&mut self, key: &[u8], into: &mut [u8]) -> Result<ReplyParts, ActFault>
         ensures held { IfOk result (WritesHeld self.old.owned.state key.now into.new) }
         ensures refused { IfErr result (λ fault. (fault ≡ ActFault.WrongHandle) × KeepsNoMap self.old.owned.state) }
@@ -48,8 +48,8 @@ impl Handle {
         value_in(self.owned.state_mut(), key, into)
     }
 
-    /// Makes the request of the map that the handle keeps: the parts of the reply, which the other handle keeps, in
-    /// place of what it kept; or why not, and both are as they were.
+    /// Makes the request on the map that the handle keeps. Returns the parts of the reply, which the other handle
+    /// keeps, in place of its earlier state; or why it isn't made, and then both are as they were.
     pub fn ask(
         &mut self,
         alloc: Global,

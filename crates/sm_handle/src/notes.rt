@@ -1,4 +1,4 @@
-//! What passes in handles tell each other.
+//! How passes in handles tell each other how much they have seen.
 ghost use Rattle.std.specs.Prelude.{◌≡◌, IfErr, None, OnOk, Some};
 ghost use Rattle.sm_handle_state.specs.Notes.{AreOfOneBoard, IsSplitFrom, MeetsHandle, SplitsNothing, TellsNothing};
 
@@ -8,8 +8,9 @@ use sm_handle_state::{ActFault, HandleState};
 use std::alloc::Global;
 
 impl Handle {
-    /// Keeps a new pass with the server of the other handle's pass, which has seen all that that has, in place of what
-    /// was kept; or says why not, and this handle is as it was. The other one is as it was.
+    /// Keeps a new pass with the server of the other handle's pass, which has seen everything that that pass has seen,
+    /// in place of the earlier state. If there is a fault, returns it, and this handle is as it was. The other one is
+    /// as it was.
     pub fn split(&mut self, alloc: Global, from: &mut Handle) -> Result<(), ActFault>
         ensures from { from.new.owned.state ≡ from.old.owned.state }
         ensures made { OnOk result (IsSplitFrom from.old.owned.state self.new.owned.state) }
@@ -26,9 +27,9 @@ impl Handle {
         }
     }
 
-    /// Tells the pass that the handle keeps all that the other handle's pass of its board had seen, or what its
-    /// answer tells, and the other handle keeps nothing; or says why not, and both are as they were. A pass that holds
-    /// a permit neither tells nor is told.
+    /// Tells the pass that the handle keeps everything that the other handle's pass of its board had seen, or the
+    /// history of its answer. The other handle then keeps nothing. If there is a fault, returns it, and both are as
+    /// they were. A pass that holds a permit neither tells nor is told.
     pub fn meet(&mut self, alloc: Global, other: &mut Handle) -> Result<(), ActFault>
         requires { AreOfOneBoard self.old.owned.state other.old.owned.state }
         ensures met { OnOk result (MeetsHandle self.old.owned.state other.old.owned.state self.new.owned.state) }

@@ -18,8 +18,9 @@ use sm_settings::Settings;
 use std::alloc::Global;
 
 impl Handle {
-    /// Keeps the control of a new board of the sample service, as the line of settings says, in place of what was kept,
-    /// and the other handle keeps the layout: the number of its shards; or says why not, and both are as they were.
+    /// Keeps the control of a new board of the sample service, by the line of settings, in place of the earlier state;
+    /// the other handle keeps the layout. Returns the number of its shards; or the fault, and then both are as they
+    /// were.
     pub fn open_by(
         &mut self,
         alloc: Global,
@@ -46,8 +47,9 @@ impl Handle {
         Ok(count)
     }
 
-    /// Keeps the control of a new board with a body for each number, as the line of settings says and with this fence,
-    /// in place of what was kept, and the other handle keeps the layout; or says why not, and both are as they were.
+    /// Keeps the control of a new board with a body for each number, by the line of settings and with this fence, in
+    /// place of the earlier state; the other handle keeps the layout. If there is a fault, returns it, and both are as
+    /// they were.
     pub fn open_bodies_by(
         &mut self,
         alloc: Global,
@@ -71,8 +73,8 @@ impl Handle {
         self.keep_both(alloc, HandleState::Chief(chief), layout, settings.layout)
     }
 
-    // Keeps the state, and the other handle the layout, in place of what they kept; or says that memory was refused,
-    // and both are as they were.
+    // Keeps the state, and in the other handle the layout, in place of their earlier states. Fails if memory is
+    // refused, and then both are as they were.
     fn keep_both(
         &mut self,
         alloc: Global,

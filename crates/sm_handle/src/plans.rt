@@ -11,8 +11,9 @@ use sm_ranges::shard_id::ShardId;
 use std::alloc::Global;
 
 impl Handle {
-    /// Keeps where the other handle's control would have shards go, in place of what was kept: those of the server,
-    /// or without one the vacant ones; or says why not, and this handle is as it was. The other one is as it was.
+    /// Keeps the plan of the other handle's control, in place of the earlier state: for the shards of the server, or,
+    /// without a server, for the vacant ones. If there is a fault, returns it, and this handle is as it was. The other
+    /// one is as it was.
     pub fn plan(
         &mut self,
         alloc: Global,
@@ -34,7 +35,7 @@ impl Handle {
         }
     }
 
-    /// The move at this place of the plan that the handle keeps.
+    /// Returns the move at this place of the plan that the handle keeps.
     pub fn planned(&mut self, at: usize) -> Result<Move, ActFault>
         ensures found { IfOk result (IsMove self.old.owned.state at) }
         ensures refused { IfErr result (HasNoMove self.old.owned.state at) }
@@ -46,7 +47,7 @@ impl Handle {
         move_in(self.owned.state_mut(), at)
     }
 
-    /// The shard at this place of those that the plan that the handle keeps has no room for.
+    /// Returns the shard at this place of those that the plan that the handle keeps has no room for.
     pub fn left(&mut self, at: usize) -> Result<ShardId, ActFault>
         ensures found { IfOk result (IsLeftOut self.old.owned.state at) }
         ensures refused { IfErr result (HasNotLeft self.old.owned.state at) }

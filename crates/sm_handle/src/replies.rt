@@ -8,7 +8,7 @@ use sm_handle_state::replies::{held_in, held_text_in, key_in, parts_in, text_in}
 use sm_handle_state::{ActFault, ReplyParts};
 
 impl Handle {
-    /// The parts of the reply that the handle keeps.
+    /// Returns the parts of the reply that the handle keeps.
     pub fn reply(&mut self) -> Result<ReplyParts, ActFault>
         ensures parts { IfOk result (Replied self.old.owned.state) }
         ensures refused { IfErr result
@@ -34,7 +34,7 @@ impl Handle {
         text_in(self.owned.state_mut(), into)
     }
 
-    /// The parts of what the key held that the pair at this place of the reply has.
+    /// Returns the parts of the value in the pair at this place of the reply.
     pub fn pair(&mut self, at: usize) -> Result<ReplyParts, ActFault>
         ensures parts { IfOk result (PairHeld self.old.owned.state at) }
         ensures refused { IfErr result (HasNoPair (reply_kept self.old.owned.state) at) }
@@ -60,8 +60,8 @@ impl Handle {
         key_in(self.owned.state_mut(), at, into)
     }
 
-    /// Writes the text that the key of the pair at this place of the reply held: its length; or says why not, and
-    /// nothing is written.
+    /// Writes the text in the pair at this place of the reply, and returns its length; or returns why it can't, and
+    /// then nothing is written.
     pub fn pair_text(&mut self, at: usize, into: &mut [u8]) -> Result<usize, ActFault>
         ensures written { IfOk result (WritesHeldText self.old.owned.state at into.new) }
         ensures refused { IfErr result (HasNoTextAt self.old.owned.state at into.old) }

@@ -13,8 +13,8 @@ use sm_ranges::shard_id::ShardId;
 use std::alloc::{AllocError, Global};
 
 impl Handle {
-    /// Keeps a new publisher of routes for so many shards, of which none has a route, in place of what was kept. It is
-    /// refused for want of memory alone, and the handle is as it was.
+    /// Keeps a new publisher of routes for so many shards, none of which has a route, in place of the earlier state. It
+    /// fails only if memory is refused, and then the handle is as it was.
     pub fn publisher(&mut self, alloc: Global, count: usize) -> Result<(), AllocError>
         requires { 0 < count }
         ensures made { OnOk result (IsNewPublisher self.new.owned.state count) }
@@ -24,8 +24,8 @@ impl Handle {
         self.keep(alloc, HandleState::Publisher(publisher))
     }
 
-    /// Keeps a router of the other handle's publisher, which has seen all that was published, in place of what was
-    /// kept; or says why not, and this handle is as it was. The other one is as it was.
+    /// Keeps a router of the other handle's publisher, which has seen everything that was published, in place of the
+    /// earlier state. If there is a fault, returns it, and this handle is as it was. The other one is as it was.
     pub fn router(&mut self, alloc: Global, publisher: &mut Handle) -> Result<(), ActFault>
         ensures publisher { publisher.new.owned.state ≡ publisher.old.owned.state }
         ensures made { OnOk result (IsRouterOf publisher.old.owned.state self.new.owned.state) }
@@ -55,8 +55,8 @@ impl Handle {
         publish_in(self.owned.state_mut(), route)
     }
 
-    /// The shard's route that was published last of those that the router has then seen, if any; or says why not, and
-    /// the handle is as it was.
+    /// Returns the shard's route that was published last of those that the router has then seen, if any; or says why
+    /// not, and the handle is as it was.
     #[inline(always)]
     pub fn route(&mut self, shard: ShardId) -> Result<Option<Route>, ActFault>
         ensures read { IfOk result (ReadsHandleRoute self.old.owned.state self.new.owned.state shard) }

@@ -16,8 +16,8 @@ use std::alloc::{AllocError, Global};
 
 impl Handle {
     /// Keeps the control of a new board of the sample service with so many shards, each of which keeps at most so many
-    /// requests, of servers 1 to this one, at most `ops` of which restart at once, in place of what was kept; or says
-    /// why not, and the handle is as it was.
+    /// requests, of so many servers from 1 on, at most `ops` of which restart at once, in place of the earlier state.
+    /// If there is a fault, returns it, and the handle is as it was.
     pub fn open_service(
         &mut self,
         alloc: Global,
@@ -41,8 +41,9 @@ impl Handle {
         }
     }
 
-    /// Keeps an envelope that came so and carries the request, with a note of all that the other handle's pass has
-    /// seen, in place of what was kept; or says why not, and this handle is as it was. The other one is as it was.
+    /// Keeps an envelope that came in this mode and carries the request, with a note of everything that the other
+    /// handle's pass has seen, in place of the earlier state. If there is a fault, returns it, and this handle is as it
+    /// was. The other one is as it was.
     pub fn envelope(
         &mut self,
         alloc: Global,
@@ -65,9 +66,9 @@ impl Handle {
         }
     }
 
-    /// Has the server of the pass that the handle keeps serve the other handle's envelope, by the layout that the third
-    /// one keeps: what became of the envelope, whose handle keeps the answer, or the envelope that goes on or comes
-    /// back; or why nothing was done, and each handle is as it was.
+    /// Makes the server of the handle's pass serve the other handle's envelope, by the layout that the third one keeps.
+    /// Returns the outcome: the envelope's handle then keeps the answer, or the envelope that goes on or comes back. Or
+    /// returns why nothing was done, and each handle is as it was.
     pub fn serve(
         &mut self,
         layout: &mut Handle,
@@ -92,7 +93,7 @@ impl Handle {
         served
     }
 
-    /// The envelope that the handle keeps, but for its request and its note.
+    /// Returns the envelope that the handle keeps, but for its request and its note.
     pub fn sent(&mut self) -> Result<SentAs, ActFault>
         ensures sent { IfOk result (IsSentAs self.old.owned.state) }
         ensures refused { IfErr result
@@ -105,7 +106,7 @@ impl Handle {
         sent_in(self.owned.state_mut())
     }
 
-    /// The answer that the handle keeps, but for its reply.
+    /// Returns the answer that the handle keeps, but for its reply.
     pub fn answer(&mut self) -> Result<AnswerParts, ActFault>
         ensures parts { IfOk result (TellsAnswer self.old.owned.state) }
         ensures refused { IfErr result (λ fault. (fault ≡ ActFault.WrongHandle) × KeepsNoAnswer self.old.owned.state) }

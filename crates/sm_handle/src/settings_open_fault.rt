@@ -8,7 +8,7 @@ pub enum SettingsOpenFault {
     /// The line breaks a rule of settings, or memory was refused.
     #[error("the settings are refused: {0}")]
     Settings(SettingsFault),
-    /// There is no board of what the line says; so of refused memory.
+    /// There is no board with these settings, or memory was refused.
     #[error(transparent)]
     Open(OpenFault),
 }

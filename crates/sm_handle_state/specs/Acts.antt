@@ -1,4 +1,4 @@
--- What calls do to the state of a handle.
+-- The effects of calls on the state of a handle.
 use Rattle.std.specs.Prelude.{ℕ, ◌≡◌, ◌≤◌, ◌<◌, ◌+◌, ◌⊎◌, ⊤, true}
 use Rattle.std.specs.Prelude.{Option, Some, None, is_some, Result, Ok, Err}
 use Rattle.sm_ownership.specs.declared.mode.Mode.{Mode}
@@ -11,7 +11,7 @@ use Rattle.sm_desk.specs.declared.command.Command.{Command}
 use Rattle.sm_desk.specs.Desk.{desk_fault}
 use Rattle.sm_foreign.specs.Chiefs.{HasNoServer, HasServer}
 use Rattle.sm_foreign.specs.Controls.{Commanded}
-use Rattle.sm_foreign.specs.Holding.{AdmitsPass, EndsPermit, token_of}
+use Rattle.sm_foreign.specs.Holding.{AdmitsPass, EndsPermit, HasNotActed, token_of}
 use Rattle.sm_handle_state.specs.declared.act_fault.ActFault.{ActFault}
 use Rattle.sm_handle_state.specs.declared.act_fault.ActFault.TheVariants.{WrongHandle, UnknownShard, NoMemory, Admit}
 use Rattle.sm_handle_state.specs.declared.act_fault.ActFault.TheVariants.{Command as CommandRefused, UnknownServer}
@@ -25,8 +25,8 @@ AdmitsState (Pass before) (Pass after) shard mode number =
     × (after.fence.after ≡ before.fence.after)
 AdmitsState before after shard mode number = ⊥
 
--- this is why no pass is admitted: the handle keeps none to foreign bodies that holds no permit, or its board hasn't
--- this shard
+-- this is why no pass is admitted: the handle keeps no pass to foreign bodies without a permit, or its board doesn't
+-- have this shard
 abbrev pub AdmitsNowhere : Option HandleState → ℕ → ActFault → Type 0
 AdmitsNowhere (Some (Pass pass)) shard WrongHandle = is_some pass.held.1 ≡ true
 AdmitsNowhere (Some (Pass pass)) shard UnknownShard = pass.held.0.board.limits.count ≤ shard
@@ -52,15 +52,15 @@ abbrev pub HoldsNothing : Option HandleState → Type 0
 HoldsNothing (Some (Pass pass)) = pass.held.1 ≡ None
 HoldsNothing state = ⊤
 
--- this is the fencing token of the admission that the pass holds. It is above the fence of the board, and at most as
--- far as the generations of a board reach
+-- this is the fencing token of the admission that the pass holds; it is above the fence of the board, by at most the
+-- generations of a board
 abbrev pub TellsToken : Option HandleState → ℕ → Type 0
 TellsToken (Some (Pass pass)) token =
     (token_of pass.fence.after pass.held.0 ≡ Some token) × (pass.fence.after < token)
     × (token ≤ pass.fence.after + MAX_GENERATION)
 TellsToken state token = ⊥
 
--- the pass has seen more, in which this is the shard's record, and what it holds is as it was
+-- the pass has seen more, in which this is the shard's record, and its hold is as it was
 abbrev pub LooksState : HandleState → HandleState → ℕ → Record → Type 0
 LooksState (Pass before) (Pass after) shard state =
     PassLooks before.held.0 after.held.0 × (after.held.1 ≡ before.held.1) × (state ≡ record_of after.held.0 shard)
@@ -68,7 +68,7 @@ LooksState (Pass before) (Pass after) shard state =
 LooksState (TextPass before) (TextPass after) shard state = PassLooks before after × (state ≡ record_of after shard)
 LooksState before after shard state = ⊥
 
--- why no pass looks: the handle keeps none, or its board hasn't this shard
+-- why no pass looks: the handle keeps none, or its board doesn't have this shard
 abbrev pub LooksNowhere : Option HandleState → ℕ → ActFault → Type 0
 LooksNowhere (Some (Pass pass)) shard fault = (fault ≡ UnknownShard) × (pass.held.0.board.limits.count ≤ shard)
 LooksNowhere (Some (TextPass pass)) shard fault = (fault ≡ UnknownShard) × (pass.board.limits.count ≤ shard)
@@ -93,7 +93,7 @@ GivesNoPass state server fault =
     ((fault ≡ WrongHandle) × KeepsNoControl state) ⊎ ((fault ≡ UnknownServer) × KnowsNoServer state server)
     ⊎ (fault ≡ NoMemory)
 
--- the control answers the command and is then what it leaves; or there is none, and the state is as it was
+-- the control answers the command and has the state after it; or there is none, and the state is as it was
 abbrev pub CommandsState : HandleState → HandleState → Command → Result (Unit {0}) ActFault → Type 0
 CommandsState (Chief before) (Chief after) command (Ok made) =
     Commanded (desk_fault before.held.value.desk command) before.held.value after.held.value command (Ok tt)
@@ -109,13 +109,15 @@ CommandsState before after command (Ok made) = ⊥
 CommandsState before after command (Err fault) =
     (fault ≡ WrongHandle) × (after ≡ before) × KeepsNoControl (Some before)
 
--- a new pass on the board of the control and with its fence, with this server, which the board has, or none
+-- a new pass on the board of the control and with its fence, which holds nothing, with this server, which the board
+-- has, or none
 abbrev pub IsPassOfState : HandleState → Option ℕ → HandleState → Type 0
 IsPassOfState (Chief chief) server (Pass pass) =
     (pass.held.0.board ≡ chief.held.value.chair.board) × (pass.held.0.server ≡ server) × (pass.held.1 ≡ None)
-    × HasServer chief.held.value.desk.books server × (pass.fence.after ≡ chief.fence.after)
+    × HasServer chief.held.value.desk.books server × (pass.fence.after ≡ chief.fence.after) × HasNotActed pass.held.0
 IsPassOfState (TextChief chief) server (TextPass pass) =
     (pass.board ≡ chief.value.chair.board) × (pass.server ≡ server) × HasServer chief.value.desk.books server
+    × HasNotActed pass
 IsPassOfState chief server pass = ⊥
 
 -- the same of handles, which keep a state or none

@@ -12,24 +12,24 @@ use Rattle.sm_handle_state.specs.declared.handle_state.HandleState.{HandleState}
 use Rattle.sm_handle_state.specs.declared.handle_state.HandleState.TheVariants.{Answer, Map, Reply}
 use Rattle.sm_handle_state.specs.declared.reply_parts.ReplyParts.{ReplyParts}
 
--- the handle keeps a map in which no key holds anything
+-- the handle keeps an empty map
 abbrev pub IsEmptyMap : Option HandleState → Type 0
 IsEmptyMap (Some (Map map)) = map.value ≡ []
 IsEmptyMap state = ⊥
 
--- the map made this reply to the request, and is what the request leaves
+-- the map made this reply to the request, and has the state after the request
 abbrev pub MakesReply : Option HandleState → Option HandleState → Request → Option HandleState → Type 0
 MakesReply (Some (Map before)) (Some (Map after)) request (Some (Reply made)) =
     (made ≡ reply_of before.value request) × (after.value ≡ map_after before.value request)
 MakesReply before after request made = ⊥
 
--- the parts are those of what a key held
+-- the parts are those of a key's value
 abbrev pub AreValueParts : ReplyParts → KeyValue → Type 0
 AreValueParts parts (HeldText text) = (parts.kind ≡ 2) × (parts.length ≡ length text)
 AreValueParts parts (HeldCount count) = (parts.kind ≡ 3) × (parts.count ≡ count)
 
--- the parts are those of what a key holds, or that it holds nothing; a text stands in front of these bytes, where they
--- are as many
+-- the parts are those of a key's value, or say that it has none; a text is in front of these bytes, if there are as
+-- many
 abbrev pub IsHeldIn : Option KeyValue → List ℕ → ReplyParts → Type 0
 IsHeldIn None written parts = parts.kind ≡ 0
 IsHeldIn (Some (HeldCount count)) written parts = AreValueParts parts (HeldCount count)
@@ -50,7 +50,7 @@ KeepsNoMap state = ⊤
 abbrev pub MakesNoReply : Option HandleState → ActFault → Type 0
 MakesNoReply before fault = ((fault ≡ WrongHandle) × KeepsNoMap before) ⊎ (fault ≡ NoMemory)
 
--- the handle keeps a map in which so many keys hold something
+-- the handle keeps a map with so many keys
 abbrev pub HoldsKeys : Option HandleState → ℕ → Type 0
 HoldsKeys (Some (Map map)) count = count ≡ length map.value
 HoldsKeys state count = ⊥
@@ -90,12 +90,12 @@ abbrev pub IsPairAt : Option HandleState → ℕ → KeyPair → Type 0
 IsPairAt state at pair =
     (pairs : List KeyPair) × (reply_kept state ≡ Some (Pairs pairs)) × (slice_get pairs at ≡ Some pair)
 
--- why there is no pair: the reply is no pairs, or has none at this place
+-- why there is no pair: the reply isn't pairs, or has none at this place
 abbrev pub HasNoPair : Option ReplyValue → ℕ → ActFault → Type 0
 HasNoPair (Some (Pairs pairs)) at fault = (fault ≡ NoMore) × (slice_get pairs at ≡ None)
 HasNoPair reply at fault = fault ≡ WrongHandle
 
--- a pair is there, and these are the parts of what its key held
+-- a pair is there, and these are the parts of its value
 abbrev pub PairHeld : Option HandleState → ℕ → ReplyParts → Type 0
 PairHeld state at parts = (pair : KeyPair) × IsPairAt state at pair × AreValueParts parts pair.value
 
@@ -103,7 +103,7 @@ PairHeld state at parts = (pair : KeyPair) × IsPairAt state at pair × AreValue
 abbrev pub WritesKey : Option HandleState → ℕ → List ℕ → ℕ → Type 0
 WritesKey state at written count = (pair : KeyPair) × IsPairAt state at pair × (take count written ≡ pair.key)
 
--- the same, and they are the text that its key held
+-- the same, and they are the text in its value
 abbrev pub WritesHeldText : Option HandleState → ℕ → List ℕ → ℕ → Type 0
 WritesHeldText state at written count =
     (pair : KeyPair) × IsPairAt state at pair × (pair.value ≡ HeldText (take count written))
@@ -114,7 +114,7 @@ HasNoKeyAt state at room fault =
     HasNoPair (reply_kept state) at fault
     ⊎ ((pair : KeyPair) × IsPairAt state at pair × (length room < length pair.key) × (fault ≡ TooShort))
 
--- why no text is written: a key held none, or one with more bytes than this room
+-- why no text is written: the value is none, or has more bytes than this room
 abbrev pub HasNoTextIn : KeyValue → List ℕ → ActFault → Type 0
 HasNoTextIn (HeldText text) room fault = (fault ≡ TooShort) × (length room < length text)
 HasNoTextIn held room fault = fault ≡ WrongHandle

@@ -1,4 +1,4 @@
--- What passes in handles tell each other.
+-- How passes in handles tell each other how much they have seen.
 use Rattle.std.specs.Prelude.{◌≡◌, ◌⊎◌, ⊤, Option, Some, None, is_some, true}
 use Rattle.sm_rule.specs.Passes.{PassLooks}
 use Rattle.sm_rule.specs.Views.{Begins, IsMet}
@@ -24,14 +24,14 @@ SplitsNothing from WrongHandle = ⊤
 SplitsNothing from NoMemory = ⊤
 SplitsNothing from fault = ⊥
 
--- where both are passes, or one is and the other an answer, they are of one board
+-- if both are passes, or one is and the other an answer, they are of one board
 abbrev pub AreOfOneBoard : Option HandleState → Option HandleState → Type 0
 AreOfOneBoard (Some (Pass pass)) (Some (Pass other)) = other.held.0.board ≡ pass.held.0.board
 AreOfOneBoard (Some (TextPass pass)) (Some (TextPass other)) = other.board ≡ pass.board
 AreOfOneBoard (Some (TextPass pass)) (Some (Answer answer)) = answer.note.board ≡ pass.board
 AreOfOneBoard pass other = ⊤
 
--- the pass has looked, and has seen all that the other one had
+-- the pass has looked, and has seen everything that the other one had seen
 abbrev pub MeetsHandle : Option HandleState → Option HandleState → Option HandleState → Type 0
 MeetsHandle (Some (Pass before)) (Some (Pass other)) (Some (Pass after)) =
     PassLooks before.held.0 after.held.0 × (after.held.1 ≡ before.held.1)

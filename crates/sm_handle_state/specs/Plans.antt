@@ -14,7 +14,7 @@ IsPlanOf (Some (Chief chief)) (Some (Plan plan)) from = plan ≡ planned_for chi
 IsPlanOf (Some (TextChief chief)) (Some (Plan plan)) from = plan ≡ planned_for chief.value.desk.books from
 IsPlanOf chief plan from = ⊥
 
--- why there is no plan: the handle keeps no control, or its books have none to plan for, or memory was refused
+-- why there is no plan: the handle keeps no control, or its books have nothing to plan, or memory was refused
 abbrev pub HasNoPlan : Option HandleState → Option ℕ → ActFault → Type 0
 HasNoPlan (Some (Chief chief)) from UnknownServer = HasNoServer chief.held.value.desk.books from
 HasNoPlan (Some (TextChief chief)) from UnknownServer = HasNoServer chief.value.desk.books from

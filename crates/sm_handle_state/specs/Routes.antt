@@ -1,4 +1,4 @@
--- What calls on the handles of publishers and routers do.
+-- The effects of calls on the handles of publishers and routers.
 use Rattle.std.specs.Prelude.{ℕ, ◌≡◌, ◌⊎◌, ⊤, [], Option, Some, None}
 use Rattle.sm_ownership.specs.declared.route.Route.{Route}
 use Rattle.sm_ownership.specs.Routes.{routes_of}
@@ -43,7 +43,8 @@ RefusesRoute (Some (Publisher publisher)) route (Refused fault) = publish_fault 
 RefusesRoute (Some (Publisher publisher)) route NotPublisher = ⊥
 RefusesRoute state route fault = fault ≡ NotPublisher
 
--- the router of the same map has seen what it had seen, and maybe more, in which this is the shard's last route
+-- the router of the same map has seen everything that it had seen, and maybe more, in which this is the shard's last
+-- route
 abbrev pub ReadsHandleRoute : Option HandleState → Option HandleState → ℕ → Option Route → Type 0
 ReadsHandleRoute (Some (Router before)) (Some (Router after)) shard route =
     (after.table ≡ before.table) × Extends after.seen before.seen × (route ≡ routes_of after.seen shard)

@@ -55,14 +55,15 @@ abbrev pub ComesNoWay : Mode → ℕ → Type 0
 ComesNoWay Direct hops = 0 < hops
 ComesNoWay (Forwarded from) hops = (hops ≡ 0) ⊎ (MOST_HOPS < hops)
 
--- why there is no such envelope: none comes so, the handle keeps no pass of the sample service, or memory was refused
+-- why there is no such envelope: none comes in this mode, the handle keeps no pass of the sample service, or memory was
+-- refused
 abbrev pub CarriesNothing : Option HandleState → SentAs → ActFault → Type 0
 CarriesNothing pass sent NotSent = ComesNoWay sent.mode sent.hops
 CarriesNothing pass sent WrongHandle = KeepsNoTextPass pass
 CarriesNothing pass sent NoMemory = ⊤
 CarriesNothing pass sent fault = ⊥
 
--- the handle keeps what became of an envelope: the answer in its place, or the envelope that goes on or comes back
+-- the handle keeps the outcome of an envelope: the answer in its place, or the envelope that goes on or comes back
 abbrev pub KeepsOutcome :
     Option HandleState → Outcome (AnswerValue Request ReplyValue) (Sent Request) → ServedAs → Type 0
 KeepsOutcome (Some (Answer kept)) (AnswersIt answer) Answered = kept ≡ answer
@@ -70,8 +71,8 @@ KeepsOutcome (Some (Envelope kept)) (ForwardsIt to back) (Forward server) = (kep
 KeepsOutcome (Some (Envelope kept)) (RefusesIt fault back) (Refused refusal) = (kept ≡ back) × (refusal ≡ fault)
 KeepsOutcome state outcome served = ⊥
 
--- the pass's server made this of the envelope, by the sample service's meaning and the layout, and the envelope's
--- handle keeps what became of it
+-- the pass's server had this result for the envelope, by the sample service's meaning and the layout, and the
+-- envelope's handle keeps its outcome
 abbrev pub Serves :
     Option HandleState → Option HandleState → Option HandleState → Option HandleState → Option HandleState → ServedAs
     → Type 0
@@ -86,7 +87,7 @@ abbrev pub ServesNowhere : Option HandleState → Option HandleState → Option 
 ServesNowhere (Some (TextPass pass)) (Some (Layout bounds)) (Some (Envelope envelope)) = pass.server ≡ None
 ServesNowhere pass layout envelope = ⊤
 
--- where the handles keep a pass and an envelope, these are of one board
+-- if the handles keep a pass and an envelope, these are of one board
 abbrev pub IsOfBoard : Option HandleState → Option HandleState → Type 0
 IsOfBoard (Some (TextPass pass)) (Some (Envelope envelope)) = envelope.note.board ≡ pass.board
 IsOfBoard pass envelope = Unit {0}
@@ -113,7 +114,7 @@ abbrev pub BasesNowhere : Option HandleState → ℕ → ActFault → Type 0
 BasesNowhere (Some (TextPass pass)) shard fault = (fault ≡ UnknownShard) × (pass.board.limits.count ≤ shard)
 BasesNowhere state shard fault = fault ≡ WrongHandle
 
--- the pass made no checkpoint of the shard, by this fault; or nothing was done, since there is none to make
+-- the pass made no checkpoint of the shard, by this fault; or nothing was done, because there is no pass to make it
 abbrev pub RefusesCheckpoint : Option HandleState → Option HandleState → ℕ → ActFault → Type 0
 RefusesCheckpoint (Some (TextPass before)) (Some (TextPass after)) shard (Checkpoint fault) =
     CheckpointRefused before shard after fault

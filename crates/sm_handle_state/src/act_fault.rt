@@ -18,7 +18,7 @@ pub enum ActFault {
     /// Memory was refused.
     #[error("out of memory")]
     NoMemory,
-    /// The caller has less room than what would be written.
+    /// The caller's room is shorter than the result.
     #[error("what would be written is longer than the room for it")]
     TooShort,
     /// No envelope comes so.

@@ -1,4 +1,4 @@
-//! What a call does to the state of a handle.
+//! The effects of calls on the state of a handle.
 ghost use Rattle.std.specs.Prelude.{◌≡◌, IfErr, IfOk, Some};
 ghost use Rattle.sm_handle_state.specs.Acts.{AdmitsState, CommandsState, EndsState, GivesNoPass, HoldsNothing};
 ghost use Rattle.sm_handle_state.specs.Acts.{IsPassOfState, LooksNowhere, RefusesState, TellsToken, TellsWord};
@@ -47,7 +47,7 @@ pub fn finish(state: &mut HandleState) -> Result<u64, ActFault>
     }
 }
 
-/// The fencing token of the admission of the state's pass; or why there is none.
+/// Returns the fencing token of the admission of the state's pass. If there is none, returns why.
 pub fn token(state: &HandleState) -> Result<u64, ActFault>
     ensures told { IfOk result (TellsToken (Some state.now)) }
     ensures refused { IfErr result (λ fault. (fault ≡ ActFault.WrongHandle) × HoldsNothing (Some state.now)) }
@@ -61,7 +61,7 @@ pub fn token(state: &HandleState) -> Result<u64, ActFault>
     }
 }
 
-/// The word of the shard's record after a look by the state's pass; or why not, and the state is as it was.
+/// Returns the word of the shard's record after a look by the state's pass; or why not, and the state is as it was.
 pub fn look(state: &mut HandleState, k: ShardId) -> Result<u64, ActFault>
     ensures seen { IfOk result (TellsWord (Some state.old) (Some state.new) k) }
     ensures refused { IfErr result (LooksNowhere (Some state.old) k) }
@@ -84,7 +84,7 @@ pub fn look(state: &mut HandleState, k: ShardId) -> Result<u64, ActFault>
     }
 }
 
-/// A new pass on the board of the state's control, with this server or none; or why not.
+/// Returns a new pass on the board of the state's control, with this server or none. If it can't, returns why.
 pub fn pass(state: &HandleState, server: Option<ServerId>) -> Result<HandleState, ActFault>
     ensures made { IfOk result (IsPassOfState state.now server) }
     ensures refused { IfErr result (GivesNoPass (Some state.now) server) }

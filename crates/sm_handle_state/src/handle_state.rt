@@ -7,10 +7,10 @@ use sm_rule::note::Note;
 use sm_server::Answer;
 use sm_service::{CounterText, KeyMachine, Reply, Request};
 
-/// What a handle keeps.
+/// The state that a handle keeps.
 #[derive(Drop)]
 pub enum HandleState {
-    /// Nothing, within a call alone.
+    /// Nothing, only during a call.
     Empty,
     /// A board's control.
     Chief(ForeignChief),
@@ -26,14 +26,14 @@ pub enum HandleState {
     Answer(Answer<CounterText>),
     /// How the key space is cut into shards.
     Layout(Layout),
-    /// Where shards are to go.
+    /// A plan of moves.
     Plan(Plan),
-    /// Texts and counts by key, those of a body that the caller owns.
+    /// Texts and counts by key, in a map that the caller owns.
     Map(Box<KeyMachine>),
-    /// What a map replied.
+    /// The reply of a map.
     Reply(Reply),
-    /// What publishes routes.
+    /// A publisher of routes.
     Publisher(WordPublisher),
-    /// What reads published routes.
+    /// A reader of published routes.
     Router(WordRouter),
 }

@@ -1,4 +1,4 @@
-//! What calls do to layouts that handles keep.
+//! The effects of calls on layouts that handles keep.
 ghost use Rattle.std.specs.Prelude.{◌≡◌, IfErr, IfNone, IfOk, IfSome, Some};
 ghost use Rattle.sm_ranges.specs.LayoutFault.{texts_of};
 ghost use Rattle.sm_handle_state.specs.Layouts.{CutsNothing, HasNoBound, IsOutside, IsShardOf, KeepsNoLayout};
@@ -13,7 +13,7 @@ use sm_ranges::layout::{Layout, LayoutFault};
 use sm_ranges::shard_id::ShardId;
 use std::alloc::Global;
 
-/// The layout whose bounds are these parts of the text.
+/// Returns the layout whose bounds are these parts of the text.
 pub fn layout_of(alloc: Global, text: &[u8], parts: &[TextPart]) -> Result<Layout, CutFault>
     ensures made { IfOk result (λ layout. layout ≡ parts_of text.now parts.now) }
     ensures refused { IfErr result (CutsNothing text.now parts.now) }
@@ -52,7 +52,7 @@ fn part_in<'a>(text: &'a [u8], part: TextPart) -> Option<&'a [u8]>
     text.get(part.start..part.end)
 }
 
-/// The shard of the key in the state's layout.
+/// Returns the shard of the key in the state's layout.
 pub fn shard_in(state: &HandleState, key: &[u8]) -> Result<ShardId, ActFault>
     ensures shard { IfOk result (IsShardOf (Some state.now) key.now) }
     ensures refused { IfErr result (λ fault. (fault ≡ ActFault.WrongHandle) × KeepsNoLayout (Some state.now)) }

@@ -1,4 +1,4 @@
-//! The state that a handle keeps, and what a call does to it.
+//! The state that a handle keeps, and the effect of each call on it.
 //!
 //! ```rust
 //! let layout = HandleState::Layout(Layout::new(rt.alloc(), &[b"", b"m"])?);

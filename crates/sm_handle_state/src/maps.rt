@@ -1,4 +1,4 @@
-//! What calls do to maps of the sample service that handles keep.
+//! The effects of calls on maps of the sample service that handles keep.
 ghost use Rattle.std.specs.Prelude.{◌≡◌, IfErr, IfOk, Some, option_map};
 ghost use Rattle.sm_map.specs.Val.{held_of};
 ghost use Rattle.sm_handle_state.specs.declared.handle_state.HandleState.TheVariants.{Reply as Replies};
@@ -13,7 +13,7 @@ use crate::written::write_where_it_fits;
 use sm_service::{LentRequest, Reply, Val};
 use std::alloc::Global;
 
-/// How many keys of the state's map hold something.
+/// Returns how many keys of the state's map hold something.
 pub fn len_of(state: &HandleState) -> Result<u128, ActFault>
     ensures count { IfOk result (HoldsKeys (Some state.now)) }
     ensures refused { IfErr result (λ fault. (fault ≡ ActFault.WrongHandle) × KeepsNoMap (Some state.now)) }
@@ -24,7 +24,7 @@ pub fn len_of(state: &HandleState) -> Result<u128, ActFault>
     }
 }
 
-/// What the key of the state's map holds.
+/// Returns the value at the key of the state's map.
 pub fn value_in(state: &HandleState, key: &[u8], into: &mut [u8]) -> Result<ReplyParts, ActFault>
     ensures held { IfOk result (WritesHeld (Some state.now) key.now into.new) }
     ensures refused { IfErr result (λ fault. (fault ≡ ActFault.WrongHandle) × KeepsNoMap (Some state.now)) }
@@ -36,7 +36,7 @@ pub fn value_in(state: &HandleState, key: &[u8], into: &mut [u8]) -> Result<Repl
     Ok(written_of(map.held(key), into))
 }
 
-// The parts of what a key holds, whose text it writes where it fits.
+// Returns the parts of a key's value. If there is room for its text, writes that.
 fn written_of(held: Option<Val<'_>>, into: &mut [u8]) -> ReplyParts
     ensures { IsHeldIn (option_map held_of held.entry) into.new result }
 {
@@ -51,7 +51,7 @@ fn written_of(held: Option<Val<'_>>, into: &mut [u8]) -> ReplyParts
     }
 }
 
-/// The reply of the state's map.
+/// Returns the reply of the state's map.
 pub fn reply_of(
     alloc: Global,
     state: &mut HandleState,

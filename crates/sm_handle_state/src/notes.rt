@@ -1,4 +1,4 @@
-//! What passes in handles tell each other.
+//! How passes in handles tell each other how much they have seen.
 ghost use Rattle.std.specs.Prelude.{◌≡◌, IfErr, IfNone, IfOk, IfSome, None, Some};
 ghost use Rattle.sm_handle_state.specs.declared.handle_state.HandleState.TheVariants.{Pass as Passing};
 ghost use Rattle.sm_handle_state.specs.Notes.{AreOfOneBoard, IsSplitFrom, MeetsHandle, SplitsNothing, TellsNothing};
@@ -7,7 +7,7 @@ use crate::act_fault::ActFault;
 use crate::handle_state::HandleState;
 use sm_foreign::ForeignPass;
 
-/// A new pass with the server of the state's pass, which has seen all that that has.
+/// Returns a new pass with the server of the state's pass, which has seen all that that has.
 pub fn split_of(state: &mut HandleState) -> Result<HandleState, ActFault>
     ensures unchanged { state.new ≡ state.old }
     ensures made { IfOk result (λ pass. IsSplitFrom (Some state.old) (Some pass)) }
@@ -26,7 +26,8 @@ pub fn split_of(state: &mut HandleState) -> Result<HandleState, ActFault>
     }
 }
 
-/// Tells the state's pass what the other state tells; or gives the other one back, where it tells nothing to the first.
+/// Tells the state's pass everything that the other state has seen. If the other one can't tell it anything, gives it
+/// back.
 pub fn meet_in(state: &mut HandleState, other: HandleState) -> Option<HandleState>
     requires { AreOfOneBoard (Some state.old) (Some other) }
     ensures met { IfNone result (MeetsHandle (Some state.old) (Some other) (Some state.new)) }
@@ -57,7 +58,7 @@ pub fn meet_in(state: &mut HandleState, other: HandleState) -> Option<HandleStat
     }
 }
 
-// The same of a pass to foreign bodies.
+// Does the same for a pass to foreign bodies.
 fn meet_pass(state: &mut HandleState, told: ForeignPass) -> Option<ForeignPass>
     requires { AreOfOneBoard (Some state.old) (Some (Passing told)) }
     ensures met { IfNone result (MeetsHandle (Some state.old) (Some (Passing told)) (Some state.new)) }

@@ -1,4 +1,4 @@
-//! What calls tell of plans that handles keep.
+//! The results of calls on plans that handles keep.
 ghost use Rattle.std.specs.Prelude.{IfErr, IfOk, Some};
 ghost use Rattle.sm_handle_state.specs.Plans.{HasNoMove, HasNoPlan, HasNotLeft, IsLeftOut, IsMove, IsPlanOf};
 
@@ -10,7 +10,7 @@ use sm_ranges::server_id::ServerId;
 use sm_ranges::shard_id::ShardId;
 use std::alloc::Global;
 
-/// Where the state's control would have shards go: those of the server, or without one the vacant ones.
+/// Returns the plan of the state's control for the shards of the server, or, without a server, for the vacant ones.
 pub fn plan_of(
     alloc: Global,
     state: &HandleState,
@@ -31,7 +31,7 @@ pub fn plan_of(
     }
 }
 
-/// The move at this place of the state's plan.
+/// Returns the move at this place of the state's plan.
 pub fn move_in(state: &HandleState, at: usize) -> Result<Move, ActFault>
     ensures found { IfOk result (IsMove (Some state.now) at) }
     ensures refused { IfErr result (HasNoMove (Some state.now) at) }
@@ -45,7 +45,7 @@ pub fn move_in(state: &HandleState, at: usize) -> Result<Move, ActFault>
     }
 }
 
-/// The shard at this place of those that the state's plan has no room for.
+/// Returns the shard at this place of those that the state's plan has no room for.
 pub fn left_in(state: &HandleState, at: usize) -> Result<ShardId, ActFault>
     ensures found { IfOk result (IsLeftOut (Some state.now) at) }
     ensures refused { IfErr result (HasNotLeft (Some state.now) at) }

@@ -1,4 +1,4 @@
-//! What calls tell of replies of the sample service that handles keep.
+//! The results of calls on replies of the sample service that handles keep.
 ghost use Rattle.std.specs.Prelude.{◌≡◌, IfErr, IfOk, None, Some};
 ghost use Rattle.sm_handle_state.specs.Maps.{HasNoKeyAt, HasNoPair, HasNoText, HasNoTextAt, IsPairAt, PairHeld};
 ghost use Rattle.sm_handle_state.specs.Maps.{Replied, WritesHeldText, WritesKey, WritesText, reply_kept};
@@ -21,7 +21,7 @@ fn reply_in(state: &HandleState) -> Result<&Reply, ActFault>
     }
 }
 
-/// The parts of the state's reply.
+/// Returns the parts of the state's reply.
 pub fn parts_in(state: &HandleState) -> Result<ReplyParts, ActFault>
     ensures parts { IfOk result (Replied (Some state.now)) }
     ensures refused { IfErr result (λ fault. (fault ≡ ActFault.WrongHandle) × (reply_kept (Some state.now) ≡ None)) }
@@ -55,7 +55,7 @@ fn pair_in(state: &HandleState, at: usize) -> Result<&Pair, ActFault>
     }
 }
 
-/// The parts of what the key held that the pair at this place of the reply has.
+/// Returns the parts of the value in the pair at this place of the reply.
 pub fn held_in(state: &HandleState, at: usize) -> Result<ReplyParts, ActFault>
     ensures parts { IfOk result (PairHeld (Some state.now) at) }
     ensures refused { IfErr result (HasNoPair (reply_kept (Some state.now)) at) }
@@ -74,7 +74,8 @@ pub fn key_in(state: &HandleState, at: usize, into: &mut [u8]) -> Result<usize, 
     write(pair.key(), into)
 }
 
-/// Writes the text that the key of the pair at this place held: its length; or why not, and nothing is written.
+/// Writes the text in the pair at this place, and returns its length; or returns why it can't, and then nothing is
+/// written.
 pub fn held_text_in(state: &HandleState, at: usize, into: &mut [u8]) -> Result<usize, ActFault>
     ensures written { IfOk result (WritesHeldText (Some state.now) at into.new) }
     ensures refused { IfErr result (HasNoTextAt (Some state.now) at into.old) }

@@ -4,9 +4,9 @@ ghost use Rattle.sm_handle_state.specs.Maps.{AreReplyParts, AreValueParts};
 
 use sm_service::{Reply, Val};
 
-/// A reply, or what a pair of it holds, as C sees it. The kind is 0 where the key holds nothing, 1 done, 2 a text of
-/// this length, 3 this count, 4 so many pairs, 5 a value of the wrong kind, 6 a count that would be too large, 7 a text
-/// that would be too long.
+/// A reply, or the value in a pair of it, as C sees it. The kind is 0 if the key has no value, 1 for done, 2 for a text
+/// of this length, 3 for this count, 4 for so many pairs, 5 for a value of the wrong kind, 6 for a count that would be
+/// too large, and 7 for a text that would be too long.
 #[repr(C)]
 #[derive(Clone, Copy, Drop)]
 pub struct ReplyParts {
@@ -16,7 +16,7 @@ pub struct ReplyParts {
 }
 
 impl ReplyParts {
-    /// The parts of a reply.
+    /// Returns the parts of a reply.
     pub fn of(reply: &Reply) -> ReplyParts
         ensures { AreReplyParts result reply.now }
     {
@@ -32,7 +32,7 @@ impl ReplyParts {
         }
     }
 
-    /// The parts of what a key holds.
+    /// Returns the parts of a key's value.
     pub(crate) fn of_value(value: Val<'_>) -> ReplyParts
         ensures { AreValueParts result (held_of value.entry) }
     {

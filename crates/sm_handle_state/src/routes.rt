@@ -1,4 +1,4 @@
-//! What calls do to publishers of routes, and their routers, that handles keep.
+//! The effects of calls on publishers of routes, and their routers, that handles keep.
 ghost use Rattle.std.specs.Prelude.{◌≡◌, ◌≤◌, IfErr, IfOk, OnOk, Some};
 ghost use Rattle.sm_ownership.specs.declared.record.TheConstants.{MAX_GENERATION};
 ghost use Rattle.sm_handle_state.specs.Routes.{GivesNoRouter, IsRouterOf, KeepsNoRouter};
@@ -11,7 +11,7 @@ use sm_ownership::route::Route;
 use sm_ranges::shard_id::ShardId;
 use std::alloc::AllocError;
 
-/// A router of the state's publisher.
+/// Returns a router of the state's publisher.
 pub fn router_of(state: &mut HandleState) -> Result<HandleState, ActFault>
     ensures unchanged { state.new ≡ state.old }
     ensures made { IfOk result (λ router. IsRouterOf (Some state.old) (Some router)) }
@@ -42,7 +42,7 @@ pub fn publish_in(state: &mut HandleState, route: Route) -> Result<(), PublishFa
     }
 }
 
-/// The route that the state's router reads.
+/// Returns the route that the state's router reads.
 #[inline(always)]
 pub fn route_in(state: &mut HandleState, shard: ShardId) -> Result<Option<Route>, ActFault>
     ensures read { IfOk result (ReadsHandleRoute (Some state.old) (Some state.new) shard) }

@@ -1,7 +1,7 @@
 use sm_ranges::server_id::ServerId;
 use sm_server::Refusal;
 
-/// What became of an envelope at a server, which a handle keeps.
+/// The outcome of an envelope at a server, which a handle keeps.
 #[derive(Clone, Copy, Drop)]
 pub enum ServedAs {
     /// The request was executed: the handle keeps the answer.

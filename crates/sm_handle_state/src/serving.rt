@@ -1,4 +1,4 @@
-//! What calls do to passes of the sample service, and envelopes, that handles keep.
+//! The effects of calls on passes of the sample service, and envelopes, that handles keep.
 ghost use Rattle.std.specs.Prelude.{◌≡◌, ◌≤◌, IfErr, IfNone, IfOk, IfSome, IsSome, Some};
 ghost use Rattle.sm_ownership.specs.declared.mode.Mode.TheVariants.{Direct, Forwarded};
 ghost use Rattle.sm_handle_state.specs.declared.handle_state.HandleState.TheVariants.{Envelope as Sent};
@@ -26,7 +26,7 @@ use sm_rule::note::Note;
 use sm_server::Outcome;
 use sm_service::{CounterText, Request};
 
-/// An envelope that came so, with a note of all that the state's pass has seen.
+/// Returns an envelope that came so, with a note of all that the state's pass has seen.
 pub fn envelope_of(
     state: &mut HandleState,
     sent: SentAs,
@@ -46,7 +46,8 @@ pub fn envelope_of(
     Ok(HandleState::Envelope(shell.whole(request, note)))
 }
 
-// The shell of an envelope that came so, where one comes so: directly without a hop, or forwarded by 1 to 4.
+// Returns the shell of an envelope that came in this mode, if that is possible: directly without a hop, or forwarded
+// with 1 to 4.
 fn shell_of(sent: SentAs) -> Option<Shell>
     ensures made { IfSome result (λ shell. (shell.number ≡ sent.number) × (shell.shard ≡ sent.shard)
         × (shell.mode ≡ sent.mode) × (shell.hops ≡ sent.hops)) }
@@ -62,7 +63,7 @@ fn shell_of(sent: SentAs) -> Option<Shell>
     Some(shell)
 }
 
-/// What the server of the state's pass makes of the envelope, and what became of that; or the state as it was, and why.
+/// Returns the result of the state's server for the envelope, and its outcome; or the state as it was, and why.
 pub fn served_by(
     state: &mut HandleState,
     layout: &HandleState,
@@ -94,7 +95,7 @@ pub fn served_by(
     }
 }
 
-// What the pass's server makes of the envelope.
+// Returns the result of the pass's server for the envelope.
 fn serve_at(
     pass: &mut FreePass<CounterText>,
     layout: &Layout,
@@ -115,7 +116,7 @@ fn serve_at(
     }
 }
 
-// The server that forwarded what came so, if one did.
+// Returns the server that forwarded a request in this mode, if one did.
 fn forwarder(mode: &Mode) -> Option<ServerId>
     ensures direct { IfNone result (mode.now ≡ Direct) }
     ensures forwarded { IfSome result (λ from. mode.now ≡ Forwarded from) }
@@ -126,7 +127,7 @@ fn forwarder(mode: &Mode) -> Option<ServerId>
     }
 }
 
-// The envelope after so many hops, each from this server.
+// Returns the envelope after so many hops, each from this server.
 fn hopped(direct: Envelope<(), ()>, from: ServerId, hops: u8) -> Envelope<(), ()>
     requires direct { direct.hops ≡ 0 }
     requires some { 1 ≤ hops }
@@ -155,7 +156,7 @@ fn hopped(direct: Envelope<(), ()>, from: ServerId, hops: u8) -> Envelope<(), ()
     envelope
 }
 
-/// The state's envelope, but for its request and its note.
+/// Returns the state's envelope, but for its request and its note.
 pub fn sent_in(state: &HandleState) -> Result<SentAs, ActFault>
     ensures sent { IfOk result (IsSentAs (Some state.now)) }
     ensures refused { IfErr result (λ fault. (fault ≡ ActFault.WrongHandle) × KeepsNoEnvelope (Some state.now)) }
@@ -171,7 +172,7 @@ pub fn sent_in(state: &HandleState) -> Result<SentAs, ActFault>
     }
 }
 
-/// The state's answer, but for its reply.
+/// Returns the state's answer, but for its reply.
 pub fn answer_in(state: &HandleState) -> Result<AnswerParts, ActFault>
     ensures parts { IfOk result (TellsAnswer (Some state.now)) }
     ensures refused { IfErr result (λ fault. (fault ≡ ActFault.WrongHandle) × KeepsNoAnswer (Some state.now)) }

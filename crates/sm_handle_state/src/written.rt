@@ -3,7 +3,7 @@ ghost use Rattle.std.specs.Prelude.{◌≡◌, ◌≤◌, ◌<◌, IfErr, IfOk, 
 
 use crate::act_fault::ActFault;
 
-/// Writes the bytes to the front of the caller's room, where it has room for all of them.
+/// Writes the bytes to the front of the caller's room, if it has room for all of them.
 pub fn write_where_it_fits(bytes: &[u8], into: &mut [u8])
     ensures { length bytes.now ≤ length into.new → take (length bytes.now) into.new ≡ bytes.now }
 {

@@ -1,5 +1,5 @@
--- What the table refuses is what legality doesn't allow, and what the table makes of an entry is the table of the
--- longer history.
+-- The table refuses exactly the entries that legality doesn't allow, and after an entry it is the table of the longer
+-- history.
 use Rattle.std.proofs.Common.{◌≡◌, ◌≢◌, ℕ, ◌<◌, Bool, true, false, not, ◌&&◌, List, [], ◌∷◌, ◌++◌, length, refl, sym}
 use Rattle.std.proofs.Common.{ap, ◌∙◌, arith}
 use Rattle.std.specs.Prelude.{Option, Some, None, ◌↔◌, ◌==◌, is_none, nat_lt, reverse, if◌then◌else◌}
@@ -37,7 +37,7 @@ module _ {Q : Type 0} (count ceiling : ℕ) (history : List (Entry Q)) (legal : 
   abbrev fit : Entry Q → Bool
   fit entry = fits ceiling (reverse history) (table_of count ceiling history) entry
 
-  -- an entry comes next exactly where it fits
+  -- an entry comes next if and only if it fits
   next : (entry : Entry Q) → IsLegal count ceiling (longer entry) ↔ (fit entry ≡ true)
   next entry =
       (λ after. fits-push count ceiling history entry after, λ is. legal-push count ceiling history entry legal is)

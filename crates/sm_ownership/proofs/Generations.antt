@@ -87,7 +87,7 @@ module _ {Q : Type 0} (count ceiling : ℕ) where
       ∙ stays_latest later earlier shard legal.1 (omega arith))
       (cases_eq shard entry.shard)
 
-  -- where none of the later entries is the shard's, its record stays
+  -- if none of the later entries is the shard's, its record stays
   stays : (history later : List (Entry Q)) (shard : ℕ) → IsLegal count ceiling (history ++ later)
       → count_by (λ entry. entry.shard == shard) later ≡ 0
       → record_at (table_of count ceiling (history ++ later)) shard ≡ record_at (table_of count ceiling history) shard
@@ -97,7 +97,7 @@ module _ {Q : Type 0} (count ceiling : ℕ) where
       ∙ stays_latest (reverse later) (reverse history) shard (subst (IsLegalLatest count ceiling) turned legal)
       (count_by-reverse (λ entry. entry.shard == shard) later ∙ none)
 
-  -- at equal generations a shard has the same record
+  -- if the generations are equal, a shard has the same record
   pub same_record : (history later : List (Entry Q)) (shard : ℕ) → IsLegal count ceiling (history ++ later)
       → (record_at (table_of count ceiling history) shard).generation
       ≡ (record_at (table_of count ceiling (history ++ later)) shard).generation

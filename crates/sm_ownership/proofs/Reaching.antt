@@ -28,7 +28,7 @@ serving_either : (owner next : ℕ) (same : Bool)
 serving_either owner next true = tt
 serving_either owner next false = tt
 
--- a change leads to a stand of two servers only where they differ
+-- a change leads to a stand of two servers only if they differ
 apart_after : (stand : Stand) (change : Change) → IsApart stand → IsApart (unwrap_or (stand_after stand change) stand)
 apart_after Vacant (Assign server) apart = tt
 apart_after (Serving owner) (PrepareAddShard next) apart = unless_owner owner next (next == owner) refl
@@ -74,7 +74,7 @@ one_of_some Holds x y same holds = let is : x ≡ y = cc in subst Holds is holds
 itself : (server : ℕ) → (server == server) ≡ true
 itself server = eq-eqb server server refl
 
--- what reaches an executor at which nothing comes early
+-- a request that reaches an executor at which nothing comes early
 executing : (executor server : ℕ) → executor ≡ server → ((executor == server) && true) ≡ true
 executing executor server same = and_from (executor == server) true (eq-eqb executor server same) refl
 
@@ -107,7 +107,7 @@ taken owner previous apart = record {
   takes_after_both = λ added dropped is later. absurd cc;
 }
 
--- what reaches the owner, or the previous one, is executed or forwarded
+-- if a request reaches the owner or the previous owner, it is executed or forwarded
 pub served : (stand : Stand) (server : ℕ) → IsApart stand → IsReached stand server → IsServed stand server
 served Vacant server apart reached = absurd reached
 served (Serving owner) server apart reached = inl (executing owner server reached)

@@ -1,4 +1,4 @@
--- A shard has one admission at most, and it is the executor's.
+-- A shard has at most one admission, and it is the executor's.
 use Rattle.std.proofs.Common.{◌≡◌, ◌≢◌, ℕ, ◌≤◌, ◌+◌, Bool, true, false, not, List, [], ◌∷◌, length, refl, sym, ap}
 use Rattle.std.proofs.Common.{subst, ◌∙◌, arith, ⊎_elim}
 use Rattle.std.specs.Prelude.{Option, None, Some, All, filter, nat_le, reverse, ◌==◌, if◌then◌else◌}
@@ -22,7 +22,7 @@ abbrev pub IsOfExecutor : {Q : Type 0} → Record → Entry Q → Type 0
 IsOfExecutor state entry =
     (server : ℕ) × (mode : Mode) × (entry.kind ≡ Admit server mode) × (executor state ≡ Some server)
 
--- no admission stands at an idle record, and at an admitted one that of the shard's latest entry
+-- at an idle record no admission stands, and at an admitted one only that of the shard's latest entry
 abbrev IsSingle : {Q : Type 0} → List (Entry Q) → ℕ → Record → List (Entry Q) → Type 0
 IsSingle earlier shard state [] = state.admitted ≡ false
 IsSingle earlier shard state (entry ∷ []) =
@@ -137,7 +137,7 @@ module _ {Q : Type 0} (count ceiling : ℕ) where
       ⊎_elim (single_own entry earlier shard legal.0 (single earlier legal.1))
       (single_other entry earlier shard legal.0 (single earlier legal.1)) (cases_eq shard entry.shard)
 
-  -- one admission of a shard stands where its record is admitted, and else none
+  -- if a shard's record is admitted, one admission of the shard stands, and otherwise none
   pub one_admission : (history : List (Entry Q)) (shard : ℕ) → IsLegal count ceiling history → length
       (open_admissions history shard) ≡ (if (record_at (table_of count ceiling history) shard).admitted then 1 else 0)
   one_admission history shard legal =

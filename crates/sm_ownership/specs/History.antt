@@ -1,4 +1,4 @@
--- Histories: what the entries of one leave in the ownership table, which are legal, and what the shards keep.
+-- Histories: the ownership table that their entries make, which histories are legal, and the requests that shards keep.
 use Rattle.std.specs.Prelude.{ℕ, Bool, true, false, Option, Some, None, ◌≡◌, ◌≢◌, ◌⊎◌, ◌==◌, ◌&&◌, ◌||◌, ◌+◌, ◌<◌}
 use Rattle.std.specs.Prelude.{nat_lt, nat_le, not, is_some, unwrap_or, if◌then◌else◌, List, [], ◌∷◌, ◌++◌, All, drop}
 use Rattle.std.specs.Prelude.{filter, find, length, reverse, replicate, slice_get, slice_index_or, slice_set, take}
@@ -15,7 +15,7 @@ use Rattle.sm_ownership.specs.declared.mode.Mode.{Mode}
 use Rattle.sm_ownership.specs.declared.record.Record.{Record}
 use Rattle.sm_ownership.specs.Rules.{stand_after, accepts}
 
--- the record of a shard to which nothing has happened
+-- the record of a shard without entries
 abbrev pub vacant : Record
 vacant = record { stand = Vacant; admitted = false; generation = 0 }
 
@@ -71,12 +71,12 @@ abbrev pub is_admission_of : {Q : Type 0} → ℕ → Option (Entry Q) → Bool
 is_admission_of actor None = false
 is_admission_of actor (Some entry) = entry.actor == actor && is_admit entry.kind
 
--- the control may change an idle record below the ceiling, where the change's line of the table of changes allows it
+-- the control may change an idle record below the ceiling, if the change's row in the table of changes allows it
 abbrev pub change_fits : ℕ → Record → ℕ → Change → Bool
 change_fits ceiling state actor change =
     actor == 0 && (not state.admitted && (nat_lt state.generation ceiling && is_some (stand_after state.stand change)))
 
--- an actor with one server for good is admitted to an idle record that accepts it, with room for the end of its
+-- an actor with one server for good is admitted to an idle record that accepts it, if there is room for the end of its
 -- admission
 abbrev pub admit_fits : {Q : Type 0} → ℕ → List (Entry Q) → Record → ℕ → ℕ → Mode → Bool
 admit_fits ceiling earlier state actor server mode =
@@ -99,7 +99,7 @@ fits ceiling earlier table entry =
     nat_lt entry.shard (length table)
     && kind_fits ceiling earlier (record_at table entry.shard) entry.actor entry.shard entry.kind
 
--- the table after one more entry; an entry that doesn't fit changes nothing
+-- the table after one more entry; if the entry doesn't fit, the table doesn't change
 abbrev pub table_with : {Q : Type 0} → ℕ → List (Entry Q) → List Record → Entry Q → List Record
 table_with ceiling earlier table entry =
     if fits ceiling earlier table entry
@@ -112,11 +112,11 @@ table_of_latest count ceiling [] = replicate count vacant
 table_of_latest count ceiling (entry ∷ earlier) =
     table_with ceiling earlier (table_of_latest count ceiling earlier) entry
 
--- the ownership table that a history makes: each shard's record, of so many shards and below this ceiling
+-- the ownership table that a history makes: each shard's record, for this many shards and below this ceiling
 abbrev pub table_of : {Q : Type 0} → ℕ → ℕ → List (Entry Q) → List Record
 table_of count ceiling history = table_of_latest count ceiling (reverse history)
 
--- each entry fits what came before it, the latest first
+-- each entry fits those before it, the latest first
 abbrev pub IsLegalLatest : {Q : Type 0} → ℕ → ℕ → List (Entry Q) → Type 0
 IsLegalLatest count ceiling [] = Unit {0}
 IsLegalLatest count ceiling (entry ∷ earlier) =
@@ -134,7 +134,7 @@ NoneBy actor entries = All (λ entry. entry.actor ≢ actor) entries
 abbrev pub IsSameOrLater : Record → Record → Type 0
 IsSameOrLater before after = (after ≡ before) ⊎ (before.generation < after.generation)
 
--- the admissions that stand after an entry: one more, all but its actor's, or the same
+-- the admissions that stand after an entry: one more, or all except its actor's, or the same
 abbrev pub without_ended : {Q : Type 0} → Entry Q → Kind Q → List (Entry Q) → List (Entry Q)
 without_ended entry (Changed change) standing = standing
 without_ended entry (Admit server mode) standing = entry ∷ standing
@@ -147,11 +147,11 @@ open_admissions_latest (entry ∷ earlier) shard =
     if entry.shard == shard then without_ended entry entry.kind (open_admissions_latest earlier shard)
     else open_admissions_latest earlier shard
 
--- the admissions of the shard that stand: those that no later end by the same actor has ended
+-- the admissions of the shard that stand, because no later end by the same actor has ended them
 abbrev pub open_admissions : {Q : Type 0} → List (Entry Q) → ℕ → List (Entry Q)
 open_admissions history shard = open_admissions_latest (reverse history) shard
 
--- how an entry of this kind ends an admission: with nothing, where it ends none
+-- how an entry of this kind ends an admission: with nothing if it ends none
 abbrev pub ending_of : {Q : Type 0} → Kind Q → Ending Q
 ending_of (Done ending) = ending
 ending_of _ = Nothing
@@ -161,12 +161,12 @@ abbrev pub request_of : {Q : Type 0} → Ending Q → Option Q
 request_of (Request request) = Some request
 request_of _ = None
 
--- how the checkpoint of a body that keeps this list ends an admission: one that keeps nothing stays as it was
+-- how the checkpoint of a body that keeps this list ends an admission: if the list is empty, the body doesn't change
 abbrev pub checkpoint_ending : {Q : Type 0} → List Q → Ending Q
 checkpoint_ending [] = Nothing
 checkpoint_ending (request ∷ more) = Checkpoint
 
--- an admission ended so made a checkpoint
+-- an admission that ended in this way made a checkpoint
 abbrev pub is_checkpoint : {Q : Type 0} → Ending Q → Bool
 is_checkpoint Checkpoint = true
 is_checkpoint _ = false
@@ -191,13 +191,13 @@ first_of history shard = first_latest (reverse history) shard
 abbrev pub kept : {Q : Type 0} → List (Entry Q) → ℕ → List Q
 kept history shard = drop (first_of history shard) (all_of history shard)
 
--- what a shard that kept these requests keeps after an ending
+-- the requests that a shard keeps after an ending, if it kept these before
 abbrev pub kept_after : {Q : Type 0} → List Q → Ending Q → List Q
 kept_after list Nothing = list
 kept_after list (Request request) = list ++ request ∷ []
 kept_after list Checkpoint = []
 
--- the reply at a place of all requests of a shard, where `reply_of` says what a request is answered after others
+-- the reply at a place of all requests of a shard; `reply_of` gives the reply to a request after others
 abbrev pub said : {Q R : Type 0} → (List Q → Q → R) → List (Entry Q) → ℕ → ℕ → Option R
 said reply_of history shard place =
     option_map (λ request. reply_of (take place (all_of history shard)) request)

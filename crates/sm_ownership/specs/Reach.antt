@@ -11,8 +11,8 @@ use Rattle.sm_ownership.specs.Rules.{accepts_at, executor_of, forward_at, stand_
 abbrev pub IsApart : Stand → Type 0
 IsApart stand = IfSome (other_of stand) (λ other. owner_of stand ≢ Some other)
 
--- the server is the shard's owner, or its previous owner, which hasn't dropped the shard yet; nobody executes for a
--- shard that is vacant or paused
+-- the server is the shard's owner, or its previous owner, which hasn't dropped the shard yet; if a shard is vacant or
+-- paused, nobody executes for it
 abbrev pub IsReached : Stand → ℕ → Type 0
 IsReached Vacant server = ⊥
 IsReached (Serving owner) server = owner ≡ server
@@ -21,12 +21,12 @@ IsReached (Forwarding owner next) server = owner ≡ server
 IsReached (Taken owner previous) server = (owner ≡ server) ⊎ (previous ≡ server)
 IsReached (Paused owner) server = ⊥
 
--- what the first server forwarded is executed by the second one
+-- the second server executes the requests that the first one forwarded
 abbrev pub AcceptsForwarded : Stand → ℕ → ℕ → Type 0
 AcceptsForwarded stand from to = IsTrue (accepts_at stand to (Forwarded from))
 
--- the server forwards to the executor, which takes it and forwards nothing, and takes it also at the stands that the
--- migration comes to when the shard is added there, and when it is dropped here
+-- the server forwards to the executor, which accepts the request and forwards nothing; the executor accepts it also at
+-- the stands that follow in the migration, after the shard is added there, and after it is dropped here
 pub record ForwardsTo (stand : Stand) (server executor : ℕ) : Type 0 where
   pub forwards : forward_at stand server ≡ Some executor
   pub executes : executor_of stand ≡ Some executor
@@ -39,6 +39,6 @@ pub record ForwardsTo (stand : Stand) (server executor : ℕ) : Type 0 where
   pub takes_after_both : (added dropped : Stand) → stand_after stand AddShard ≡ Some added
       → stand_after added DropShard ≡ Some dropped → AcceptsForwarded dropped server executor
 
--- the server executes what comes to it directly, or forwards it to the executor
+-- the server executes a request that comes to it directly, or forwards it to the executor
 abbrev pub IsServed : Stand → ℕ → Type 0
 IsServed stand server = IsTrue (accepts_at stand server Direct) ⊎ ((executor : ℕ) × ForwardsTo stand server executor)

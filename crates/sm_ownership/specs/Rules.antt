@@ -1,4 +1,4 @@
--- The rules of ownership: what each change does, who executes a shard's requests, and who forwards them.
+-- The rules of ownership: the effect of each change, who executes a shard's requests, and who forwards them.
 use Rattle.std.specs.Prelude.{ℕ, Bool, false, Option, Some, None, Result, Ok, Err, ◌≡◌, ◌==◌, ◌+◌, ◌&&◌, nat_lt, not}
 use Rattle.std.specs.Prelude.{is_some, if◌then◌else◌}
 use Rattle.sm_ranges.specs.declared.stand.Stand.{Stand}
@@ -15,7 +15,7 @@ use Rattle.sm_ownership.specs.declared.admit_fault.AdmitFault.{AdmitFault}
 use Rattle.sm_ownership.specs.declared.admit_fault.AdmitFault.TheVariants.{Vacant as IsVacant, Paused as IsPaused}
 use Rattle.sm_ownership.specs.declared.admit_fault.AdmitFault.TheVariants.{NotExecutor, NotYet, Admitted, Spent}
 
--- the stand that a change leads to from a stand, where it may be made there
+-- the stand to which a change leads from a stand, if it may be made there
 abbrev pub stand_after : Stand → Change → Option Stand
 stand_after Vacant (Assign server) = Some (Serving server)
 stand_after (Serving owner) (PrepareAddShard next) = if next == owner then None else Some (Prepared owner next)
@@ -35,13 +35,13 @@ names_owner (Serving owner) (PrepareAddShard next) = next == owner
 names_owner (Paused owner) (Reassign next) = next == owner
 names_owner _ _ = false
 
--- the reason for which a stand doesn't allow a change, where it leads nowhere from there
+-- the reason why a stand doesn't allow a change, if the change leads nowhere from there
 abbrev pub phase_fault : Stand → Change → Option ChangeFault
 phase_fault stand change =
     if is_some (stand_after stand change) then None
     else Some (if names_owner stand change then SameServer else WrongPhase)
 
--- what a change of a stand answers: the stand that it leads to, or the first fault
+-- the result of a change of a stand: the stand to which it leads, or the first fault
 abbrev pub IsChangeResult : Stand → Change → Result Stand ChangeFault → Type 0
 IsChangeResult stand change (Ok after) = (phase_fault stand change ≡ None) × (stand_after stand change ≡ Some after)
 IsChangeResult stand change (Err fault) = (phase_fault stand change ≡ Some fault) × (stand_after stand change ≡ None)
@@ -76,20 +76,21 @@ abbrev pub is_server : Option ℕ → ℕ → Bool
 is_server None server = false
 is_server (Some named) server = named == server
 
--- the owner forwards, and this request isn't one that it forwarded
+-- the owner forwards, and this request isn't one that the owner forwarded
 abbrev pub is_early : Stand → Mode → Bool
 is_early (Forwarding owner next) mode = not (is_forwarded_by owner mode)
 is_early _ mode = false
 
--- the server executes what comes to it so: the executor does, but not what comes early
+-- the server executes a request that comes to it in this mode: the executor does, unless the request comes early
 abbrev pub accepts_at : Stand → ℕ → Mode → Bool
 accepts_at stand server mode = is_server (executor_of stand) server && not (is_early stand mode)
 
--- the record has the server execute what comes to it so
+-- the record makes the server execute a request that comes to it in this mode
 abbrev pub accepts : Record → ℕ → Mode → Bool
 accepts state server mode = accepts_at state.stand server mode
 
--- where the server forwards requests: the owner to the next one, and later the previous one to the owner
+-- the server to which a server forwards requests: the owner forwards to the next server, and later the previous owner
+-- to the owner
 abbrev pub forward_at : Stand → ℕ → Option ℕ
 forward_at (Forwarding owner next) server = if owner == server then Some next else None
 forward_at (Taken owner previous) server = if previous == server then Some owner else None
@@ -108,12 +109,12 @@ executing_fault ceiling state server mode =
     else if nat_lt ceiling (state.generation + 2) then Some Spent
     else None
 
--- why nobody is admitted at a stand, or what else is wrong
+-- why nobody is admitted at a stand, or the other fault if there is one
 abbrev pub fault_at : Stand → Option AdmitFault → Option AdmitFault
 fault_at Vacant later = Some IsVacant
 fault_at (Paused owner) later = Some IsPaused
 fault_at _ later = later
 
--- the first reason for which a record doesn't admit a server
+-- the first reason why a record doesn't admit a server
 abbrev pub admit_fault : ℕ → Record → ℕ → Mode → Option AdmitFault
 admit_fault ceiling state server mode = fault_at state.stand (executing_fault ceiling state server mode)

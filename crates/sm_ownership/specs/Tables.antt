@@ -1,4 +1,4 @@
--- The ownership table: what it refuses, and what a change, an admission and the end of one leave.
+-- The ownership table: its refusals, and the table after a change, an admission, and the end of an admission.
 use Rattle.std.specs.Prelude.{ℕ, true, Option, Some, None, ◌≡◌, ◌<◌, ◌≤◌, nat_lt, not, if◌then◌else◌, List, length}
 use Rattle.std.specs.Prelude.{slice_set}
 use Rattle.std.specs.Option.{option_or}
@@ -24,18 +24,18 @@ pub record IsBelowCeiling (ceiling : ℕ) (state : Record) : Type 0 where
   pub reached : state.generation ≤ ceiling
   pub room : state.admitted ≡ true → state.generation < ceiling
 
--- what a record refuses of a change that its stand allows
+-- the fault of a record that refuses a change although its stand allows it
 abbrev pub record_fault : ℕ → Record → Option ChangeFault
 record_fault ceiling state =
     if not (nat_lt state.generation ceiling) then Some (Spent state)
     else if state.admitted then Some (Busy state)
     else None
 
--- the first reason for which a record doesn't allow a change
+-- the first reason why a record doesn't allow a change
 abbrev pub change_fault : ℕ → Record → Change → Option ChangeFault
 change_fault ceiling state change = option_or (phase_fault state.stand change) (record_fault ceiling state)
 
--- the first reason for which the table refuses a change of a shard
+-- the first reason why the table refuses a change of a shard
 abbrev pub apply_fault : TableView → ℕ → Change → Option ChangeFault
 apply_fault table shard change =
     if not (nat_lt shard (length table.records)) then Some UnknownShard

@@ -1,4 +1,4 @@
--- Lemmas on histories that the proofs of crates above cite.
+-- The lemmas on histories that proofs of crates above cite.
 pub mod Ceilings
 pub mod Faults
 pub mod Growth

@@ -1,6 +1,6 @@
 use thiserror::Error;
 
-/// Why a server is not admitted to a shard, by the shard's record. The first that applies is answered, in this order.
+/// Why a server is not admitted to a shard, by the shard's record: the first reason that applies, in this order.
 #[derive(Clone, Copy, Debug, PartialEq, Eq, Drop, Error)]
 pub enum AdmitFault {
     /// Nobody owns the shard.
@@ -12,7 +12,7 @@ pub enum AdmitFault {
     /// Another server executes the shard's requests.
     #[error("another server executes the shard's requests")]
     NotExecutor,
-    /// The server is to own the shard, and executes so far only what the owner forwards.
+    /// The server is the next owner, and so far executes only requests that the owner forwards.
     #[error("the server executes only what the owner forwards")]
     NotYet,
     /// The shard has an admission that hasn't ended.

@@ -5,7 +5,7 @@ use crate::change_fault::ChangeFault;
 use sm_ranges::server_id::ServerId;
 use sm_ranges::stand::Stand;
 
-/// A change of a shard's stand: the steps of a graceful migration, and those round it.
+/// A change of a shard's stand: a step of a graceful migration, or one of the changes before and after it.
 #[derive(Clone, Copy, PartialEq, Eq, Drop)]
 pub enum Change {
     /// A vacant shard gets this owner.
@@ -18,7 +18,7 @@ pub enum Change {
     AddShard,
     /// The previous owner drops the shard: the migration ends.
     DropShard,
-    /// Before `AddShard`: the migration is given up, and the shard stays with its owner.
+    /// The migration is given up before `AddShard`, and the shard stays with its owner.
     Cancel,
     /// Nobody executes until the shard is resumed or reassigned.
     Pause,
@@ -29,7 +29,7 @@ pub enum Change {
 }
 
 impl Change {
-    /// The stand that the change leads to, or the first fault that applies: `WrongPhase` or `SameServer`.
+    /// Returns the stand to which the change leads, or the first fault that applies: `WrongPhase` or `SameServer`.
     pub fn apply_to(self, stand: Stand) -> Result<Stand, ChangeFault>
         ensures { IsChangeResult stand self result }
     {
@@ -112,7 +112,7 @@ impl Change {
         }
     }
 
-    /// The server that the change newly names, if it names one.
+    /// Returns the server that the change newly names, if it names one.
     pub fn newly_named(self) -> Option<ServerId>
         ensures { result ≡ newly_named self }
     {

@@ -1,7 +1,7 @@
 use crate::record::Record;
 use thiserror::Error;
 
-/// Why the ownership table refused a change. The first that applies is answered, in this order.
+/// Why the ownership table refused a change: the first reason that applies, in this order.
 #[derive(Clone, Copy, Debug, PartialEq, Eq, Drop, Error)]
 pub enum ChangeFault {
     /// There is no such shard.
@@ -13,10 +13,10 @@ pub enum ChangeFault {
     /// The change names the shard's owner as its new server.
     #[error("the change names the shard's owner as its new server")]
     SameServer,
-    /// The shard's generation, in this record, has reached the ceiling.
+    /// The shard's generation in this record has reached the ceiling.
     #[error("the shard's generations are spent")]
     Spent(Record),
-    /// The shard, as this record says, is admitted.
+    /// The shard is admitted in this record.
     #[error("the shard is admitted")]
     Busy(Record),
 }

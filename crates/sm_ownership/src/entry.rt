@@ -10,22 +10,22 @@ pub enum Ending<Q> {
     Nothing,
     /// This request was executed.
     Request(Q),
-    /// The shard's state became its base, and the requests before it are kept no more.
+    /// The shard's state became its base. The requests before it are no longer kept.
     Checkpoint,
 }
 
-/// What an entry of a history records.
+/// The event of an entry.
 #[derive(Drop)]
 pub enum Kind<Q> {
     /// The control changed the shard's stand.
     Change(Change),
     /// The server was admitted to the shard.
     Admit(ServerId, Mode),
-    /// The admission ended so.
+    /// The admission ended in this way.
     Done(Ending<Q>),
 }
 
-/// One event of a shard's history: who acted, on which shard, and what happened.
+/// One event of a shard's history: the actor, the shard, and the event.
 ///
 /// Actor 0 is the control. In a world the other actors are the servers, by their numbers.
 #[derive(Drop)]

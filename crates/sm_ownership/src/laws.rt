@@ -1,4 +1,4 @@
-//! Laws of the definitions: what holds of every history.
+//! Laws of the definitions, which hold for every history.
 
 ghost use Rattle.std.specs.Prelude.{◌≡◌, ◌≢◌, ℕ, ◌+◌, ◌<◌, ◌≤◌, ◌↔◌, ◌==◌, nat_lt, IsTrue, Some, None, List, [], ◌∷◌};
 ghost use Rattle.std.specs.Prelude.{◌++◌, All, count_by, if◌then◌else◌, length, reverse, take};
@@ -18,16 +18,16 @@ ghost use Rattle.sm_ownership.specs.Rules.{accepts, admit_fault, executor, phase
 ghost use Rattle.sm_ownership.specs.Tables.{apply_fault, record_fault, table_admitted, table_changed, table_done};
 ghost use Rattle.sm_ownership.specs.Tables.{table_view};
 
-/// The control may make exactly the changes that no fault stops. Legality says it in its own words: the record is idle,
-/// below the ceiling, and at a stand from which the change leads on.
+/// The control may make a change if and only if no fault stops it. Legality says this in its own words: the record is
+/// idle, below the ceiling, and at a stand from which the change leads on.
 pub fn change_refused_exactly()
     ensures { (ceiling : ℕ) (state : Record) (change : Change)
         → IsTrue (change_fits ceiling state 0 change)
         ↔ ((phase_fault state.stand change ≡ None) × (record_fault ceiling state ≡ None)) }
 {}
 
-/// An actor other than the control, with this one server for good, is admitted exactly where no fault stops it.
-/// Legality says it in its own words: the record is idle, has room for the admission and its end, and accepts the
+/// An actor other than the control, which acts as this one server for good, is admitted if and only if no fault stops
+/// it. Legality says this in its own words: the record is idle, has room for the admission and its end, and accepts the
 /// server.
 pub fn admission_refused_exactly<Q>()
     ensures { (ceiling : ℕ) (earlier : List (Entry Q)) (state : Record) (actor server : ℕ) (mode : Mode)
@@ -35,8 +35,8 @@ pub fn admission_refused_exactly<Q>()
         ↔ ((actor ≢ 0) × IsTrue (acts_as earlier actor server) × (admit_fault ceiling state server mode ≡ None)) }
 {}
 
-/// A change by the control is the next entry of a legal history exactly where the history's table refuses it by no
-/// fault, and makes the table of the longer history.
+/// A change by the control is the next entry of a legal history if and only if the history's table doesn't refuse it.
+/// It then makes the table of the longer history.
 pub fn change_extends_history<Q>()
     ensures { (count ceiling : ℕ) (history : List (Entry Q)) (shard : ℕ) (change : Change)
         → IsLegal count ceiling history
@@ -46,8 +46,8 @@ pub fn change_extends_history<Q>()
         × (IsLegal count ceiling longer → table_view count ceiling longer ≡ table_changed table shard change) }
 {}
 
-/// An admission of a server, by an actor other than the control which acts for this server alone, is the next entry of
-/// a legal history exactly where the shard's record refuses it by no fault, and makes the table of the longer history.
+/// An admission of a server, by an actor other than the control that acts only as this server, is the next entry of a
+/// legal history if and only if the shard's record doesn't refuse it. It then makes the table of the longer history.
 pub fn admission_extends_history<Q>()
     ensures { (count ceiling : ℕ) (history : List (Entry Q)) (actor shard server : ℕ) (mode : Mode)
         → IsLegal count ceiling history → shard < count → actor ≢ 0 → IsTrue (acts_as (reverse history) actor server)
@@ -57,8 +57,8 @@ pub fn admission_extends_history<Q>()
         × (IsLegal count ceiling longer → table_view count ceiling longer ≡ table_admitted table shard) }
 {}
 
-/// The end of an admission is the next entry of a legal history exactly where the shard's record is admitted and the
-/// shard's latest entry is an admission by the same actor, and makes the table of the longer history.
+/// The end of an admission is the next entry of a legal history if and only if the shard's record is admitted and the
+/// shard's latest entry is an admission by the same actor. It then makes the table of the longer history.
 pub fn end_extends_history<Q>()
     ensures { (count ceiling : ℕ) (history : List (Entry Q)) (actor shard : ℕ) (ending : Ending Q)
         → IsLegal count ceiling history → shard < count
@@ -70,14 +70,14 @@ pub fn end_extends_history<Q>()
         × (IsLegal count ceiling longer → table_view count ceiling longer ≡ table_done table shard) }
 {}
 
-/// What a legal history begins with is a legal history.
+/// If a history is legal, each history with which it begins is legal.
 pub fn legal_prefix<Q>()
     ensures { (count ceiling : ℕ) (history later : List (Entry Q))
         → IsLegal count ceiling (history ++ later) → IsLegal count ceiling history }
 {}
 
-/// At each point of a legal history at most one admission of a shard stands: one where the shard's record is admitted,
-/// and else none.
+/// At each point of a legal history at most one admission of a shard stands: one if the shard's record is admitted,
+/// none otherwise.
 pub fn one_admission<Q>()
     ensures at_most_one { (count ceiling : ℕ) (history later : List (Entry Q)) (shard : ℕ)
         → IsLegal count ceiling (history ++ later)
@@ -88,7 +88,7 @@ pub fn one_admission<Q>()
         length (open_admissions history shard) ≡ (if state.admitted then 1 else 0) }
 {}
 
-/// At each point of a legal history the admission of a shard that stands is one of the shard's executor.
+/// At each point of a legal history, if an admission of a shard stands, it is the executor's.
 pub fn executor_admitted<Q>()
     ensures { (count ceiling : ℕ) (history later : List (Entry Q)) (shard : ℕ)
         → IsLegal count ceiling (history ++ later)
@@ -105,7 +105,7 @@ pub fn generation_counts_entries<Q>()
         state.generation ≡ count_by (λ entry. entry.shard == shard) history }
 {}
 
-/// Where a shard has the same generation at two points of a legal history, it has the same record at both.
+/// If a shard has the same generation at two points of a legal history, it has the same record at both.
 pub fn same_generation_same_record<Q>()
     ensures { (count ceiling : ℕ) (history later : List (Entry Q)) (shard : ℕ)
         → IsLegal count ceiling (history ++ later)
@@ -125,21 +125,21 @@ pub fn generation_within_ceiling<Q>()
         IsTrue state.admitted → state.generation < ceiling }
 {}
 
-/// All requests that a longer history has for a shard begin with those that the shorter one has.
+/// All requests of a shard in a longer history begin with those of the shorter one.
 pub fn all_grows<Q>()
     ensures { (history later : List (Entry Q)) (shard : ℕ)
         → all_of (history ++ later) shard ≡ all_of history shard ++ all_of later shard }
 {}
 
-/// What a shard keeps is the end of all its requests.
+/// The requests that a shard keeps are the last ones of all its requests.
 pub fn kept_ends_all<Q>()
     ensures within { (history : List (Entry Q)) (shard : ℕ) → first_of history shard ≤ length (all_of history shard) }
     ensures parts { (history : List (Entry Q)) (shard : ℕ)
         → take (first_of history shard) (all_of history shard) ++ kept history shard ≡ all_of history shard }
 {}
 
-/// An entry of a shard adds its request to what the shard keeps, leaves it, or is a checkpoint: the shard then keeps
-/// nothing, and all its requests came before. An entry of another shard leaves it.
+/// An entry of a shard adds its request to the kept ones, or leaves them, or is a checkpoint: the shard then keeps
+/// none, and all its requests came before the checkpoint. An entry of another shard leaves them.
 pub fn kept_grows<Q>()
     ensures own { (history : List (Entry Q)) (entry : Entry Q)
         → kept (history ++ entry ∷ []) entry.shard ≡ kept_after (kept history entry.shard) (ending_of entry.kind) }
@@ -156,18 +156,18 @@ pub fn two_servers<Q>()
         → IsApart (record_at (table_of count ceiling history) shard).stand }
 {}
 
-/// While a shard is neither vacant nor paused, no phase of a migration refuses by its stand what comes directly to the
-/// shard's owner, or to its previous owner until that one drops the shard: the stand has the server execute it, or
-/// forward it to the executor, which accepts it and forwards nothing, also after `AddShard` and `DropShard`. Of a
-/// `Cancel` meanwhile nothing is said.
+/// While a shard is neither vacant nor paused, no phase of a migration refuses by its stand a request that comes
+/// directly to the shard's owner, or to its previous owner until that one drops the shard. Either the stand makes the
+/// server execute it, or the server forwards it to the executor. The executor accepts it and forwards nothing, also
+/// after `AddShard` and `DropShard`. The law says nothing about a `Cancel` in the meantime.
 pub fn no_phase_refuses<Q>()
     ensures { (count ceiling : ℕ) (history : List (Entry Q)) (shard server : ℕ) → IsLegal count ceiling history
         → let stand = (record_at (table_of count ceiling history) shard).stand in
         IsReached stand server → IsServed stand server }
 {}
 
-/// A server that a record accepts, for a request that came so, is refused its admission for no other reason than that
-/// the shard is admitted, or that its generations are spent.
+/// If a record accepts a server for a request that came in this mode, its admission is refused only if the shard is
+/// admitted or its generations are spent.
 pub fn accepted_is_admitted()
     ensures { (ceiling : ℕ) (state : Record) (server : ℕ) (mode : Mode) → IsTrue (accepts state server mode)
         → admit_fault ceiling state server mode

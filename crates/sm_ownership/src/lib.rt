@@ -1,5 +1,5 @@
-//! The ownership table of the shards: what a record of it says, which changes and admissions it refuses, the histories
-//! that it stands for, and the laws that hold of each of them.
+//! The ownership table of the shards: its records, the changes and admissions that it refuses, the histories that lead
+//! to it, and the laws of every history.
 //!
 //! ```rust
 //! let (one, two) = (ServerId::of(1), ServerId::of(2));

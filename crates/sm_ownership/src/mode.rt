@@ -5,7 +5,7 @@ use sm_ranges::server_id::ServerId;
 pub enum Mode {
     /// From a client.
     Direct,
-    /// From another server, as one that this server forwarded. Any number from 1 to 4,095 may stand here: it counts
-    /// only at a shard whose owner forwards, where it is compared with that owner.
+    /// From another server, which forwarded it. Any number from 1 to 4,095 may be here. It matters only at a shard
+    /// whose owner forwards, because only there it is compared with the owner.
     Forwarded(ServerId),
 }

@@ -14,10 +14,10 @@ use sm_ranges::server_id::ServerId;
 use sm_ranges::shard_id::ShardId;
 use sm_ranges::stand::Stand;
 
-/// The greatest ceiling of a world or a board: the greatest generation that fits the word of a record.
+/// The greatest ceiling of a world or a board, because it is the greatest generation that fits in a record's word.
 pub const MAX_GENERATION: u64 = (1 << 36) - 1;
 
-/// What the ownership table holds for a shard.
+/// The entry of a shard in the ownership table.
 #[derive(Clone, Copy, Debug, PartialEq, Eq, Drop)]
 pub struct Record {
     /// Who owns the shard, and how far a migration of it has come.
@@ -29,7 +29,7 @@ pub struct Record {
 }
 
 impl Record {
-    /// Who executes requests on the shard.
+    /// Returns the server that executes requests on the shard.
     pub fn executor(&self) -> Option<ServerId>
         ensures { result ≡ executor self.now }
     {
@@ -41,8 +41,8 @@ impl Record {
         }
     }
 
-    /// Whether the stand has the server execute a request that came to it so. An admission for it may still be refused,
-    /// by `Admitted` or `Spent`.
+    /// Returns whether the stand makes the server execute a request that came to it in this mode. An admission for the
+    /// request may still be refused by `Admitted` or `Spent`.
     pub fn accepts(&self, server: ServerId, mode: Mode) -> bool
         ensures { result ≡ accepts self.now server mode }
     {
@@ -54,7 +54,7 @@ impl Record {
         }
     }
 
-    /// The route to the shard's owner at its generation; none where nobody owns the shard.
+    /// Returns the route to the shard's owner at its generation, or nothing if nobody owns the shard.
     pub fn route(&self, shard: ShardId) -> Option<Route>
         ensures { result ≡ record_route shard self.now }
     {
@@ -66,7 +66,7 @@ impl Record {
         })
     }
 
-    /// The server to which this one forwards requests on the shard, if it does.
+    /// Returns the server to which this one forwards requests on the shard, if it does.
     pub fn forward_to(&self, server: ServerId) -> Option<ServerId>
         ensures { result ≡ forward_to self.now server }
     {
@@ -81,14 +81,14 @@ impl Record {
         }
     }
 
-    /// Why the server is not admitted for a request that came so, the first reason that applies; none where it is.
-    /// `ceiling` is the greatest generation that a shard may have.
+    /// Returns the first reason why the server is not admitted for a request that came in this mode, or nothing if it
+    /// is admitted. `ceiling` is the greatest generation that a shard may have.
     pub fn admit_fault(&self, server: ServerId, mode: Mode, ceiling: u64) -> Option<AdmitFault>
         ensures { result ≡ admit_fault ceiling self.now server mode }
     {
         let accepts = self.accepts(server, mode);
         let has_room = ceiling >= 2 && self.generation <= ceiling - 2;
-        // What most admissions find, first.
+        // This comes first because most admissions end here.
         if accepts && !self.admitted && has_room {
             return None;
         }
@@ -109,7 +109,7 @@ impl Record {
         Some(AdmitFault::Spent)
     }
 
-    /// The record after the change, or the first fault that applies of those that a record can have.
+    /// Returns the record after the change, or the first fault that applies, of the faults that a record can have.
     pub fn changed(&self, change: Change, ceiling: u64) -> Result<Record, ChangeFault>
         ensures fault { result_err result ≡ change_fault ceiling self.now change }
         ensures made { IfOk result (λ next. next ≡ after_change self.now change) }
@@ -118,7 +118,8 @@ impl Record {
         self.changed_to(&change, &stand, ceiling)
     }
 
-    /// `changed`, for whom it is known that the change leads to this stand: `Spent` and `Busy` alone can refuse it.
+    /// Does the same as `changed`. The caller must know that the change leads to this stand, so only `Spent` and `Busy`
+    /// can refuse it.
     pub fn changed_to(
         &self,
         change: &Change,
@@ -142,7 +143,8 @@ impl Record {
         })
     }
 
-    /// The record after an admission of the server, for a request that came so, or the first fault that applies.
+    /// Returns the record after an admission of the server for a request that came in this mode, or the first fault
+    /// that applies.
     pub fn admitted(&self, server: ServerId, mode: Mode, ceiling: u64) -> Result<Record, AdmitFault>
         ensures fault { result_err result ≡ admit_fault ceiling self.now server mode }
         ensures made { IfOk result (λ next. next ≡ after_admit self.now) }
@@ -157,7 +159,7 @@ impl Record {
         })
     }
 
-    /// The record after the end of its admission.
+    /// Returns the record after the end of its admission.
     pub fn ended(&self) -> Record
         requires admitted { self.now.admitted ≡ true }
         requires room { self.now.generation + 1 < 2 ^ 64 }

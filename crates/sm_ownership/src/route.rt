@@ -1,14 +1,14 @@
 use sm_ranges::server_id::ServerId;
 use sm_ranges::shard_id::ShardId;
 
-/// Where requests on a shard go, as it is published.
+/// Where requests on a shard go, in published form.
 #[derive(Clone, Copy, Debug, PartialEq, Eq, Drop)]
 pub struct Route {
     pub shard: ShardId,
     /// The shard's owner when the route was made.
     pub server: ServerId,
-    /// The shard's generation when the route was made. A publisher takes only a greater one than that of the shard's
-    /// last route.
+    /// The shard's generation when the route was made. A publisher takes a route only if this is greater than the
+    /// generation of the shard's last route.
     pub generation: u64,
 }
 
@@ -16,7 +16,7 @@ impl Route {
     ghost use Rattle.std.specs.Prelude.{◌≡◌};
     ghost use Rattle.sm_ownership.specs.Routes.{is_old};
 
-    /// Whether the route isn't above this last one of its shard.
+    /// Returns whether the route isn't newer than this last route of its shard.
     pub fn is_old(&self, last: Option<Route>) -> bool
         ensures { result ≡ is_old last self.now }
     {

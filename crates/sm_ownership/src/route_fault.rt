@@ -12,7 +12,7 @@ pub enum RouteFault {
     /// The route's generation is not above that of the shard's last published route.
     #[error("the route is not newer than the published one")]
     OldRoute,
-    /// The route may be published, and memory for it was refused.
+    /// The route may be published, but memory for it was refused.
     #[error("out of memory")]
     NoMemory,
 }

@@ -15,7 +15,7 @@ use sm_ranges::stand::Stand;
 use std::alloc::{AllocError, Global};
 use std::marker::Model;
 
-/// The ownership table: each shard's record, and the ceiling, which no generation passes.
+/// The ownership table: each shard's record, and the ceiling. No generation passes the ceiling.
 #[derive(Drop)]
 pub struct Table {
     records: Vec<Record>,
@@ -34,7 +34,7 @@ impl Model for Table {
 }
 
 impl Table {
-    /// The table of so many shards to which nothing has happened: they are vacant.
+    /// Makes a table with this many shards, without history. All of them are vacant.
     pub fn new(alloc: Global, count: usize, ceiling: u64) -> Result<Table, AllocError>
         ensures records { IfOk result (λ table. table.records ≡ replicate count vacant) }
         ensures ceiling { IfOk result (λ table. table.ceiling ≡ ceiling) }
@@ -50,21 +50,21 @@ impl Table {
         })
     }
 
-    /// The greatest generation.
+    /// Returns the greatest generation.
     pub fn ceiling(&self) -> u64
         ensures { result ≡ self.now.ceiling }
     {
         self.ceiling
     }
 
-    /// The number of shards.
+    /// Returns the number of shards.
     pub fn count(&self) -> usize
         ensures { result ≡ length self.now.records }
     {
         self.records.len()
     }
 
-    /// The record of the shard.
+    /// Returns the record of the shard.
     pub fn record(&self, k: ShardId) -> Record
         requires { k < length self.now.records }
         ensures { result ≡ record_at self.now.records k }
@@ -73,8 +73,8 @@ impl Table {
         self.records[at]
     }
 
-    /// Changes the stand of the shard, or answers the first fault that applies. A refused change leaves the table as it
-    /// was.
+    /// Changes the stand of the shard, or returns the first fault that applies. If the change is refused, the table
+    /// doesn't change.
     pub fn apply(&mut self, k: ShardId, change: Change) -> Result<(), ChangeFault>
         ensures fault { result_err result ≡ apply_fault self.old k change }
         ensures made { OnOk result (self.new ≡ table_changed self.old k change) }
@@ -87,8 +87,8 @@ impl Table {
         self.change_to(k, &change, &stand)
     }
 
-    /// `apply`, for whom it is known that the shard exists and that the change leads to this stand: `Spent` and `Busy`
-    /// alone can refuse it.
+    /// Does the same as `apply`. The caller must know that the shard exists and that the change leads to this stand, so
+    /// only `Spent` and `Busy` can refuse it.
     pub fn change_to(
         &mut self,
         k: ShardId,
@@ -106,8 +106,8 @@ impl Table {
         Ok(())
     }
 
-    /// Admits the server to the shard, for a request that came so, or answers the first fault that applies. A refused
-    /// admission leaves the table as it was.
+    /// Admits the server to the shard, for a request that came in this mode, or returns the first fault that applies.
+    /// If the admission is refused, the table doesn't change.
     pub fn admit(&mut self, k: ShardId, server: ServerId, mode: Mode) -> Result<(), AdmitFault>
         requires { k < length self.old.records }
         ensures fault { result_err result
@@ -124,7 +124,7 @@ impl Table {
         }
     }
 
-    /// Ends the shard's admission. There is room for it below the ceiling.
+    /// Ends the shard's admission. There is always room for this below the ceiling.
     pub fn done(&mut self, k: ShardId)
         requires known { k < length self.old.records }
         requires admitted { (record_at self.old.records k).admitted ≡ true }

@@ -1,4 +1,4 @@
--- What has become of a body since its admission, and how the entry says it.
+-- How a body has changed since its admission, and how the entry says it.
 use Rattle.std.proofs.Common.{◌≡◌, ℕ, ◌<◌, ◌≤◌, List, [], ◌∷◌, ◌++◌, length, refl, ap, ◌∙◌, subst, arith, length-drop}
 use Rattle.std.specs.Prelude.{All, Option, Some, None, IfSome}
 use Rattle.std.proofs.lemmas.List.{drop-append-le}
@@ -18,7 +18,7 @@ pub rests_at : {S Q : Type 0} (rests : S → ℕ → List Q → Type 0) (body : 
 rests_at rests body first later all longer firsts alls is =
     subst (λ (pair : ℕ × List _). rests body pair.0 pair.1) (λ i. (firsts i, alls i)) is
 
--- what it rests on at the end of the admission
+-- the requests on which it rests at the end of the admission
 pub rests_after : {S Q : Type 0} (rests : S → ℕ → List Q → Type 0) (held : Option (HeldShard Q)) (body : S)
     (ending : Ending Q) → EndsWith rests held body ending
     → rests body (first_after (first_held held) (all_held held) ending) (all_after (all_held held) ending)
@@ -26,7 +26,7 @@ rests_after rests held body Nothing is = is
 rests_after rests held body (Request request) is = is
 rests_after rests held body Checkpoint is = is.1
 
--- what a pass holds is in bounds
+-- a pass's hold is in bounds
 pub held_bounds : {Q : Type 0} (limits : Limits) (held : Option (HeldShard Q)) → IfSome held (IsHeldOf limits)
     → (first_held held ≤ length (all_held held)) × (length (all_held held) ≤ limits.ceiling)
 held_bounds limits None is = (omega arith, omega arith)
@@ -51,7 +51,7 @@ module _ {S State Q : Type 0} (initial : State) (next : State → Q → State) (
   abbrev keeps : S → ℕ → List Q → Type 0
   keeps = Keeps initial next base before requests
 
-  -- of all that may have become of a body its list tells which
+  -- its list tells which of the possible changes a body has had
   pub ending_is : (held : Option (HeldShard Q)) (body : S) (ending : Ending Q) → first_held held ≤ length
       (all_held held) → EndsWith keeps held body ending → ending_between (list_held held) (requests body) ≡ ending
   ending_is held body Nothing within is = ap (ending_between (list_held held)) is.2 ∙ between_same (list_held held)

@@ -1,4 +1,4 @@
--- What the last state of a board leaves.
+-- The result of a board's last state.
 use Rattle.std.proofs.Common.{◌≡◌, ◌≢◌, append_assoc, ℕ, zero, suc, ◌<◌, ◌^◌, Bool, true, false, List, [], ◌∷◌, ◌++◌}
 use Rattle.std.proofs.Common.{length, refl, sym, ap, ◌∙◌, subst, arith, ⊎_elim}
 use Rattle.std.specs.Prelude.{Option, Some, None, reverse, slice_index, slice_index_or, slice_set, if◌then◌else◌}
@@ -23,7 +23,8 @@ use Rattle.sm_rule.specs.Closing.{AreLeft, AreTaken, AreWords, IsTaken, WasClose
 use Rattle.sm_rule.specs.Passes.{PassValue}
 use Rattle.sm_rule.specs.Views.{IsMet, Looks}
 use Rattle.sm_rule.specs.Rule.{IsTrueView, RuleHolds, Rule, table_in}
-use Rattle.sm_rule.proofs.Keeping.{at_last, in_order, legal_all, length-table, others_all, sees, word_at}
+use Rattle.sm_rule.proofs.Keeping.{in_order, legal_all, length-table, others_all, sees, word_at}
+use Rattle.sm_rule.proofs.Places.{at_last}
 
 -- a word of a list, and its place
 index_at : (words : List ℕ) (at word : ℕ) → get_elem? words at ≡ some word → slice_index words at ≡ word
@@ -47,7 +48,7 @@ taken_pushed {S} words slots rows row taken next shard other at =
     (λ (pair : ℕ × (Record × Option S)). IsTaken words slots pair.0 pair.1) (λ i. (sym last.0 i, last.1 i)) next)
     (at_last rows row other shard at)
 
--- a word that has a record, and the record that was made of it
+-- a word that has a record, and the record made from it
 pub word_taken : (words : List ℕ) → AreWords words → (shard word : ℕ) (state : Record)
     → get_elem? words shard ≡ some word → ((one : Record) → IsWellFormed one → word_of one ≡ word → state ≡ one)
     → IsWellFormed state × (get_elem? words shard ≡ some (word_of state))
@@ -90,7 +91,7 @@ module _ {S Q : Type 0} (rests : S → ℕ → List Q → Type 0) (limit : S →
   words_many = ap length (sym last.2)
       ∙ (ap length holds.words_are ∙ (length-map (table_in limits history) word_of ∙ length-table limits history))
 
-  -- a row that was taken is what is left of its shard
+  -- a row that was taken is the rest of its shard
   row_left : (rows : List (Record × Option S)) → AreTaken words slots rows → (shard : ℕ) (row : Record × Option S)
       → get_elem? rows shard ≡ some row
       → (row.0 ≡ record_at (table_in limits history) shard) × (row.0.admitted ≡ true → row.1 ≡ None)
@@ -116,7 +117,7 @@ module _ {S Q : Type 0} (rests : S → ℕ → List Q → Type 0) (limit : S →
     abbrev fit : IsTrueView limits id view history
     fit = holds.fit id view last.1.1 live
 
-    -- what the control's seat had seen, and what came later, is the whole
+    -- the history that the control's seat had seen, and the later part, make up the whole
     whole : reverse history ≡ view.seen ++ reverse fit.later
     whole = in_order fit.later view.seen history fit.seen
 
@@ -170,7 +171,7 @@ module _ {S Q : Type 0} (rests : S → ℕ → List Q → Type 0) (limit : S →
                 (λ i. (same i, after_first i)) (all_left rows taken many),
           )
 
-  -- the same of a chair that acts, and has taken in the pass's seat
+  -- the same for an acting chair that has taken in the pass's seat
   pub was_closed : (first : View Q) (pass : PassValue Q) → Looks first view → first.stage ≡ Acting → first.number ≡ 0
       → IsMet pass.number pass.seen view.seen → (board : TableId) (rows : List (Record × Option S))
       → AreTaken words slots rows → length rows ≡ limits.count

@@ -1,4 +1,4 @@
--- What the store that ends an admission tells of the pass and of the body.
+-- The effect on the pass and on the body of the store that ends an admission.
 use Rattle.std.proofs.Common.{◌≡◌, ℕ, List, sym, ap, ◌∙◌, subst}
 use Rattle.std.specs.Prelude.{Option}
 use Rattle.atomic_table.specs.Seated.{TableId}

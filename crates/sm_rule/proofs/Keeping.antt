@@ -1,6 +1,6 @@
 -- The steps on a board keep its rule.
 use Rattle.std.proofs.Common.{◌≡◌, ◌≢◌, ℕ, zero, suc, ◌<◌, ◌≤◌, ◌^◌, true, false, not, List, [], ◌∷◌, ◌++◌, length}
-use Rattle.std.proofs.Common.{replicate, refl, sym, ap, ◌∙◌, subst, arith, le_refl, length-append, inl, inr, ◌⊎◌}
+use Rattle.std.proofs.Common.{replicate, refl, sym, ap, ◌∙◌, subst, arith, le_refl, length-append}
 use Rattle.std.proofs.Common.{⊎_elim}
 use Rattle.std.specs.Prelude.{All, IfSome, Option, Some, None, map, reverse, slice_index, slice_index_or, slice_set}
 use Rattle.std.specs.Prelude.{◌==◌}
@@ -18,7 +18,7 @@ use prog.Atomic.{either}
 use Rattle.atomic_table.specs.Table.{State, Me, step, Act, keeps, takes, gives, Enters, Allows, Valid, carried_after}
 use Rattle.atomic_table.specs.Table.{homes_after, rest, stepped, opening}
 use Rattle.atomic_table.specs.Seated.{TableId}
-use Rattle.atomic_table.proofs.Lists.{at_longer, at_set, exchanged, set_else, set_here}
+use Rattle.atomic_table.proofs.Lists.{at_longer, exchanged, set_else, set_here}
 use Rattle.sm_ownership.specs.declared.change.Change.{Change}
 use Rattle.sm_ownership.specs.declared.entry.Ending.{Ending}
 use Rattle.sm_ownership.specs.declared.entry.Ending.TheVariants.{Nothing}
@@ -51,6 +51,8 @@ use Rattle.sm_rule.specs.Rule.{AreHome, AreHeard, IsTrueView, RuleHolds, IsHoldi
 use Rattle.sm_rule.specs.Steps.{Entered, Exchanged, IsFree, IsWordAt, Loaded, MayAdd, Stored, TakesBody, is_end}
 use Rattle.sm_rule.specs.Views.{Adds, EndsWith, Looks, adding, all_held, entry_of, first_held, held_after, left_behind}
 use Rattle.sm_rule.specs.Views.{newcomer, record_in, seeing}
+use Rattle.sm_rule.proofs.Parents.{names_none, parents_pushed, parents_same}
+use Rattle.sm_rule.proofs.Places.{at_end, none_some, views_pushed, views_set}
 use Rattle.sm_rule.proofs.Bodies.{held_bounds, rests_after, rests_at}
 use Rattle.sm_rule.proofs.Requests.{all_here, all_there, first_here, first_there}
 
@@ -58,34 +60,20 @@ use Rattle.sm_rule.proofs.Requests.{all_here, all_there, first_here, first_there
 pub low_ceiling : (key origin : ℕ) → key ≡ origin → origin < 2 ^ 36 → key < 2 ^ 36
 low_ceiling key origin same low = omega arith
 
-pub none_some : {X : Type 0} (x : X) → None ≡ Some x → ⊥
-none_some x is = absurd (cc)
-
--- the views after one of them is set
-pub views_set : {Q : Type 0} (P : ℕ → View Q → Type 0) (views : List (View Q)) (id : ℕ) (mine : View Q)
-    → ((n : ℕ) (view : View Q) → n ≢ id → get_elem? views n ≡ some view → P n view) → P id mine
-    → (n : ℕ) (view : View Q) → get_elem? (slice_set views id mine) n ≡ some view → P n view
-views_set P views id mine others here n view at =
-    ⊎_elim
-    (λ (same : (n ≡ id) × (mine ≡ view)). subst (λ (pair : ℕ × View _). P pair.0 pair.1)
-    (λ i. (sym same.0 i, same.1 i)) here)
-    (λ (other : (n ≢ id) × (get_elem? views n ≡ some view)). others n view other.0 other.1)
-    (at_set views id n mine view at)
-
 pub acting_uncut : (stage : Stage) → stage ≡ Acting → stage ≡ Cut → ⊥
 acting_uncut stage acts cut = absurd (cc)
 
 pub acting_unjoined : (stage : Stage) → stage ≡ Acting → stage ≡ Joined → ⊥
 acting_unjoined stage acts joined = absurd (cc)
 
--- a seat that isn't joined is none that was taken in
+-- a seat that isn't joined is not one that was taken in
 apart_joined : {Q : Type 0} (views : List (View Q)) (by id : ℕ) (view : View Q) → get_elem? views by ≡ some left_behind
     → get_elem? views id ≡ some view → (view.stage ≡ Joined → ⊥) → by ≢ id
 apart_joined views by id view joined at live same =
     live (ap (λ (one : View _). one.stage)
     (some-injective view left_behind (sym at ∙ (ap (get_elem? views) (sym same) ∙ joined))))
 
--- what seats were told, once another that isn't joined has another view, and was told the same
+-- the knowledge that seats were told, after another seat, which isn't joined, has another view and was told the same
 pub told_set : {Q : Type 0} (views : List (View Q)) (id : ℕ) (before after : View Q) (history : List (Entry Q))
     → get_elem? views id ≡ some before → (before.stage ≡ Joined → ⊥)
     → ((heard : Heard Q) → after.heard ≡ Some heard → before.heard ≡ Some heard) → AreHeard views history
@@ -118,33 +106,6 @@ told_added views entry view history at live are n one there heard is =
       joined = before.joined;
     }
 
--- a seat isn't past the end
-pub at_end : {Q : Type 0} (n id : ℕ) (views : List (View Q)) (view : View Q) → get_elem? views id ≡ some view
-    → length views ≤ n → n ≡ id → ⊥
-at_end n id [] view at past is = some-ne-none view (sym at)
-at_end zero id (one ∷ views) view at past is = omega arith
-at_end (suc n) zero (one ∷ views) view at past is = absurd (cc)
-at_end (suc n) (suc id) (one ∷ views) view at past is = at_end n id views view at (omega arith) (omega arith)
-
-pub at_last : {A : Type 0} (views : List A) (mine view : A) (n : ℕ) → get_elem? (views ++ mine ∷ []) n ≡ some view
-    → (get_elem? views n ≡ some view) ⊎ ((n ≡ length views) × (mine ≡ view))
-at_last [] mine view zero at = inr (refl, some-injective mine view at)
-at_last [] mine view (suc n) at = absurd (some-ne-none view (sym at))
-at_last (one ∷ views) mine view zero at = inl at
-at_last (one ∷ views) mine view (suc n) at = ⊎_elim inl
-    (λ (last : (n ≡ length views) × (mine ≡ view)). inr (ap suc last.0, last.1)) (at_last views mine view n at)
-
--- the views and one more
-pub views_pushed : {Q : Type 0} (P : ℕ → View Q → Type 0) (views : List (View Q)) (mine : View Q)
-    → ((n : ℕ) (view : View Q) → get_elem? views n ≡ some view → P n view) → P (length views) mine
-    → (n : ℕ) (view : View Q) → get_elem? (views ++ mine ∷ []) n ≡ some view → P n view
-views_pushed P views mine others here n view at =
-    ⊎_elim
-    (λ (before : get_elem? views n ≡ some view). others n view before)
-    (λ (last : (n ≡ length views) × (mine ≡ view)). subst (λ (pair : ℕ × View _). P pair.0 pair.1)
-    (λ i. (sym last.0 i, last.1 i)) here)
-    (at_last views mine view n at)
-
 pub told_pushed : {Q : Type 0} (views : List (View Q)) (mine : View Q) (history : List (Entry Q)) → mine.heard ≡ None
     → AreHeard views history → AreHeard (views ++ mine ∷ []) history
 told_pushed {Q} views mine history untold are =
@@ -160,7 +121,7 @@ told_pushed {Q} views mine history untold are =
     })
     (λ heard is. absurd (none_some heard (sym untold ∙ is)))
 
--- what was seen, and what came later, in order
+-- the seen history and the later part, in order
 pub in_order : {Q : Type 0} (later seen history : List (Entry Q)) → later ++ reverse seen ≡ history
     → reverse history ≡ seen ++ reverse later
 in_order later seen history whole = ap reverse (sym whole)
@@ -229,7 +190,7 @@ word_seen limits history its shard word same is low legal known = (
   subst IsWellFormed (sym same) (well_formed limits.count limits.ceiling history shard low legal known),
 )
 
--- a look changes the looking seat's view alone
+-- a look changes only the looking seat's view
 pub look_keeps : {S Q : Type 0} (rests : S → ℕ → List Q → Type 0) (limit : S → ℕ) (limits : Limits) (id word : ℕ)
     (words : List ℕ) (homes : List (math.Option (Option S))) (views : List (View Q)) (history : List (Entry Q))
     (view : View Q) → RuleHolds rests limit limits words homes views history → get_elem? views id ≡ some view
@@ -250,6 +211,8 @@ look_keeps rests limit limits id word words homes views history view holds at li
           (λ n one apart there. holds.cut n one there) (λ is. absurd (acting_uncut view.stage live is));
       heard = told_set views id view (seeing view (reverse history)) history at (acting_unjoined view.stage live)
           (λ heard is. is) holds.heard;
+      parents = parents_same views id view (seeing view (reverse history)) at (acting_unjoined view.stage live)
+          (le_refl view.cuts) (λ parent names. names) holds.parents;
       unused = λ n past. holds.unused n (subst (λ many. many ≤ n) long past);
       chaired = subst (λ many. 0 < many) (sym long) holds.chaired;
     }
@@ -292,8 +255,8 @@ module _ {Q : Type 0} (limits : Limits) (entry : Entry Q) (history : List (Entry
   record_adds : record_at (table_in limits (entry ∷ history)) entry.shard ≡ after
   record_adds = record_at-latest limits.count limits.ceiling entry history fit
 
--- what a seat holds stays held while others add entries
-held_stays : {Q : Type 0} (limits : Limits) (number : ℕ) (held : HeldShard Q) (entry : Entry Q)
+-- a seat's hold stays while others add entries
+pub held_stays : {Q : Type 0} (limits : Limits) (number : ℕ) (held : HeldShard Q) (entry : Entry Q)
     (history : List (Entry Q)) → IsLegalLatest limits.count limits.ceiling (entry ∷ history) → held.shard ≢ entry.shard
     → IsHolding limits number held history → IsHolding limits number held (entry ∷ history)
 held_stays limits number held entry history legal apart is =
@@ -332,7 +295,7 @@ fits_other limits number view entry history legal apart fit = record {
       held.shard number legal.0 (λ same. apart (sym same)) busy before.own) before;
 }
 
--- and that of a seat that was cut off
+-- and the view of a seat that was cut off
 cut_added : {Q : Type 0} (limits : Limits) (number : ℕ) (view : View Q) (entry : Entry Q) (history : List (Entry Q))
     → number ≢ entry.actor → IsCut limits number view history → IsCut limits number view (entry ∷ history)
 cut_added limits number view entry history apart is = record {
@@ -347,7 +310,7 @@ cut_added limits number view entry history apart is = record {
 pub same_some : {X : Type 0} (x y : X) → Some x ≡ Some y → x ≡ y
 same_some x y is = cc
 
--- what is held of a shard after these entries, the latest first, which are this history
+-- the hold of a shard after these entries, the latest first, which are this history
 abbrev held_now : {Q : Type 0} → Limits → ℕ → List (Entry Q) → List (Entry Q) → HeldShard Q
 held_now limits shard entries history = record {
   shard = shard;
@@ -383,7 +346,7 @@ module _ {Q : Type 0} (limits : Limits) (number shard : ℕ) (view : View Q) (hi
   abbrev mine : Kind Q → View Q
   mine kind = adding view shard kind (reverse (longer kind))
 
-  -- what it then holds, as its limits say it
+  -- its hold then, by its limits
   held_is : (kind : Kind Q) → held_after view.limits shard kind (reverse (longer kind)) view.held
       ≡ held_after limits shard kind (reverse (longer kind)) view.held
   held_is kind = ap (λ (its : Limits). held_after its shard kind (reverse (longer kind)) view.held) before.limits_are
@@ -457,7 +420,7 @@ home_other rests limit limits homes slot entry history home fit shard within apa
     (sym (first_there entry history shard apart)) (sym (all_there entry history shard apart)) before.2 in
     (before.0, set_else homes entry.shard shard slot apart ∙ before.1, stays, before.3)
 
--- a body that rests on what an entry makes of its shard's requests
+-- a body that rests on the requests that an entry leaves for its shard
 rests_here : {S Q : Type 0} (rests : S → ℕ → List Q → Type 0) (body : S) (entry : Entry Q) (history : List (Entry Q))
     (ending : Ending Q) → ending_of entry.kind ≡ ending
     → rests body (first_after (first_of (reverse history) entry.shard) (all_of (reverse history) entry.shard) ending)
@@ -471,14 +434,14 @@ rests_here rests body entry history ending ends is =
     (sym (first_here entry history ∙ ap (first_after first all) ends))
     (sym (all_here entry history ∙ ap (all_after all) ends)) is
 
--- the same where the shard is called otherwise
+-- the same if the shard has another name
 rests_named : {S Q : Type 0} (rests : S → ℕ → List Q → Type 0) (body : S) (history : List (Entry Q)) (shard name : ℕ)
     → shard ≡ name → rests body (first_of history shard) (all_of history shard)
     → rests body (first_of history name) (all_of history name)
 rests_named rests body history shard name same is =
     subst (λ k. rests body (first_of history k) (all_of history k)) same is
 
--- a change and an admission fit an idle record alone
+-- a change and an admission fit only an idle record
 idle_changed : (ceiling : ℕ) (state : Record) (number : ℕ) (change : Change)
     → change_fits ceiling state number change ≡ true → state.admitted ≡ false
 idle_changed ceiling state number change fit =
@@ -533,7 +496,7 @@ module _ {S Q : Type 0} (rests : S → ℕ → List Q → Type 0) (limit : S →
       (there.0, sym (set_else homes entry.shard shard none apart) ∙ there.1, there.2, there.3))
       (cases_eq shard entry.shard)
 
-  -- the end of an admission brings the body home, with what it has gained
+  -- the end of an admission brings the body home, with its new request
   home_ended : (entry : Entry Q) (ending : Ending Q) (body : S) → entry.kind ≡ Done ending → entry.shard < length homes
       → rests body (first_after (first_of (reverse history) entry.shard) (all_of (reverse history) entry.shard) ending)
       (all_after (all_of (reverse history) entry.shard) ending) → limit body ≡ limit_at limits entry.shard
@@ -585,6 +548,8 @@ adds_keep rests limit limits id word new words homes later views history view ki
           (λ is. absurd (acting_uncut view.stage live is));
       heard = told_set views id view mine (entry ∷ history) at (acting_unjoined view.stage live) (λ heard is. is)
           (told_added views entry view history at (acting_unjoined view.stage live) holds.heard);
+      parents = parents_same views id view mine at (acting_unjoined view.stage live) (le_refl view.cuts)
+          (λ parent names. names) holds.parents;
       unused = λ n past.
           let before : length views ≤ n = subst (λ many. many ≤ n) long past in
           All-cons (λ one. one.actor ≢ n) entry history (λ is. at_end n id views view at before (sym is))
@@ -599,7 +564,7 @@ fit_by_view limits id view history fit =
     subst (λ (pair : Limits × ℕ). IsTrueView pair.0 pair.1 view history)
     (λ i. (sym fit.limits_are i, sym fit.number_is i)) fit
 
--- an entry of a shard of the board fits where its kind does
+-- an entry of a shard of the board fits if its kind does
 fits_kind : {Q : Type 0} (limits : Limits) (id word : ℕ) (history : List (Entry Q)) (kind : Kind Q) → word
     < limits.count → kind_fits limits.ceiling history (record_at (table_in limits history) word) id word kind ≡ true
     → fits limits.ceiling history (table_in limits history) (entry_of id word kind) ≡ true
@@ -607,12 +572,12 @@ fits_kind limits id word history kind within fit =
     and_from _ _
     (lt-ltb word (length (table_in limits history)) (let long = length-table limits history in omega arith)) fit
 
--- an entry that may come by an exchange, and the record that it is made of
+-- an entry that may come by an exchange, and the record from which it is made
 module _ {S Q : Type 0} (rests : S → ℕ → List Q → Type 0) (limit : S → ℕ) (limits : Limits)
     (homes : List (math.Option (Option S))) (history : List (Entry Q)) (number word : ℕ) (view : View Q)
     (carried : List (ℕ × Option S)) (within : word < limits.count) (limits_are : view.limits ≡ limits)
     (long : length homes ≡ limits.count) (home : AreHome rests limit limits homes history) where
-  -- what the slots become by it
+  -- the slots after it
   pub record Moves (kind : Kind Q) : Type 0 where
     pub act : Act (Option S)
     pub valid : Valid homes carried act
@@ -653,7 +618,7 @@ module _ {S Q : Type 0} (rests : S → ℕ → List Q → Type 0) (limit : S →
       }
   moves (Done ending) begins fit fitting = absurd (true≢false begins)
 
--- an exchange of a seat's, which adds an entry where it finds the word expected, and else looks
+-- an exchange of a seat, which adds an entry if it finds the expected word, and otherwise looks
 module _ {S Q : Type 0} (rests : S → ℕ → List Q → Type 0) (limit : S → ℕ) (limits : Limits) (slots id word old new : ℕ)
     (me : Me (Option S) (View Q)) (kind : Kind Q) where
   abbrev Tells : ℕ → Me (Option S) (View Q) → Type 0
@@ -667,7 +632,7 @@ module _ {S Q : Type 0} (rests : S → ℕ → List Q → Type 0) (limit : S →
       → Loaded (step {S = Option S} slots word old new none) me found after → Tells found after
   lost_tells found later miss lost = ((λ hit. absurd (miss hit)), (λ _. lost))
 
-  -- what it leaves of a table, where the word becomes n
+  -- the table after it, if the word becomes n
   abbrev Leaves : State (Option S) (View Q) → ℕ → Type 0
   Leaves table n =
       (view : View Q) × (act : Act (Option S)) × Valid table.homes me.1 act × Rule rests limit limits
@@ -889,6 +854,8 @@ enters {S} {Q} rests limit limits slots word server first same table rule size s
           cut = views_pushed (λ m one. one.stage ≡ Cut → IsCut limits m one history) table.views mine holds.cut
               (λ is. absurd (acting_uncut Acting refl is));
           heard = told_pushed table.views mine history refl holds.heard;
+          parents = parents_pushed table.views mine
+              (λ parent names. absurd (names_none mine parent refl refl names)) holds.parents;
           unused = λ m past. holds.unused m (omega arith);
           chaired = omega arith;
         },
@@ -938,6 +905,8 @@ begins {S} {Q} rests limit limits words bodies slots are many sizes put empty = 
     cut = λ n view at is. absurd (acting_uncut view.stage (ap (λ (one : View Q). one.stage) (only n view at)) is);
     heard =
         λ n view at heard is. absurd (none_some heard (sym (ap (λ (one : View Q). one.heard) (only n view at)) ∙ is));
+    parents = λ n view at parent names. absurd (names_none view parent
+        (ap (λ (one : View Q). one.parent) (only n view at)) (ap (λ (one : View Q). one.heard) (only n view at)) names);
     unused = λ n past. All-nil (λ one. one.actor ≢ n);
     chaired = omega arith;
   },
@@ -969,7 +938,7 @@ carries_body {S} {Q} me view carried at shard body out slots =
     out ∙ ap (λ (all : List (ℕ × Option S)). (view, (at, Some body) ∷ rest all)) slots
 
 -- the store that spends a permit
-held_some : {Q : Type 0} (held : Option (HeldShard Q)) (shard : ℕ) (state : Record)
+pub held_some : {Q : Type 0} (held : Option (HeldShard Q)) (shard : ℕ) (state : Record)
     → option_map {U = ℕ × Record} (λ (one : HeldShard Q). (one.shard, one.state)) held ≡ Some (shard, state)
     → (one : HeldShard Q) × (held ≡ Some one) × (one.shard ≡ shard) × (one.state ≡ state)
 held_some None shard state is = absurd (none_some (shard, state) is)

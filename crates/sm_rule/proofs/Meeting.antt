@@ -1,9 +1,10 @@
 -- A seat that takes in another keeps the rule, and so does the load that looks at the history then.
-use Rattle.std.proofs.Common.{◌≡◌, ◌≢◌, ℕ, zero, suc, ◌<◌, ◌≤◌, List, [], ◌∷◌, length, refl, sym, ap, ◌∙◌, subst, arith}
+use Rattle.std.proofs.Common.{◌≡◌, ◌≢◌, ℕ, ◌<◌, ◌≤◌, List, refl, sym, ap, ◌∙◌, subst}
+use Rattle.std.proofs.Common.{inl, inr, ⊎_elim, le_refl}
 use Rattle.std.specs.Prelude.{Option, Some, reverse, slice_set}
-use Rattle.std.proofs.lemmas.List.{length-set}
+use Rattle.std.proofs.lemmas.List.{length-set, reverse-reverse}
 use mathlib.Core.Option as math
-use mathlib.Core.Option.{some, none, some-injective, some-ne-none}
+use mathlib.Core.Option.{some, none, some-injective}
 use lib.ListN.{get_elem?}
 use Rattle.atomic_table.specs.Table.{Me, step, keeps, Allows, Joins}
 use Rattle.atomic_table.proofs.Lists.{set_else, set_here}
@@ -13,23 +14,21 @@ use Rattle.sm_ownership.specs.lemmas.Lasting.{NoneBy-reverse}
 use Rattle.sm_rule.specs.declared.limits.Limits.{Limits}
 use Rattle.sm_rule.specs.declared.view.Stage.TheVariants.{Acting, Cut, Joined}
 use Rattle.sm_rule.specs.declared.view.Heard.{Heard}
+use Rattle.sm_rule.specs.declared.view.Parent.{Parent}
 use Rattle.sm_rule.specs.declared.view.View.{View}
-use Rattle.sm_rule.specs.Rule.{AreHeard, IsTrueView, RuleHolds, IsCut, Rule, IsHeard}
+use Rattle.sm_rule.specs.Rule.{AreHeard, AreParents, IsCut, IsHeard, IsHolding, IsParent, IsTrueView, Names, Rule}
+use Rattle.sm_rule.specs.Rule.{RuleHolds}
 use Rattle.sm_rule.specs.Steps.{Met}
 use Rattle.sm_rule.specs.Views.{informed, left_behind, seeing}
-use Rattle.sm_rule.proofs.Keeping.{acting_uncut, in_order, look_keeps, looks_all, same_some, views_set}
+use Rattle.sm_rule.proofs.Keeping.{acting_uncut, acting_unjoined, in_order, look_keeps, looks_all, same_some}
+use Rattle.sm_rule.proofs.Parents.{names_none, parents_set}
+use Rattle.sm_rule.proofs.Places.{below_end, views_set}
 
 joined_unacting : Joined ≡ Acting → ⊥
 joined_unacting is = absurd (cc)
 
 joined_uncut : Joined ≡ Cut → ⊥
 joined_uncut is = absurd (cc)
-
-below_end : {Q : Type 0} (views : List (View Q)) (n : ℕ) (view : View Q) → get_elem? views n ≡ some view
-    → n < length views
-below_end [] n view at = absurd (some-ne-none view (sym at))
-below_end (one ∷ views) zero view at = omega arith
-below_end (one ∷ views) (suc n) view at = let below = below_end views n view at in omega arith
 
 -- a seat that acts takes in another
 module _ {S Q : Type 0} (rests : S → ℕ → List Q → Type 0) (limit : S → ℕ) (limits : Limits) (words : List ℕ)
@@ -62,8 +61,8 @@ module _ {S Q : Type 0} (rests : S → ℕ → List Q → Type 0) (limit : S →
         held = fit.held;
       }
 
-  -- what the seat is told of the other
-  tells : IsHeard last (record { by = one.number; seen = one.seen }) history
+  -- the seat is told this about the other
+  tells : IsHeard last (record { by = one.number; seen = one.seen; parent = one.parent }) history
   tells =
       let fit = holds.fit other one there alive in
       record {
@@ -97,6 +96,23 @@ module _ {S Q : Type 0} (rests : S → ℕ → List Q → Type 0) (limit : S →
       n it at_first)
       (λ heard is. absurd (cc))
 
+  -- the names after it
+  names_both : (parent : Parent) → Names both parent → IsParent views parent
+  names_both parent names =
+      ⊎_elim
+      (λ (its : view.parent ≡ Some parent). holds.parents id view at parent (inl its))
+      (λ (told : (heard : Heard Q) × (both.heard ≡ Some heard) × (heard.parent ≡ Some parent)).
+      holds.parents other one there parent
+      (inl (ap (λ (heard : Heard Q). heard.parent) (same_some _ told.0 told.1) ∙ told.2)))
+      names
+
+  parents_last : AreParents last
+  parents_last =
+      parents_set first other one left_behind found (inl refl)
+      (λ parent names. absurd (names_none left_behind parent refl refl names))
+      (parents_set views id view both at (inr (acting_unjoined view.stage live, le_refl view.cuts)) names_both
+      holds.parents)
+
   joined : RuleHolds rests limit limits words homes last history
   joined =
       let long = length-set first other left_behind ∙ length-set views id both in
@@ -116,6 +132,7 @@ module _ {S Q : Type 0} (rests : S → ℕ → List Q → Type 0) (limit : S →
             (λ is. absurd (acting_uncut view.stage live is)) n it at_first)
             (λ is. absurd (joined_uncut is));
         heard = told_both;
+        parents = parents_last;
         unused = λ n past. holds.unused n (subst (λ many. many ≤ n) long past);
         chaired = subst (λ many. 0 < many) (sym long) holds.chaired;
       }
@@ -133,7 +150,7 @@ joins rests limit limits id other view one live alive table rule at apart there 
 pub meets : {S Q : Type 0} (rests : S → ℕ → List Q → Type 0) (limit : S → ℕ) (limits : Limits) (slots id word : ℕ)
     (me : Me (Option S) (View Q)) → me.0.stage ≡ Acting
     → Allows (Rule rests limit limits) slots id me word (λ n. n) (Met (step {S = Option S} slots word 0 0 none) me)
-meets rests limit limits slots id word me live table rule size at small =
+meets {S} {Q} rests limit limits slots id word me live table rule size at small =
     let history = rule.0 in
     let holds = rule.1 in
     let fit = holds.fit id me.0 at live in (
@@ -149,6 +166,14 @@ meets rests limit limits slots id word me live table rule size at small =
               in_order tells.later heard.seen history tells.seen,
               NoneBy-reverse heard.by tells.later tells.others,
             )),
+        (λ held is. subst (λ (it : Limits × ℕ × List (Entry Q)). IsHolding it.0 it.1 held it.2)
+            (λ i. (sym fit.limits_are i, sym fit.number_is i, sym (reverse-reverse history) i)) (fit.held held is)),
+        (λ heard is parent of same.
+            let cuts = holds.parents id me.0 at parent (inr (heard, is, of)) in
+            ⊎_elim
+            (λ (joined : me.0.stage ≡ Joined). absurd (acting_unjoined me.0.stage live joined))
+            (λ (fewer : parent.cuts ≤ me.0.cuts). fewer)
+            (cuts.1 me.0 (ap (get_elem? table.views) (same ∙ fit.number_is) ∙ at))),
         refl,
       ),
     )

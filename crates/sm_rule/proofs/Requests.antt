@@ -34,7 +34,7 @@ module _ {Q : Type 0} (history : List (Entry Q)) (entry : Entry Q) where
 
 -- below, histories have the latest entry first
 
--- what an entry makes of the requests of its shard
+-- the requests of its shard after an entry
 module _ {Q : Type 0} (entry : Entry Q) (history : List (Entry Q)) where
   pub all_here : all_of (reverse (entry ∷ history)) entry.shard
       ≡ all_after (all_of (reverse history) entry.shard) (ending_of entry.kind)
@@ -46,7 +46,7 @@ module _ {Q : Type 0} (entry : Entry Q) (history : List (Entry Q)) where
   first_here = ap (λ entries. first_of entries entry.shard) (reverse-append (entry ∷ []) history)
       ∙ first_pushed (reverse history) entry (ending_of entry.kind) refl
 
-  -- and of those of another shard: nothing
+  -- and those of another shard, which it doesn't change
   module _ (shard : ℕ) (apart : shard ≢ entry.shard) where
     differs : (entry.shard == shard) ≡ false
     differs = ne_eqb entry.shard shard (λ equal. apart (sym equal))

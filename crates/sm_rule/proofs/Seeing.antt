@@ -1,4 +1,4 @@
--- What the steps of one call tell together, and what they ask.
+-- The combined knowledge from the steps of one call, and their requirements.
 use Rattle.std.proofs.Common.{◌≡◌, ◌≢◌, ℕ, ◌+◌, ◌<◌, ◌≤◌, ◌^◌, true, false, not, ◌&&◌, List, [], ◌∷◌, ◌++◌, refl, sym}
 use Rattle.std.proofs.Common.{ap, ◌∙◌, subst, arith, ⊎_elim}
 use Rattle.std.specs.Prelude.{IfSome, Option, Some, None, is_none, is_some, length, nat_le, slice_index_or, slice_set}
@@ -47,7 +47,7 @@ use Rattle.sm_rule.proofs.Requests.{all_within}
 abbrev board_with : TableId → Limits → BoardValue
 board_with id limits = record { id = id; limits = limits }
 
--- what a call knows of a board from its value
+-- the knowledge of a call about a board from its value
 module _ (id : TableId) (limits : Limits) (value : BoardValue) (view : board_with id limits ≡ value) where
   pub same_table : (seat : TableId) → seat ≡ value.id → seat ≡ id
   same_table seat is = is ∙ sym (ap (λ (board : BoardValue). board.id) view)
@@ -123,7 +123,7 @@ fault_some (Forwarding owner next) none = absurd (cc)
 fault_some (Taken owner previous) none = absurd (cc)
 fault_some (Paused owner) none = absurd (cc)
 
--- the fault that was found is that of a server, and there is none
+-- the found fault is that of a server, and there is none
 pub of_server : (ceiling : ℕ) (state : Record) (server : Option ℕ) (mode : Mode) (found : Option AdmitFault)
     → found ≡ fault_for ceiling state server mode → found ≡ None
     → (one : ℕ) × (server ≡ Some one) × (admit_fault ceiling state one mode ≡ None)
@@ -188,8 +188,7 @@ may_change view shard state change known chair free idle below leads = record {
       (and_from _ _ (ap not idle) (and_from _ _ (lt-ltb state.generation view.limits.ceiling below) leads));
 }
 
--- a change without a fault leads on
--- a change that leads to a stand is allowed
+-- an allowed change leads to the stand to which a change without a fault leads
 pub allowed_to : (at : Stand) (change : Change) (stand : Stand) → stand_after at change ≡ Some stand
     → phase_fault at change ≡ None
 allowed_to at change stand leads = rw leads refl
@@ -320,9 +319,9 @@ module _ {Q : Type 0} (before : ChairValue Q) (id later : TableId) (u w : View Q
       subst (λ n. Grows u.limits u.number u.seen w.seen (entry_of n shard (Changed change) ∷ [])) chair added.0 in
       at_chair (entry_of 0 shard (Changed change) ∷ []) grows (ap (λ (view : View Q). view.limits) added.1)
 
--- the stands that the chair keeps
+-- the stands in the chair
 module _ {Q : Type 0} (stands : List Stand) (u w : View Q) (is : IsChairView stands u) where
-  -- others change none
+  -- other actors change none
   stand_kept : (others : List (Entry Q)) (shard : ℕ) → IsLegal u.limits.count u.limits.ceiling (u.seen ++ others)
       → NoneBy u.number others
       → slice_index_or stands shard Vacant ≡ (record_in u.limits (u.seen ++ others) shard).stand
@@ -378,7 +377,7 @@ module _ {Q : Type 0} (stands : List Stand) (u w : View Q) (is : IsChairView sta
       subst (IsChairView (slice_set stands shard next.stand)) (sym added.1)
       (is.0, is.1, is.2, (length-set stands shard next.stand ∙ is.3.0, known), added.0.3)
 
--- what the chair has read
+-- the record that the chair has read
 module _ {Q : Type 0} (stands : List Stand) (u w : View Q) (is : IsChairView stands u) (looked : Looks u w) (shard : ℕ)
     (read : Record) (change : Change) (state : read ≡ record_in w.limits w.seen shard) where
   stand_read : read.stand ≡ (record_in u.limits u.seen shard).stand
@@ -442,7 +441,7 @@ module _ {Q : Type 0} (stands : List Stand) (u w : View Q) (is : IsChairView sta
         (sym of_chair) allowed in
         subst (MayAdd w shard read) (sym is_change) (may_read known fits idle below_seat)
 
--- what a won exchange leaves of the chair
+-- the chair after a won exchange
 pub chair_made : {S Q : Type 0} (rests : S → ℕ → List Q → Type 0) (limit : S → ℕ) (stands : List Stand) (u v w : View Q)
     (id : TableId) (value : ChairValue Q) (board : BoardValue) (kind : Kind Q) (change : Change) (shard at room : ℕ)
     (next : Record) (one two three : List (ℕ × Option S))
@@ -565,7 +564,7 @@ module _ {Q : Type 0} (u : View Q) (server : Option ℕ) (value : PassValue Q) (
       pass_holds server v w shard free.0 mode me admitted
       (subst (λ (its : Limits). shard < its.count) (sym limits) within) (pass_looks server u v looked is) out
 
-  -- what the pass then holds
+  -- the hold of the pass after it
   pub held_taken : {S : Type 0} (v w : View Q) (kind : Kind Q) (shard : ℕ) (me : View Q × List (ℕ × Option S))
       (carried : List (ℕ × Option S)) → kind ≡ Admit (unwrap_or value.server 0) mode → Adds v shard kind w
       → me ≡ (w, carried)

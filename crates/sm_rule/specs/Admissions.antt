@@ -1,4 +1,4 @@
--- What an admission on a board is refused for.
+-- The reasons for which an admission on a board is refused.
 use Rattle.std.specs.Prelude.{ℕ, ◌≡◌, ◌<◌, List, Option, Some, None}
 use Rattle.std.specs.Option.{option_map}
 use Rattle.sm_ownership.specs.declared.admit_fault.AdmitFault.{AdmitFault}
@@ -16,13 +16,13 @@ use Rattle.sm_rule.specs.Passes.{PassAdds, PassValue, record_of}
 use Rattle.sm_rule.specs.Views.{Begins, record_in}
 use Rattle.sm_rule.specs.Words.{IsWordOf}
 
--- the first reason for which a record doesn't admit a server, or who has none
+-- the first reason for which a record doesn't admit a server, or a pass without a server
 abbrev pub fault_for : ℕ → Record → Option ℕ → Mode → Option AdmitFault
 fault_for ceiling state None mode = fault_at state.stand (Some NotExecutor)
 fault_for ceiling state (Some server) mode = admit_fault ceiling state server mode
 
--- an exchange was lost: `read` stood at a point between what had been seen and what is seen now, and `found`, of a
--- greater generation, stands now
+-- an exchange was lost: `read` was the record at a point between the earlier and the present view, and `found`, of a
+-- greater generation, is the record now
 abbrev pub Races : {Q : Type 0} → Limits → List (Entry Q) → List (Entry Q) → ℕ → Record → Record → Type 0
 Races limits before after shard read found =
     (point : List (Entry _)) × Begins before point × Begins point after
@@ -43,17 +43,18 @@ RefusedBy before after shard mode (Raced read found) =
     (fault_for before.board.limits.ceiling read before.server mode ≡ None)
     × Races before.board.limits before.seen after.seen shard read found
 
--- the fault of a refusal, which has none where another record was found
+-- the fault of a refusal; it has none if another record was found
 abbrev pub fault_told : AdmitRefusal → Option AdmitFault
 fault_told (Refused fault state) = Some fault
 fault_told (Raced read found) = None
 
--- the record by which a pass was refused, or the one that was found in its place
+-- the record by which a pass was refused, or the record that was found in its place
 abbrev pub record_told : AdmitRefusal → Record
 record_told (Refused fault state) = state
 record_told (Raced read found) = found
 
--- the refusal has this fault, if any, and these are the words of the record that was read and of the one that was found
+-- the refusal has this fault, if any, and these are the words of the record that was read and of the record that was
+-- found
 abbrev pub IsToldBy : AdmitRefusal → Option AdmitFault → ℕ → ℕ → Type 0
 IsToldBy (Refused applies state) fault read found =
     (fault ≡ Some applies) × IsWordOf state read × IsWordOf state found

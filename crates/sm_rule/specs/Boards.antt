@@ -12,7 +12,7 @@ pub record BoardValue : Type 0 where
   pub id : TableId
   pub limits : Limits
 
--- the limits of a board that was made of so many bodies
+-- the limits of a board made from so many bodies
 abbrev pub limits_of : {S : Type 0} → (S → ℕ) → ℕ → ℕ → List S → Limits
 limits_of limit count ceiling bodies = record { count = count; ceiling = ceiling; bodies = map limit bodies }
 
@@ -20,7 +20,7 @@ limits_of limit count ceiling bodies = record { count = count; ceiling = ceiling
 abbrev pub limit_at : Limits → ℕ → ℕ
 limit_at limits shard = slice_index_or limits.bodies shard 0
 
--- the first reason, other than want of memory, for which there is no board of so many shards below this ceiling
+-- the first reason, other than a lack of memory, for which there is no board of so many shards below this ceiling
 abbrev pub make_fault : ℕ → ℕ → Option MakeFault
 make_fault count ceiling =
     if count == 0 then Some NoShard

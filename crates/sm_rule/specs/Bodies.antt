@@ -1,10 +1,10 @@
--- What a body rests on: all requests of its shard, of which the first ones came before its base.
+-- How a body rests on all requests of its shard, of which the first ones came before its base.
 use Rattle.std.specs.Prelude.{ℕ, ◌≡◌, ◌≤◌, List, [], ◌∷◌, ◌++◌, drop, fold, length, take}
 use Rattle.sm_ownership.specs.declared.entry.Ending.{Ending}
 use Rattle.sm_ownership.specs.declared.entry.Ending.TheVariants.{Nothing, Request, Checkpoint}
 
--- a body rests on these requests, of which so many came before its base: that is the state after those, and it keeps
--- the others
+-- a body rests on these requests, of which so many came before its base: its base is the state after those, and it
+-- keeps the others
 abbrev pub Keeps : {S State Q : Type 0} → State → (State → Q → State) → (S → State) → (S → ℕ) → (S → List Q) → S → ℕ
     → List Q → Type 0
 Keeps initial next base before requests body first all =
@@ -25,8 +25,8 @@ first_after first all Nothing = first
 first_after first all (Request request) = first
 first_after first all Checkpoint = length all
 
--- how an admission ended that found a body with the first of these lists and left it with the second: with no request
--- more, with one more, or with none of those that there were
+-- how an admission ended that found a body with the first of these lists and left it with the second: with no more
+-- requests, with one more, or with none of the earlier ones
 abbrev pub ending_between : {Q : Type 0} → List Q → List Q → Ending Q
 ending_between [] [] = Nothing
 ending_between [] (request ∷ more) = Request request

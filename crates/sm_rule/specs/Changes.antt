@@ -1,4 +1,4 @@
--- The chair of a board as contracts see it, and what looking and changing does to it.
+-- The chair of a board as contracts see it, and how looking and changing affect it.
 use Rattle.std.specs.Prelude.{ℕ, true, false, ◌≡◌, ◌<◌, List, [], ◌∷◌, None, length, slice_index_or}
 use Rattle.atomic_table.specs.Seated.{TableId}
 use Rattle.sm_ranges.specs.declared.stand.Stand.{Stand}
@@ -24,7 +24,7 @@ pub record ChairValue (Q : Type 0) : Type 0 where
 abbrev pub chair_value : {Q : Type 0} → TableId → View Q → ChairValue Q
 chair_value id view = record { board = record { id = id; limits = view.limits }; seen = view.seen }
 
--- the stands of all shards in what a view has seen
+-- the stands of all shards in the history that a view has seen
 abbrev pub AreStandsOf : {Q : Type 0} → List Stand → View Q → Type 0
 AreStandsOf stands view =
     (length stands ≡ view.limits.count)
@@ -39,7 +39,7 @@ IsChairView stands view =
 abbrev pub record_at_chair : {Q : Type 0} → ChairValue Q → ℕ → Record
 record_at_chair chair shard = record_in chair.board.limits chair.seen shard
 
--- the chair has seen more, made by passes alone
+-- the chair has seen more, made only by passes
 abbrev pub ChairLooks : {Q : Type 0} → ChairValue Q → ChairValue Q → Type 0
 ChairLooks before after = Grows before.board.limits 0 before.seen after.seen [] × (after.board ≡ before.board)
 

@@ -1,4 +1,4 @@
--- What the end of a board gives.
+-- The result of a board's end.
 use Rattle.std.specs.Prelude.{ℕ, true, false, ◌≡◌, List, ◌++◌, Option, Some, None, length, if◌then◌else◌}
 use mathlib.Core.Option.{some}
 use lib.ListN.{get_elem?}
@@ -12,8 +12,8 @@ use Rattle.sm_rule.specs.Changes.{ChairValue}
 use Rattle.sm_rule.specs.Passes.{PassValue}
 use Rattle.sm_rule.specs.Views.{Begins, record_in}
 
--- what is left of a shard after a history: its record, and its body where it isn't admitted, of its limit and resting
--- on all requests that the history has for it
+-- the rest of a shard after a history: its record, and, if it isn't admitted, its body, which has its limit and rests
+-- on all requests in the history for it
 abbrev pub IsLeft : {S Q : Type 0} → (S → ℕ → List Q → Type 0) → (S → ℕ) → Limits → List (Entry Q) → ℕ
     → Record × Option S → Type 0
 IsLeft {S} keeps limit limits history shard row =
@@ -30,8 +30,8 @@ AreLeft {S} keeps limit limits history rows =
     × ((shard : ℕ) (row : Record × Option S) → get_elem? rows shard ≡ some row
     → IsLeft keeps limit limits history shard row)
 
--- the rows are those of all shards after one legal history, to which passes alone have added since the chair last
--- looked, and which extends what the pass had seen
+-- the rows are those of all shards after one legal history, to which only passes have added since the chair last
+-- looked, and which extends the history that the pass had seen
 abbrev pub WasClosed : {S Q : Type 0} → (S → ℕ → List Q → Type 0) → (S → ℕ) → ChairValue Q → PassValue Q
     → List (Record × Option S) → Type 0
 WasClosed {S} {Q} keeps limit chair pass rows =
@@ -47,7 +47,7 @@ AreWords words =
     (shard word : ℕ) → get_elem? words shard ≡ some word
     → (state : Record) × IsWellFormed state × (word_of state ≡ word)
 
--- a row has the record of its shard's word, and what lies in its slot where that isn't admitted
+-- a row has the record of its shard's word, and, if that isn't admitted, the body in its slot
 abbrev pub IsTaken : {S : Type 0} → List ℕ → List (Option S) → ℕ → Record × Option S → Type 0
 IsTaken {S} words slots shard row =
     IsWellFormed row.0

@@ -1,5 +1,5 @@
--- The rule of a board: what its words are, where the bodies are, and what each seat knows.
-use Rattle.std.specs.Prelude.{ℕ, true, false, ◌≡◌, ◌≢◌, ◌<◌, ◌≤◌, List, ◌++◌, Option, Some, length, map, reverse}
+-- The rule of a board: the meaning of its words, the places of the bodies, and the knowledge of each seat.
+use Rattle.std.specs.Prelude.{ℕ, true, false, ◌≡◌, ◌≢◌, ◌<◌, ◌≤◌, ◌⊎◌, List, ◌++◌, Option, Some, length, map, reverse}
 use mathlib.Core.Option as math
 use mathlib.Core.Option.{some}
 use lib.ListN.{get_elem?}
@@ -13,8 +13,9 @@ use Rattle.sm_word.specs.Word.{word_of}
 use Rattle.sm_rule.specs.Boards.{limit_at}
 use Rattle.sm_rule.specs.declared.limits.Limits.{Limits}
 use Rattle.sm_rule.specs.declared.view.HeldShard.{HeldShard}
-use Rattle.sm_rule.specs.declared.view.Stage.TheVariants.{Acting, Cut}
+use Rattle.sm_rule.specs.declared.view.Stage.TheVariants.{Acting, Cut, Joined}
 use Rattle.sm_rule.specs.declared.view.Heard.{Heard}
+use Rattle.sm_rule.specs.declared.view.Parent.{Parent}
 use Rattle.sm_rule.specs.declared.view.View.{View}
 use Rattle.sm_rule.specs.Views.{left_behind}
 
@@ -24,7 +25,7 @@ use Rattle.sm_rule.specs.Views.{left_behind}
 abbrev pub table_in : {Q : Type 0} → Limits → List (Entry Q) → List Record
 table_in limits history = table_of_latest limits.count limits.ceiling history
 
--- a seat holds a shard: it is admitted, by this seat's number, and since then nothing happened to it
+-- a seat holds a shard: the shard is admitted, with this seat's number, and since then nothing has happened to it
 pub record IsHolding {Q : Type 0} (limits : Limits) (number : ℕ) (held : HeldShard Q)
     (history : List (Entry Q)) : Type 0 where
   pub known : held.shard < limits.count
@@ -34,7 +35,13 @@ pub record IsHolding {Q : Type 0} (limits : Limits) (number : ℕ) (held : HeldS
   pub first : first_of (reverse history) held.shard ≡ held.first
   pub all : all_of (reverse history) held.shard ≡ held.all
 
--- what a seat knows is so: the history begins with what it has seen, and has no more entries of its number
+-- a seat's hold is in the history that it has seen: its own admission is the shard's latest entry
+abbrev pub ViewHolds : {Q : Type 0} → View Q → Type 0
+ViewHolds {Q} view =
+    (held : HeldShard Q) → view.held ≡ Some held → IsHolding view.limits view.number held (reverse view.seen)
+
+-- the knowledge of a seat is true: the history begins with the part that it has seen, and has no more entries of its
+-- number
 pub record IsTrueView {Q : Type 0} (limits : Limits) (number : ℕ) (view : View Q)
     (history : List (Entry Q)) : Type 0 where
   pub limits_are : view.limits ≡ limits
@@ -45,7 +52,7 @@ pub record IsTrueView {Q : Type 0} (limits : Limits) (number : ℕ) (view : View
   pub server : (server : ℕ) → view.server ≡ Some server → acts_as history number server ≡ true
   pub held : (held : HeldShard Q) → view.held ≡ Some held → IsHolding limits number held history
 
--- a seat that was cut from another has seen a front of the history, which has no entry of the number that it is to have
+-- a seat that was cut from another has seen a front of the history, which has no entry of the number that it will have
 pub record IsCut {Q : Type 0} (limits : Limits) (number : ℕ) (view : View Q) (history : List (Entry Q)) : Type 0 where
   pub limits_are : view.limits ≡ limits
   pub number_new : number ≢ view.number
@@ -61,10 +68,28 @@ pub record IsHeard {Q : Type 0} (views : List (View Q)) (heard : Heard Q) (histo
   pub others : NoneBy heard.by later
   pub joined : get_elem? views heard.by ≡ some left_behind
 
--- all that seats were told is so
+-- everything that seats were told is true
 abbrev pub AreHeard : {Q : Type 0} → List (View Q) → List (Entry Q) → Type 0
 AreHeard views history = (number : ℕ) (view : View _) → get_elem? views number ≡ some view → (heard : Heard _)
     → view.heard ≡ Some heard → IsHeard views heard history
+
+-- a view, or something that it was told, names a seat from which another was cut
+abbrev pub Names : {Q : Type 0} → View Q → Parent → Type 0
+Names {Q} view parent =
+    (view.parent ≡ Some parent) ⊎ ((heard : Heard Q) × (view.heard ≡ Some heard) × (heard.parent ≡ Some parent))
+
+-- there is such a seat, and unless it was taken in, no fewer were cut from it since
+abbrev pub IsParent : {Q : Type 0} → List (View Q) → Parent → Type 0
+IsParent {Q} views parent =
+    (parent.number < length views)
+    × ((view : View Q) → get_elem? views parent.number ≡ some view
+    → (view.stage ≡ Joined) ⊎ (parent.cuts ≤ view.cuts))
+
+-- the same holds for all parents that views name
+abbrev pub AreParents : {Q : Type 0} → List (View Q) → Type 0
+AreParents {Q} views =
+    (number : ℕ) (view : View Q) → get_elem? views number ≡ some view → (parent : Parent) → Names view parent
+    → IsParent views parent
 
 -- the bodies of the idle shards are at home: each rests on all requests that the history has for its shard, and has the
 -- shard's limit
@@ -76,8 +101,8 @@ AreHome {S} keeps limit limits homes history =
     (all_of (reverse history) shard) × (limit body ≡ limit_at limits shard)
 
 -- the words are those of the table of a legal history of known servers; the bodies of its idle shards are at home; each
--- seat that acts knows it as far as it has looked, and so do those that were cut off or taken in; a number that no seat
--- has yet has no entry in it
+-- acting seat knows it as far as it has looked, and so do those that were cut off or taken in; views are right about
+-- the seats from which they were cut; a number that no seat has yet has no entry in it
 pub record RuleHolds {S Q : Type 0} (keeps : S → ℕ → List Q → Type 0) (limit : S → ℕ) (limits : Limits) (words : List ℕ)
     (homes : List (math.Option (Option S))) (views : List (View Q)) (history : List (Entry Q)) : Type 0 where
   pub legal : IsLegalLatest limits.count limits.ceiling history
@@ -90,6 +115,7 @@ pub record RuleHolds {S Q : Type 0} (keeps : S → ℕ → List Q → Type 0) (l
   pub cut : (number : ℕ) (view : View Q) → get_elem? views number ≡ some view → view.stage ≡ Cut
       → IsCut limits number view history
   pub heard : AreHeard views history
+  pub parents : AreParents views
   pub unused : (number : ℕ) → length views ≤ number → NoneBy number history
   pub chaired : 0 < length views
 

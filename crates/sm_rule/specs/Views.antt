@@ -1,5 +1,5 @@
--- What the view of a seat becomes, and how what was seen grows.
-use Rattle.std.specs.Prelude.{ℕ, ◌≡◌, ◌<◌, List, [], ◌∷◌, ◌++◌, Option, Some, None, drop, length}
+-- How the view of a seat changes, and how the seen history grows.
+use Rattle.std.specs.Prelude.{ℕ, ◌≡◌, ◌+◌, ◌<◌, List, [], ◌∷◌, ◌++◌, Option, Some, None, drop, length}
 use Rattle.sm_ownership.specs.declared.entry.Ending.{Ending}
 use Rattle.sm_ownership.specs.declared.entry.Ending.TheVariants.{Nothing, Request, Checkpoint}
 use Rattle.sm_ownership.specs.declared.entry.Entry.{Entry}
@@ -9,6 +9,7 @@ use Rattle.sm_ownership.specs.declared.record.Record.{Record}
 use Rattle.sm_ownership.specs.History.{IsLegal, all_of, first_of, record_at, table_of, NoneBy}
 use Rattle.sm_rule.specs.declared.limits.Limits.{Limits}
 use Rattle.sm_rule.specs.declared.view.HeldShard.{HeldShard}
+use Rattle.sm_rule.specs.declared.view.Parent.{Parent}
 use Rattle.sm_rule.specs.declared.view.Stage.TheVariants.{Acting, Cut, Joined}
 use Rattle.sm_rule.specs.declared.view.View.{View}
 
@@ -24,17 +25,17 @@ entry_of actor shard kind = record { actor = actor; shard = shard; kind = kind }
 abbrev pub Begins : {Q : Type 0} → List (Entry Q) → List (Entry Q) → Type 0
 Begins earlier later = (more : List (Entry _)) × (later ≡ earlier ++ more)
 
--- a history extends what was seen under a number, by entries of others
+-- a history extends the history that was seen under a number, by entries of others
 abbrev pub IsMet : {Q : Type 0} → ℕ → List (Entry Q) → List (Entry Q) → Type 0
 IsMet number seen history = (others : List (Entry _)) × (history ≡ seen ++ others) × NoneBy number others
 
--- what was seen grows by entries of others, and then by these
+-- the seen history grows by entries of others, and then by these
 abbrev pub Grows : {Q : Type 0} → Limits → ℕ → List (Entry Q) → List (Entry Q) → List (Entry Q) → Type 0
 Grows limits number before after added =
     (others : List (Entry _)) × (after ≡ (before ++ others) ++ added) × NoneBy number others
     × IsLegal limits.count limits.ceiling after
 
--- what is held after an entry of one's own, the last of a history: an admission holds its shard, and its end nothing
+-- the hold after an own entry, the last one of a history: after an admission it is the shard, and after its end nothing
 abbrev pub held_after : {Q : Type 0} → Limits → ℕ → Kind Q → List (Entry Q) → Option (HeldShard Q)
     → Option (HeldShard Q)
 held_after limits shard (Changed change) history held = held
@@ -61,8 +62,8 @@ first_held (Some held) = held.first
 abbrev pub list_held : {Q : Type 0} → Option (HeldShard Q) → List Q
 list_held held = drop (first_held held) (all_held held)
 
--- what has become of the body since the admission: it rests on the same requests, on one more, or is the checkpoint of
--- what it kept, where it kept anything
+-- the change of the body since the admission: it rests on the same requests, or on one more, or it is the checkpoint of
+-- its kept requests, if it kept any
 abbrev pub EndsWith : {S Q : Type 0} → (S → ℕ → List Q → Type 0) → Option (HeldShard Q) → S → Ending Q → Type 0
 EndsWith keeps held body Nothing = keeps body (first_held held) (all_held held)
 EndsWith keeps held body (Request request) = keeps body (first_held held) (all_held held ++ request ∷ [])
@@ -80,19 +81,45 @@ newcomer limits number server history =
       seen = history;
       stage = Acting;
       heard = None;
+      cuts = 0;
+      parent = None;
     }
 
 -- the history that a view has seen is a legal one
 abbrev pub HasSeenLegal : {Q : Type 0} → View Q → Type 0
 HasSeenLegal view = IsLegal view.limits.count view.limits.ceiling view.seen
 
+-- a seat, as the next seat that is cut from it names it
+abbrev pub parent_of : {Q : Type 0} → View Q → Parent
+parent_of view = record { number = view.number; cuts = view.cuts + 1 }
+
+-- the view of a seat from which another was cut
+abbrev pub cutting : {Q : Type 0} → View Q → View Q
+cutting view = record view { cuts = view.cuts + 1 }
+
 -- the view of a seat that is cut from another, until its first load gives it a number
 abbrev pub cut_off : {Q : Type 0} → View Q → View Q
-cut_off view = record view { stage = Cut; held = None; heard = None }
+cut_off view = record view { stage = Cut; held = None; heard = None; parent = Some (parent_of view) }
 
--- a view that takes in another, and what is left of the other
+-- its view after its first load
+abbrev pub half_of : {Q : Type 0} → View Q → Option Parent → ℕ → List (Entry Q) → View Q
+half_of view parent number history =
+    record {
+      limits = view.limits;
+      number = number;
+      server = view.server;
+      held = None;
+      seen = history;
+      stage = Acting;
+      heard = None;
+      cuts = view.cuts;
+      parent = parent;
+    }
+
+-- a view that takes in another, and the rest of the other
 abbrev pub informed : {Q : Type 0} → View Q → View Q → View Q
-informed view other = record view { heard = Some (record { by = other.number; seen = other.seen }) }
+informed view other =
+    record view { heard = Some (record { by = other.number; seen = other.seen; parent = other.parent }) }
 
 abbrev pub left_behind : {Q : Type 0} → View Q
 left_behind = record {
@@ -103,6 +130,8 @@ left_behind = record {
   seen = [];
   stage = Joined;
   heard = None;
+  cuts = 0;
+  parent = None;
 }
 
 -- a view that has seen this history
@@ -114,7 +143,7 @@ abbrev pub adding : {Q : Type 0} → View Q → ℕ → Kind Q → List (Entry Q
 adding view shard kind history =
     record view { seen = history; held = held_after view.limits shard kind history view.held }
 
--- the view has seen more, made by others alone
+-- the view has seen more, made only by others
 abbrev pub Looks : {Q : Type 0} → View Q → View Q → Type 0
 Looks before after = Grows before.limits before.number before.seen after.seen [] × (after ≡ seeing before after.seen)
 

@@ -15,6 +15,7 @@ mod closing;
 mod executing;
 mod making;
 mod telling;
+mod two_passes;
 
 use crate::chair::Chair;
 use crate::origin::Origin;
@@ -30,9 +31,9 @@ use sm_word::word::record_of_word;
 use std::alloc::Global;
 use std::marker::{Brand, Model};
 
-/// One word and one body for each shard, shared by threads. By the board's rule each word is that of the shard's record
-/// in one history that all steps make, and the body of each idle shard is in its slot, has the shard's limit and rests
-/// on all requests that the history has for it.
+/// One word and one body for each shard, shared by threads. By the board's rule, each word is that of the shard's
+/// record in the one history that all steps make. The body of each idle shard is in its slot, has the shard's limit,
+/// and rests on all requests in the history for the shard.
 #[derive(Drop)]
 pub struct Board<S: Service> {
     table: Table<Option<S>, View<S::Request>, Origin<S>, BoardRule<Kept<S>>, Global>,
@@ -59,15 +60,15 @@ impl<S: Service> Model for Board<S> {
 }
 
 impl<S: Service> Board<S> {
-    /// The number of the board's shards.
+    /// Returns the number of the board's shards.
     pub fn count(&self) -> u32
         ensures { result ≡ self.now.limits.count }
     {
         self.count as u32
     }
 
-    /// A new pass with this server, for good. Its number isn't the chair's, and has no entry in what the pass has seen;
-    /// by the board's rule no two passes have the same.
+    /// Returns a new pass with this server. Its number isn't the chair's, and has no entry in the history that the pass
+    /// has seen. By the board's rule no two passes have the same number.
     pub fn pass(&self, server: Option<ServerId>) -> Pass<S>
         ensures board { result.board ≡ self.now }
         ensures server { result.server ≡ server }
@@ -90,7 +91,7 @@ impl<S: Service> Board<S> {
         Pass { seat, server }
     }
 
-    /// The shard's record after all that the pass then has seen.
+    /// Returns the shard's record after all that the pass then has seen.
     pub fn look(&self, pass: &mut Pass<S>, k: ShardId) -> Record
         requires board { pass.old.board ≡ self.now }
         requires shard { k < self.now.limits.count }
@@ -100,7 +101,7 @@ impl<S: Service> Board<S> {
         self.load(&mut pass.seat, k).1
     }
 
-    /// The word of the shard's record after all that the pass then has seen.
+    /// Returns the word of the shard's record after all that the pass then has seen.
     pub fn look_word(&self, pass: &mut Pass<S>, k: ShardId) -> u64
         requires board { pass.old.board ≡ self.now }
         requires shard { k < self.now.limits.count }
@@ -110,7 +111,7 @@ impl<S: Service> Board<S> {
         self.load(&mut pass.seat, k).0
     }
 
-    /// The shard's record after all that the chair then has seen.
+    /// Returns the shard's record after all that the chair then has seen.
     pub fn look_chair(&self, chair: &mut Chair<S>, k: ShardId) -> Record
         requires board { chair.old.board ≡ self.now }
         requires shard { k < self.now.limits.count }
@@ -120,8 +121,9 @@ impl<S: Service> Board<S> {
         self.load(&mut chair.seat, k).1
     }
 
-    // Changes the shard's word from that of the record read to that of the next one, or gives the word found in its
-    // place, and its record. A call would pass records through memory just before the exchange, which waits for that.
+    // Changes the shard's word from the word of the record read to that of the next one. If another word is found in
+    // its place, returns that word and its record. A function call would pass records through memory just before the
+    // exchange, and the exchange would wait for that.
     #[inline(always)]
     fn exchange<B: Asks<S::Request>>(
         &self,

@@ -6,12 +6,12 @@ use sm_ranges::shard_id::ShardId;
 use sm_ranges::stand::Stand;
 use std::marker::Model;
 
-/// The control's own pass on a board, which alone changes stands. Its number is 0.
+/// The control's own pass on a board. Only the chair changes stands. Its number is 0.
 #[derive(Drop)]
 pub struct Chair<S: Service> {
     pub(crate) seat: Seat<Option<S>, View<S::Request>>,
     pub(crate) stands: Vec<Stand>,
-    // Room for what the end of the board gives.
+    // Room for the result of the board's end.
     pub(crate) room: Vec<(Record, Option<S>)>,
 }
 
@@ -34,7 +34,7 @@ impl<S: Service> Chair<S> {
     ghost use Rattle.sm_rule.specs.Changes.{record_at_chair};
     ghost use Rattle.sm_rule.specs.Views.{record_in};
 
-    /// Says, for proofs alone, that what a chair has seen is a legal history. It does nothing.
+    /// Tells proofs that the history which a chair has seen is legal. It does nothing.
     pub fn soundness(&self)
         ensures { IsLegal self.now.board.limits.count self.now.board.limits.ceiling self.now.seen }
     {
@@ -42,8 +42,8 @@ impl<S: Service> Chair<S> {
         let _ = &self.room;
     }
 
-    /// The shard's stand, which nobody else changes: it is the shard's in every legal history to which the one that the
-    /// chair has seen may grow by entries of passes.
+    /// Returns the shard's stand, which nobody else changes: it is the shard's stand in every legal history that
+    /// extends the one the chair has seen by entries of passes.
     pub fn stand(&self, k: ShardId) -> Stand
         requires { k < self.now.board.limits.count }
         ensures seen { result ≡ (record_at_chair self.now k).stand }

@@ -1,6 +1,6 @@
 use std::collections::LinkedList;
 
-/// The sizes of a board, which stand in contracts and proofs alone: no value of it is made.
+/// The sizes of a board. They exist only in contracts and proofs: no value of this type is made.
 pub struct Limits {
     /// How many shards the board has.
     pub count: u64,

@@ -3,8 +3,8 @@ use atomic_table::Seat;
 use sm_body::service::Service;
 use std::marker::Model;
 
-/// What one caller tells another: a pass that holds nothing and acts no more, with all that it has seen. It has no
-/// bytes.
+/// A note (a causality token), by which one caller tells another how much it has seen: a pass that holds nothing and
+/// acts no more. It has no bytes.
 #[derive(Drop)]
 pub struct Note<S: Service> {
     pub(crate) seat: Seat<Option<S>, View<S::Request>>,
@@ -24,7 +24,7 @@ impl<S: Service> Model for Note<S> {
 impl<S: Service> Note<S> {
     ghost use Rattle.sm_rule.specs.Passes.{HasLegalFront};
 
-    /// Says, for proofs alone, that what a note tells is a legal history. It does nothing.
+    /// Tells proofs that the history in a note is legal. It does nothing.
     pub fn soundness(&self)
         ensures { HasLegalFront self.now }
     {

@@ -1,6 +1,7 @@
 use std::snapshot::Snapshot;
 
-/// What a board was made of, as its rule reads it: how many shards, the ceiling of their generations, and their bodies.
+/// The origin of a board, as its rule reads it: how many shards it has, the ceiling of their generations, and their
+/// bodies.
 #[derive(Drop)]
 pub(crate) struct Origin<S> {
     pub(crate) count: u64,

@@ -5,7 +5,7 @@ use sm_body::service::Service;
 use sm_ranges::server_id::ServerId;
 use std::marker::Model;
 
-/// What a thread acts on a board with: a number and a server for good, and what it has seen of the history.
+/// A thread's handle on a board: a fixed number and server, and the history that it has seen.
 #[derive(Drop)]
 pub struct Pass<S: Service> {
     pub(crate) seat: Seat<Option<S>, View<S::Request>>,
@@ -28,7 +28,7 @@ impl<S: Service> Pass<S> {
     ghost use Rattle.std.specs.Prelude.{◌≡◌, None};
     ghost use Rattle.sm_rule.specs.Passes.{HasLegalFront};
 
-    /// Says, for proofs alone, that what a pass has seen is a legal history. It does nothing.
+    /// Tells proofs that the history which a pass has seen is legal. It does nothing.
     pub fn soundness(&self)
         ensures { HasLegalFront self.now }
     {
@@ -36,7 +36,8 @@ impl<S: Service> Pass<S> {
         let _ = &self.server;
     }
 
-    /// The pass, which holds nothing, as a note. It keeps all that the pass is and has seen, and takes no memory.
+    /// Returns the pass, which must hold nothing, as a note. The note keeps everything that the pass has seen, and
+    /// takes no memory.
     pub fn into_note(self) -> Note<S>
         requires { self.held ≡ None }
         ensures { result ≡ self }
@@ -45,7 +46,7 @@ impl<S: Service> Pass<S> {
         Note { seat }
     }
 
-    /// The server that the pass is admitted as; a pass without one is never admitted.
+    /// Returns the server that the pass is admitted as; a pass without one is never admitted.
     pub fn server(&self) -> Option<ServerId>
         ensures { result ≡ self.now.server }
     {

@@ -44,7 +44,7 @@ impl<S: Service> Model for Permit<S> {
 }
 
 impl<S: Service> Permit<S> {
-    /// The shard's generation since the admission. An admission is an entry, so no generation of one is 0.
+    /// Returns the shard's generation since the admission. An admission is an entry, so no generation of one is 0.
     pub fn generation(&self) -> u64
         ensures state { result ≡ self.now.state.generation }
         ensures counted { 0 < result }
@@ -53,7 +53,7 @@ impl<S: Service> Permit<S> {
         record_of_word(self.word).generation
     }
 
-    /// The shard's body. What is written through the loan is in the permit once the loan ends.
+    /// Returns the shard's body. Writes through the borrow are in the permit once the borrow ends.
     pub fn body(&mut self) -> &mut S
         ensures* writes_back { sem 𝓛 (Lends (the_row S.row S.Request.row S.Reply.row S.Service) S.row self.entry result
             (λ body. with_body self.old body)) }
@@ -63,7 +63,7 @@ impl<S: Service> Permit<S> {
     }
 }
 
-/// Where the end of an admission left its shard.
+/// The state of a shard after the end of an admission.
 #[derive(Clone, Copy, Debug, PartialEq, Eq, Drop)]
 pub struct Front {
     pub shard: ShardId,

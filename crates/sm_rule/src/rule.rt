@@ -6,8 +6,8 @@ use atomic_table::{Join, Play, Split, TableRule};
 use sm_body::service::Service;
 use std::marker::{Brand, PhantomData};
 
-/// What the rule asks of bodies: that each rests on the requests of its shard, so many of which came before its base,
-/// and the most that it keeps.
+/// The rule's requirement on bodies: each rests on the requests of its shard, of which so many came before its base;
+/// and the most requests that it keeps.
 pub trait Keeping<S, Q> {
     ghost use Rattle.std.specs.Prelude.{ℕ, List};
 
@@ -16,7 +16,7 @@ pub trait Keeping<S, Q> {
     ghost limit: { S → ℕ };
 }
 
-/// What the bodies of a service keep.
+/// The requests that the bodies of a service keep.
 pub struct Kept<S> {
     service: PhantomData<S>,
 }
@@ -29,8 +29,8 @@ impl<S: Service> Keeping<S, S::Request> for Kept<S> {
     ghost limit = { S.limit };
 }
 
-/// What holds of a board's words and bodies, and of what each seat knows. It is generic in `Keeping`, and not in the
-/// service itself, so that a thread can be started over a board.
+/// The properties of a board's words and bodies, and of each seat's knowledge. It is generic in `Keeping`, and not in
+/// the service itself, so that a thread can be started over a board.
 pub struct BoardRule<P> {
     keeping: PhantomData<P>,
 }
@@ -58,8 +58,8 @@ impl<S, Q> Play<Option<S>, View<Q>> for Load {
     ghost then = { Loaded };
 }
 
-// A step tells what its brand says, and a proof picks the brand at a call of which it sees the arguments alone. So
-// `pass`, `admit`, `change` and `finish` have a twin each, of the same clauses, whose call is the one that picks.
+// The meaning of a step depends on its brand, and a proof picks the brand at a call from the arguments only. So `pass`,
+// `admit`, `change` and `finish` each have a twin with the same clauses, whose call picks the brand.
 
 /// The server of a new seat. Each call picks it.
 pub trait Hires {
@@ -99,7 +99,8 @@ impl<Q> Asks<Q> for Brand {
     ghost kind = { Done Nothing };
 }
 
-/// A compare-exchange, which admits and takes the shard's slot, or changes, where it is won, and else is a load.
+/// A compare-exchange. If it is won, it admits and takes the shard's slot, or changes the stand. Otherwise it is a
+/// load.
 pub struct Exchange<P, B> {
     asks: PhantomData<(P, B)>,
 }
@@ -125,9 +126,9 @@ impl<S, Q, B: Asks<Q>> Play<Option<S>, View<Q>> for Store<B> {
 pub struct Halves;
 
 impl<Q> Split<View<Q>> for Halves {
-    ghost use Rattle.sm_rule.specs.Views.{cut_off};
+    ghost use Rattle.sm_rule.specs.Views.{cut_off, cutting};
 
-    ghost left = { λ view. view };
+    ghost left = { cutting };
 
     ghost right = { cut_off };
 }

@@ -12,7 +12,7 @@ use std::marker::Model;
 use std::snapshot::Snapshot;
 use thiserror::Error;
 
-/// Why a pass was not admitted, by the words that were read: who asks for no record pays for none.
+/// Why a pass was not admitted, with the words that were read. A caller that asks for no record pays for none.
 #[derive(Drop, Error)]
 #[error("{}", self.refusal())]
 pub struct ToldRefusal {
@@ -20,7 +20,7 @@ pub struct ToldRefusal {
     told: Snapshot<AdmitRefusal>,
     fault: Option<AdmitFault>,
     read: u64,
-    // The word that was found in its place; where a fault applies, the one read.
+    // The word that was found in its place. If a fault applies, it is the word that was read.
     found: u64,
 }
 
@@ -36,7 +36,7 @@ impl Model for ToldRefusal {
 }
 
 impl ToldRefusal {
-    /// The refusal of the record that has this word, for this fault.
+    /// Returns the refusal of the record that has this word, for this fault.
     #[inline(always)]
     pub(crate) fn refused(fault: AdmitFault, read: &Record, word: u64) -> ToldRefusal
         requires { IsWordOf read.now word }
@@ -51,7 +51,7 @@ impl ToldRefusal {
         }
     }
 
-    /// The refusal of who read one record and found another one, by their words.
+    /// Returns the refusal of a call that read one record and found another one, with their words.
     #[inline(always)]
     pub(crate) fn raced(read: &Record, found: &Record, word: u64, other: u64) -> ToldRefusal
         requires read { IsWordOf read.now word }
@@ -70,7 +70,7 @@ impl ToldRefusal {
         }
     }
 
-    /// The refusal, with records.
+    /// Returns the refusal, with records.
     pub fn refusal(&self) -> AdmitRefusal
         ensures { result ≡ self.now }
     {
@@ -84,14 +84,14 @@ impl ToldRefusal {
         }
     }
 
-    /// The fault that applies to the record read; or none, where another record was found in its place.
+    /// Returns the fault that applies to the record read, or nothing if another record was found in its place.
     pub fn fault(&self) -> Option<AdmitFault>
         ensures { result ≡ fault_told self.now }
     {
         self.fault
     }
 
-    /// The word of the record by which the pass is refused, or of the one that was found in its place.
+    /// Returns the word of the record by which the pass is refused, or of the record that was found in its place.
     pub fn word(&self) -> u64
         ensures { IsWordOf (record_told self.now) result }
     {
@@ -99,7 +99,7 @@ impl ToldRefusal {
     }
 }
 
-// As the refusal with records, since nothing shows a snapshot.
+// Shown like the refusal with records, because nothing shows a snapshot.
 impl fmt::Debug for ToldRefusal {
     fn fmt<W: fmt::Write>(&self, f: &mut fmt::Formatter<W>) -> fmt::Result {
         fmt::Debug::fmt(&self.refusal(), f)

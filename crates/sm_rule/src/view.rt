@@ -5,7 +5,7 @@ use sm_ranges::server_id::ServerId;
 use sm_ranges::shard_id::ShardId;
 use std::collections::LinkedList;
 
-/// What a seat knows, which stands in contracts and proofs alone: no value of it is made.
+/// The knowledge of a seat. It exists only in contracts and proofs: no value of this type is made.
 pub struct View<Q> {
     pub limits: Limits,
     /// The actor of its entries.
@@ -18,6 +18,10 @@ pub struct View<Q> {
     pub stage: Stage,
     /// The seat that it has taken in last.
     pub heard: Option<Heard<Q>>,
+    /// How many seats were cut from it.
+    pub cuts: u64,
+    /// The seat that it was cut from.
+    pub parent: Option<Parent>,
 }
 
 /// Whether a seat acts.
@@ -38,8 +42,15 @@ pub struct HeldShard<Q> {
     pub all: LinkedList<Q>,
 }
 
-/// What a seat that was taken in had seen, and its number.
+/// The history that a seat had seen when it was taken in, its number, and the seat from which it was cut.
 pub struct Heard<Q> {
     pub by: u64,
     pub seen: LinkedList<Entry<Q>>,
+    pub parent: Option<Parent>,
+}
+
+/// The number of a seat from which another was cut, and how many had been cut from it then, including that one.
+pub struct Parent {
+    pub number: u64,
+    pub cuts: u64,
 }

@@ -1,4 +1,4 @@
--- What a helper has seen and done.
+-- The history and the acts of a helper.
 use Rattle.std.proofs.Common.{◌≡◌, ◌≢◌, ◌<◌, ◌≤◌, ℕ, ◌+◌, List, [], ◌∷◌, ◌++◌, length, refl, sym, ap, ◌∙◌, subst}
 use Rattle.std.proofs.Common.{length-append, arith}
 use Rattle.std.specs.Prelude.{IfErr, IfOk, OnErr, OnOk, Option, Some, None, Result, Ok, Err, drop, slice_get, take}
@@ -178,7 +178,7 @@ count_all first count all list within is counted =
     let long = ap length is ∙ length-drop first all in
     omega (arith, long)
 
--- the place of a request at a body that was lent, of which so many came before its base
+-- the place of a request at a borrowed body, of which so many came before its base
 pub place_of : {S Q : Type 0} (before : S → ℕ) (requests : S → List Q) (given lent : S) (first place : ℕ) (all : List Q)
     → lent ≡ given → first ≤ length all → before given ≡ first → requests given ≡ drop first all
     → place ≡ before lent + length (requests lent) → place ≡ length all
@@ -216,7 +216,7 @@ unexecuted
           (length (kept pair.1.seen pair.0))) (λ i. (shard_is i, sym note i)) room;
     }
 
--- why the body didn't apply the request says what room there was
+-- the reason for which the body didn't apply the request tells the room that there was
 room_by : (fault : ApplyFault) (limit count : ℕ) → (fault ≡ apply.KeptFull → limit ≤ count)
     → (fault ≡ apply.NoMemory → count < limit) → WantsRoom (refusal_of fault) limit count
 room_by apply.KeptFull limit count full no_memory = full refl

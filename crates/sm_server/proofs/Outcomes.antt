@@ -1,4 +1,4 @@
--- What the steps of a server tell together.
+-- The combined result of a server's steps.
 use Rattle.std.proofs.Common.{◌≡◌, ◌<◌, ◌≤◌, ℕ, ◌+◌, Bool, true, List, length, refl, sym, ap, ◌∙◌, subst, inr}
 use Rattle.std.proofs.Common.{arith}
 use Rattle.std.specs.Prelude.{Option, Some, None, nat_lt}
@@ -36,7 +36,7 @@ use Rattle.sm_server.proofs.Helpers.{none_grows}
 abbrev pub with_note : {Q : Type 0} → Sent Q → PassValue Q → Sent Q
 with_note envelope note = whole (shell_of envelope) envelope.request note
 
--- the admission of a server was refused, by what the note then has
+-- the admission of a server was refused, by the history that the note then has
 module _ {Q R : Type 0} (service : Meaning Q R) (before : PassValue Q) (envelope back : Sent Q) (server : ℕ)
     (own_server : before.server ≡ Some server) (shell : shell_of back ≡ shell_of envelope)
     (handed : IsHandedBack envelope back) (seen : Begins before.seen back.note.seen) where
@@ -212,7 +212,7 @@ module _ {Q R : Type 0} (service : Meaning Q R) (before helper : PassValue Q) (e
           (limit_at one.limits envelope.shard) (length (kept back.note.seen envelope.shard))) begun_board ran.room),
     )
 
--- what is told of an envelope that is here
+-- the result for an envelope that is here
 pub is_told : {Q R : Type 0} (service : Meaning Q R) (tested here : Bool) (before : PassValue Q)
     (envelope : Sent Q) (outcome : Outcome (AnswerValue Q R) (Sent Q)) → tested ≡ here → tested ≡ true
     → Served service true before envelope outcome → Served service here before envelope outcome

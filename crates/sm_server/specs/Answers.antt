@@ -1,4 +1,4 @@
--- Answers: what executing a request leaves in the history of its note.
+-- Answers: the effect of executing a request on the history of its note.
 use Rattle.std.specs.Prelude.{ℕ, ◌≡◌, ◌+◌, List, [], ◌∷◌, ◌++◌, Some, length}
 use Rattle.sm_body.specs.Service.{Meaning}
 use Rattle.sm_ownership.specs.declared.entry.Ending.{Ending}
@@ -23,8 +23,8 @@ abbrev pub run_of : {Q : Type 0} → ℕ → ℕ → ℕ → Mode → Ending Q �
 run_of number shard server mode ending =
     entry_of number shard (Admit server mode) ∷ entry_of number shard (Done ending) ∷ []
 
--- an answer to this request: all that its note did is one admission of the shard and the end with the request, which is
--- the last entry that it has seen; place and reply are those of the last request of the shard in that history
+-- an answer to this request: its note has done exactly one admission of the shard and the end with the request, which
+-- is the last entry that it has seen; place and reply are those of the last request of the shard in that history
 pub record IsAnswer {Q R : Type 0} (service : Meaning Q R) (shard : ℕ) (mode : Mode) (request : Q)
     (answer : AnswerValue Q R) : Type 0 where
   pub server : answer.note.server ≡ Some answer.server

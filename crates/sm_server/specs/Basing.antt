@@ -1,4 +1,4 @@
--- What a checkpoint of a shard leaves.
+-- The effect of a checkpoint of a shard.
 use Rattle.std.specs.Prelude.{ℕ, ◌≡◌}
 use Rattle.sm_ownership.specs.declared.entry.Ending.TheVariants.{Nothing}
 use Rattle.sm_ownership.specs.declared.entry.Kind.TheVariants.{Done}
@@ -9,8 +9,7 @@ use Rattle.sm_rule.specs.Passes.{PassAdds, PassLooks, PassValue}
 use Rattle.sm_server.specs.declared.checkpoint_fault.CheckpointFault.{CheckpointFault}
 use Rattle.sm_server.specs.declared.checkpoint_fault.CheckpointFault.TheVariants.{Admit as NotAdmitted, NoMemory}
 
--- the pass was admitted, and ended its admission with a checkpoint, or with nothing where the shard kept no request
--- then
+-- the pass was admitted, and ended its admission with a checkpoint, or with nothing if the shard kept no requests then
 abbrev pub HasMadeCheckpoint : {Q : Type 0} → PassValue Q → ℕ → PassValue Q → Type 0
 HasMadeCheckpoint before shard after =
     (admitted : PassValue _) × PassAdmitted before shard Direct admitted

@@ -23,7 +23,7 @@ use Rattle.sm_server.specs.declared.refusal.Refusal.TheVariants.{TooManyHops, Ad
 use Rattle.sm_server.specs.Answers.{AnswerValue, IsAnswer, run_of}
 use Rattle.sm_server.specs.Serving.{Sent, limit_of}
 
--- a new pass of the same server that has seen what another pass and a note have, and has done nothing
+-- a new pass of the same server that has seen everything that another pass and a note have seen, and has done nothing
 pub record IsHelper {Q : Type 0} (pass note helper : PassValue Q) : Type 0 where
   pub board : helper.board ≡ pass.board
   pub server : helper.server ≡ pass.server
@@ -70,14 +70,14 @@ pub record HasRefused {Q : Type 0} (helper : PassValue Q) (shell : ShellView) (r
   pub ran : own back.note.number back.note.seen ≡ run_of back.note.number shell.shard server shell.mode Nothing
   pub room : WantsRoom refusal (limit_of helper shell.shard) (length (kept back.note.seen shell.shard))
 
--- what came of a request under a permit that the helper was given
+-- the result of a request under a permit that the helper got
 abbrev pub Ran : {Q R : Type 0} → Meaning Q R → PassValue Q → ShellView → Q → Outcome (AnswerValue Q R) (Sent Q)
     → Type 0
 Ran service helper shell request (Answered answer) = HasRun service helper shell request answer
 Ran service helper shell request (Forward to back) = ⊥
 Ran service helper shell request (Refused refusal back) = HasRefused helper shell request refusal back
 
--- what a refused admission makes of the envelope: it goes on where the record read has the server forward it
+-- the envelope after a refused admission: if the record read makes the server forward it, it goes on
 abbrev pub turned_by : {A Q N : Type 0} → Option ℕ → AdmitFault → Record → ℕ → EnvelopeView Q N
     → Outcome A (EnvelopeView Q N)
 turned_by None fault state server envelope = Refused (NotAdmitted (admission.Refused fault state)) envelope

@@ -1,4 +1,4 @@
--- What a server tells of an envelope that came to it.
+-- A server's result for an envelope.
 use Rattle.std.specs.Prelude.{ℕ, Bool, true, false, ◌≡◌, ◌≤◌, ◌<◌, ◌⊎◌, ◌==◌, ◌&&◌, nat_lt, List, [], Option, Some}
 use Rattle.std.specs.Prelude.{None, length}
 use Rattle.std.specs.List.{filter_map}
@@ -23,7 +23,7 @@ use Rattle.sm_server.specs.declared.refusal.Refusal.TheVariants.{WrongShard, Too
 use Rattle.sm_server.specs.declared.refusal.Refusal.TheVariants.{KeptFull, NoMemory}
 use Rattle.sm_server.specs.Answers.{AnswerValue, IsAnswer, run_of}
 
--- the envelope of a request, with a note of what its sender has seen
+-- the envelope of a request, with a note of everything that its sender has seen
 abbrev pub Sent : Type 0 → Type 0
 Sent Q = EnvelopeView Q (PassValue Q)
 
@@ -36,8 +36,8 @@ is_here service bounds count envelope =
 abbrev pub requests_in : {Q : Type 0} → List (Entry Q) → List Q
 requests_in entries = filter_map (λ entry. request_of (ending_of entry.kind)) entries
 
--- the request was executed once: the answer's history extends what the pass and the envelope's note had seen, and the
--- entries by which it was executed come after all of that
+-- the request was executed once: the answer's history extends everything that the pass and the envelope's note had
+-- seen, and the entries by which it was executed come after that
 pub record IsAnswered {Q R : Type 0} (service : Meaning Q R) (before : PassValue Q) (envelope : Sent Q)
     (answer : AnswerValue Q R) : Type 0 where
   pub number : answer.number ≡ envelope.number
@@ -49,7 +49,7 @@ pub record IsAnswered {Q R : Type 0} (service : Meaning Q R) (before : PassValue
   pub untold : NoneBy answer.note.number envelope.note.seen
   pub executed : IsAnswer service envelope.shard envelope.mode envelope.request answer
 
--- an envelope comes back with its request, and with its note or one that has seen more and executed nothing
+-- an envelope comes back with its request, and with its note or a note that has seen more and executed nothing
 pub record IsHandedBack {Q : Type 0} (envelope back : Sent Q) : Type 0 where
   pub request : back.request ≡ envelope.request
   pub board : back.note.board ≡ envelope.note.board
@@ -94,7 +94,7 @@ pub record IsUnserved {Q : Type 0} (before : PassValue Q) (envelope back : Sent 
   pub is_own : before.server ≡ Some server
   pub ran : own back.note.number back.note.seen ≡ run_of back.note.number envelope.shard server envelope.mode Nothing
 
--- as many requests as the shard keeps at most
+-- the most requests that the shard keeps
 abbrev pub limit_of : {Q : Type 0} → PassValue Q → ℕ → ℕ
 limit_of pass shard = limit_at pass.board.limits shard
 
@@ -113,7 +113,7 @@ abbrev pub is_of_shard : Refusal → Bool
 is_of_shard WrongShard = false
 is_of_shard _ = true
 
--- what a server tells of an envelope that is here or not, by what its pass had seen before
+-- a server's result for an envelope that is here or not, by the earlier history of its pass
 abbrev pub Served : {Q R : Type 0} → Meaning Q R → Bool → PassValue Q → Sent Q
     → Outcome (AnswerValue Q R) (Sent Q) → Type 0
 Served service here before envelope (Answered answer) = (here ≡ true) × IsAnswered service before envelope answer

@@ -43,35 +43,35 @@ impl<S: Service> Model for Answer<S> {
 }
 
 impl<S: Service> Answer<S> {
-    /// The number of the envelope.
+    /// Returns the number of the envelope.
     pub fn number(&self) -> u64
         ensures { result ≡ self.now.number }
     {
         self.number
     }
 
-    /// The server that executed the request.
+    /// Returns the server that executed the request.
     pub fn server(&self) -> ServerId
         ensures { result ≡ self.now.server }
     {
         self.server
     }
 
-    /// The reply.
+    /// Returns the reply.
     pub fn reply(&self) -> &S::Reply
         ensures { result.now ≡ self.now.reply }
     {
         &self.reply
     }
 
-    /// How many requests of the shard were executed before this one.
+    /// Returns how many requests of the shard were executed before this one.
     pub fn place(&self) -> u64
         ensures { result ≡ self.now.place }
     {
         self.place
     }
 
-    /// The reply, and the note of the history that has it.
+    /// Returns the reply, and the note of the history that has it.
     pub fn parts(self) -> (S::Reply, Note<S>)
         ensures reply { result.0 ≡ self.reply }
         ensures note { result.1 ≡ self.note }
@@ -79,7 +79,7 @@ impl<S: Service> Answer<S> {
         (self.reply, self.note)
     }
 
-    /// Says, for proofs alone, that an answer is one to some request. It does nothing.
+    /// Tells proofs that an answer is one to some request. It does nothing.
     pub fn soundness(&self)
         ensures { IsSomeAnswer (meaning_of S.initial S.next S.answer S.key_of) self.now }
     {

@@ -1,4 +1,4 @@
-//! What a server does with an envelope: it answers the request, forwards the envelope, or refuses it.
+//! A server's step on an envelope: it answers the request, forwards the envelope, or refuses it.
 //!
 //! A request comes to a server, and the answer brings home the history in which it was executed:
 //! ```rust

@@ -1,7 +1,7 @@
 use crate::refusal::Refusal;
 use sm_ranges::server_id::ServerId;
 
-/// What became of an envelope at a server.
+/// The outcome of an envelope at a server.
 #[derive(Drop)]
 pub enum Outcome<A, E> {
     /// The request was executed.

@@ -37,7 +37,7 @@ pub(crate) fn run<S: Service>(
     requires limit { S.limit permit.body ≡ limit_at board.now.limits permit.shard }
     ensures { Ran (meaning_of S.initial S.next S.answer S.key_of) helper shell request result }
 {
-    // So few requests that they can be counted.
+    // There are so few requests that they can be counted.
     board.bounds(&helper);
     let place = settle(permit.body(), server);
     let (applied, _) = board.execute(&mut helper, permit, request);

@@ -21,13 +21,12 @@ use sm_rule::board::Board;
 use sm_rule::note::Note;
 use sm_rule::pass::Pass;
 
-/// What a server makes of an envelope that came to it: the answer, where its pass is admitted and the request applied;
-/// the envelope with one hop more, and the server that it goes to; or the envelope with the first reason why it is
-/// refused.
+/// Returns a server's result for an envelope: the answer, if its pass is admitted and the request applied; the envelope
+/// with one hop more, and the next server; or the envelope with the first reason for which it is refused.
 ///
-/// An answer has executed the request once, in a history that extends what the pass and the envelope's note had seen.
-/// `Forward`, `TooManyHops` and `Admit` are by the shard's record in such a history, which the envelope's note then
-/// has. `KeptFull` and `NoMemory` come with an admission that ended with nothing.
+/// For an answer, the request was executed once, in a history that extends everything that the pass and the envelope's
+/// note had seen. `Forward`, `TooManyHops` and `Admit` depend on the shard's record in such a history, which the
+/// envelope's note then has. `KeptFull` and `NoMemory` come with an admission that ended without a request.
 pub fn serve<S: Service>(
     board: &Board<S>,
     layout: &Layout,
@@ -43,7 +42,7 @@ pub fn serve<S: Service>(
         (is_here (meaning_of S.initial S.next S.answer S.key_of) layout.now board.now.limits.count envelope)
         pass.old envelope result }
 {
-    // A pass that sees nothing more has looked, as what it has seen is legal.
+    // If a pass sees nothing more, it has looked, because its history is legal.
     pass.soundness();
     if !has_shard(board, layout, &envelope) {
         return Outcome::Refused(Refusal::WrongShard, envelope);
@@ -54,7 +53,7 @@ pub fn serve<S: Service>(
     begin(board, pass, server, envelope)
 }
 
-// Whether the envelope's shard is the board's, and that of the request's key.
+// Returns whether the envelope's shard is the board's, and that of the request's key.
 fn has_shard<S: Service>(
     board: &Board<S>,
     layout: &Layout,
@@ -67,7 +66,7 @@ fn has_shard<S: Service>(
     k.index() < board.count() as usize && layout.covers(k, S::key(envelope.request()))
 }
 
-// What a refused admission makes of the envelope: it goes on where the record read has the server forward it.
+// Returns the envelope after a refused admission: if the record read makes the server forward it, it goes on.
 fn turned_away<A, Q: Drop, N: Drop>(
     refusal: AdmitRefusal,
     server: ServerId,
@@ -84,7 +83,7 @@ fn turned_away<A, Q: Drop, N: Drop>(
     }
 }
 
-// What a record that doesn't admit the server makes of the envelope, by this fault where the server doesn't forward it.
+// Returns the envelope after a record that doesn't admit the server, with this fault if the server doesn't forward it.
 fn turned_by<A, Q: Drop, N: Drop>(
     fault: AdmitFault,
     state: Record,
@@ -103,7 +102,7 @@ fn turned_by<A, Q: Drop, N: Drop>(
     }
 }
 
-// A new pass that has seen what the pass and the note have.
+// Returns a new pass that has seen everything that the pass and the note have seen.
 fn helper_of<S: Service>(board: &Board<S>, pass: &mut Pass<S>, note: Note<S>) -> Pass<S>
     requires board { pass.old.board ≡ board.now }
     requires note { note.board ≡ board.now }
@@ -115,7 +114,7 @@ fn helper_of<S: Service>(board: &Board<S>, pass: &mut Pass<S>, note: Note<S>) ->
     helper
 }
 
-// Admits a helper, which has seen what the pass and the note have, and has it execute the request.
+// Admits a helper, which has seen everything that the pass and the note have seen, and makes it execute the request.
 fn begin<S: Service>(
     board: &Board<S>,
     pass: &mut Pass<S>,

@@ -1,5 +1,5 @@
--- The meaning of the sample service: what each request replies on a key map, changes there, and whose key it is; and of
--- the list of its requests.
+-- The meaning of the sample service: the reply to each request on a key map, its changes there, and whose key it is;
+-- and the same for a list of requests.
 use Rattle.std.specs.Prelude.{ℕ, ◌-◌, ◌^◌, ℤ, pos, neg_ℤ, ◌+ℤ◌, int_le, Bool, ◌&&◌, List, [], ◌++◌, Option, Some, None}
 use Rattle.std.specs.Prelude.{fold, length, min, take, nat_le, if◌then◌else◌}
 use Rattle.sm_body.specs.Service.{Log}
@@ -11,13 +11,13 @@ use Rattle.sm_service.specs.declared.reply.Reply.TheVariants.{Text as ReplyText,
 use Rattle.sm_service.specs.declared.request.Request.{Request}
 use Rattle.sm_service.specs.declared.request.Request.TheVariants.{Get, Put, Inc, Append, Del, Scan}
 
--- the reply to a Get, by what the key holds
+-- the reply to a Get, by the key's value
 abbrev pub get_reply : Option KeyValue → Reply
 get_reply None = Nothing
 get_reply (Some (Text text)) = ReplyText text
 get_reply (Some (Count count)) = ReplyCount count
 
--- the reply to a request for a new text, by what the key holds
+-- the reply to a request for a new text, by the key's value
 abbrev pub text_reply : Option KeyValue → List ℕ → Reply
 text_reply None text = if nat_le (length text) MAX_TEXT then Done else TooLong
 text_reply (Some (Text before)) text = if nat_le (length text) MAX_TEXT then Done else TooLong
@@ -32,7 +32,7 @@ text_after m key text _ = m
 abbrev pub is_i64 : ℤ → Bool
 is_i64 n = int_le (neg_ℤ (pos (2 ^ 63))) n && int_le n (pos (2 ^ 63 - 1))
 
--- the sum, where it is a count
+-- the sum, if it is a count
 abbrev pub sum_of : ℤ → ℤ → Option ℤ
 sum_of count amount = if is_i64 (count +ℤ amount) then Some (count +ℤ amount) else None
 
@@ -41,7 +41,7 @@ abbrev pub count_reply : Option ℤ → Reply
 count_reply (Some sum) = ReplyCount sum
 count_reply None = Overflow
 
--- the reply to an Inc, by what the key holds
+-- the reply to an Inc, by the key's value
 abbrev pub inc_reply : Option KeyValue → ℤ → Reply
 inc_reply None amount = ReplyCount amount
 inc_reply (Some (Text text)) amount = WrongKind
@@ -52,16 +52,16 @@ abbrev pub inc_after : List KeyPair → List ℕ → Reply → List KeyPair
 inc_after m key (ReplyCount sum) = holding m key (Count sum)
 inc_after m key _ = m
 
--- the text that an Append makes of the one that the key holds; a key without one counts as the empty text
+-- the text that an Append makes from the key's text; if the key has none, from the empty text
 abbrev pub longer_text : List KeyPair → List ℕ → List ℕ → List ℕ
 longer_text m key tail = text_at m key ++ tail
 
--- the reply to a Del, by what the key holds
+-- the reply to a Del, by the key's value
 abbrev pub del_reply : Option KeyValue → Reply
 del_reply None = Nothing
 del_reply (Some held) = Done
 
--- the first pairs with keys from low on and below high, as many as are asked for and a scan gives
+-- the first pairs with keys from low up to, but without, high: as many as are asked for, and as a scan gives
 abbrev pub scanned : List KeyPair → List ℕ → List ℕ → ℕ → List KeyPair
 scanned m low high most = take (min most MAX_SCANNED) (within m low high)
 
@@ -100,6 +100,6 @@ pairs_after requests = fold after [] requests
 abbrev pub reply_after : List Request → Request → Reply
 reply_after requests request = reply (pairs_after requests) request
 
--- what a body of the sample service keeps
+-- the contents of a body of the sample service
 abbrev pub TextLog : Type 0
 TextLog = Log (List KeyPair) Request

@@ -16,25 +16,25 @@ use sm_map::val::Val;
 use std::alloc::{AllocError, Global};
 use std::marker::Model;
 
-/// The longest text that a key holds, in bytes.
+/// The greatest length of a key's text in bytes.
 pub const MAX_TEXT: usize = 65_535;
 
-/// The most pairs that a scan gives.
+/// The greatest number of pairs in the reply to a scan.
 pub const MAX_SCANNED: usize = 100;
 
-/// Where more bytes than this are dead, and more than live, a request that may place bytes (`put`, `append`, `inc`)
+/// If more bytes than this are dead, and more than are live, a request that may place bytes (`put`, `append`, `inc`)
 /// first moves the map into fresh memory, unless that is refused. No clause says so.
 pub const MAX_DEAD: u128 = 65_536;
 
-// If a request owns a text of so many bytes or more, the map keeps its memory. A shorter one is copied, because memory
-// of its own takes more than a copy beside others. A text whose memory is more than twice as long is copied too,
-// because the spare room would be held until the map moves, and counts nowhere as dead.
+// If a request owns a text of at least this many bytes, the map keeps its memory. A shorter one is copied, because
+// memory of its own takes more than a copy beside others. A text whose memory is more than twice as long is copied too,
+// because the spare room would be held until the map moves, and isn't counted as dead.
 const LEAST_JOINED_BYTES: usize = 4_096;
 
 /// The sample service: texts and counts by key.
 pub type CounterText = Logged<KeyMachine>;
 
-/// What the sample service keeps: a map from keys to texts and counts.
+/// The state of the sample service: a map from keys to texts and counts.
 #[derive(Drop)]
 pub struct KeyMachine {
     map: ArenaMap,
@@ -85,7 +85,7 @@ impl Machine for KeyMachine {
         self.answer_lent(alloc, request.lend())
     }
 
-    // A long text of a `put` stays in its memory.
+    // A long text of a `put` stays in its own memory.
     fn answer_owned(
         &mut self,
         alloc: Global,
@@ -113,7 +113,7 @@ impl Machine for KeyMachine {
 }
 
 impl KeyMachine {
-    /// Answers the request whose parts are lent, or changes nothing where memory is refused.
+    /// Answers the request whose parts are lent. If memory is refused, it changes nothing.
     pub fn answer_lent(
         &mut self,
         alloc: Global,
@@ -142,26 +142,26 @@ impl KeyMachine {
         }
     }
 
-    /// What the key holds, where it lies.
+    /// Returns the key's value without a copy.
     pub fn held(&self, key: &[u8]) -> Option<Val<'_>>
         ensures { option_map held_of result ≡ held_at self.now key.now }
     {
         self.map.get(key)
     }
 
-    /// How many keys hold something.
+    /// Returns how many keys have a value.
     pub fn len(&self) -> u128
         ensures { result ≡ length self.now }
     {
         self.map.len()
     }
 
-    /// How many bytes of the map are dead, as `ArenaMap::dead` counts them. It has no clause of its own.
+    /// Returns how many bytes of the map are dead, as `ArenaMap::dead` counts them. It has no clause of its own.
     pub fn dead(&self) -> u128 {
         self.map.dead()
     }
 
-    // Moves the map into fresh memory where much of the old is dead; where that is refused, it stays.
+    // Moves the map into fresh memory if much of the old memory is dead. If that is refused, the map stays.
     fn drop_the_dead(&mut self, alloc: Global)
         ensures { self.new ≡ self.old }
     {
@@ -197,7 +197,7 @@ fn put(map: &mut ArenaMap, key: &[u8], text: &[u8]) -> Result<Reply, AllocError>
     Ok(Reply::Done)
 }
 
-// The same, and a long text stays in its memory; a refused one comes back.
+// Does the same as `put`. A long text stays in its own memory, and a refused text comes back.
 fn put_owned(map: &mut ArenaMap, key: &[u8], text: Vec<u8>) -> Result<Reply, (Vec<u8>, AllocError)>
     ensures reply { IfOk result (λ made. made ≡ reply map.old.pairs (Request.Put key.now text.items)) }
     ensures after { OnOk result (map.new.pairs ≡ after map.old.pairs (Request.Put key.now text.items)) }
@@ -282,14 +282,14 @@ fn scan(
     Ok(Reply::Pairs(PairList::new(alloc, &rows)?))
 }
 
-// Whether a key can't hold a text of so many bytes.
+// Returns whether a text of this many bytes is too long for a key.
 fn is_too_long(count: usize) -> bool
     ensures { result ≡ not (nat_le count MAX_TEXT) }
 {
     count > MAX_TEXT
 }
 
-// The sum, where it has 64 bits.
+// Returns the sum, if it has 64 bits.
 fn sum_of(count: i64, amount: i64) -> Option<i64>
     ensures { result ≡ sum_of count amount }
 {

@@ -6,7 +6,7 @@ use crate::bytes::Bytes;
 use sm_map::val::Val;
 use std::alloc::{AllocError, Global};
 
-// What a key held, with its text in memory of its own.
+// A key's value, with its text in memory of its own.
 #[derive(Drop)]
 pub(crate) enum Held {
     Text(Bytes),
@@ -14,7 +14,7 @@ pub(crate) enum Held {
 }
 
 impl Held {
-    // A copy of the value.
+    // Returns a copy of the value.
     pub(crate) fn new(alloc: Global, value: Val<'_>) -> Result<Held, AllocError>
         ensures { IfOk result (λ held. stored_as held ≡ held_of value.entry) }
     {
@@ -24,7 +24,7 @@ impl Held {
         }
     }
 
-    // The value.
+    // Returns the value.
     pub(crate) fn as_val(&self) -> Val<'_>
         ensures { held_of result ≡ stored_as self.now }
     {

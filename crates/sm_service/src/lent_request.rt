@@ -3,25 +3,25 @@ ghost use Rattle.sm_service.specs.LentRequest.{request_lent};
 
 use crate::request::Request;
 
-/// A request whose parts lie with the caller, so that nothing is copied to ask it.
+/// A request whose parts belong to the caller, so that nothing must be copied to make it.
 #[derive(Clone, Copy)]
 pub enum LentRequest<'a> {
-    /// What does the key hold?
+    /// Returns the value of the key.
     Get(&'a [u8]),
-    /// The key is to hold the text, in place of the text that it held.
+    /// Makes the key hold the text, and replaces the text that it held.
     Put(&'a [u8], &'a [u8]),
-    /// The number is to be added to the count that the key holds.
+    /// Adds the number to the key's count.
     Inc(&'a [u8], i64),
-    /// The key is to hold the text that it held, followed by this one.
+    /// Appends this text to the key's text.
     Append(&'a [u8], &'a [u8]),
-    /// The key is to hold nothing.
+    /// Removes the key's value.
     Del(&'a [u8]),
-    /// Which keys of the shard hold what, from the first of these keys on and below the second, at most so many?
+    /// Returns the pairs of the shard whose keys are at least the first key and below the second, at most this many.
     Scan(&'a [u8], &'a [u8], u32),
 }
 
 impl Request {
-    /// The request, with its parts lent.
+    /// Returns the request with its parts lent.
     pub fn lend(&self) -> LentRequest<'_>
         ensures { request_lent result ≡ self.now }
     {

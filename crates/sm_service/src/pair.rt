@@ -7,7 +7,7 @@ use sm_map::val::Val;
 use std::alloc::{AllocError, Global};
 use std::marker::Model;
 
-/// A key and what it held when a scan found it.
+/// A key and its value when a scan found it.
 #[derive(Drop)]
 pub struct Pair {
     key: Bytes,
@@ -24,7 +24,7 @@ impl Model for Pair {
 }
 
 impl Pair {
-    // A copy of a map's row.
+    // Returns a copy of a map's row.
     pub(crate) fn new(alloc: Global, row: &(&[u8], Val<'_>)) -> Result<Pair, AllocError>
         ensures { IfOk result (λ pair. pair ≡ row_of row.now) }
     {
@@ -34,14 +34,14 @@ impl Pair {
         })
     }
 
-    /// The bytes of the key.
+    /// Returns the bytes of the key.
     pub fn key(&self) -> &[u8]
         ensures { result.now ≡ self.now.key }
     {
         self.key.as_bytes()
     }
 
-    /// What the key held.
+    /// Returns the key's value.
     pub fn value(&self) -> Val<'_>
         ensures { held_of result ≡ self.now.value }
     {

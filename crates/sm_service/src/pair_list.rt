@@ -22,7 +22,7 @@ impl Model for PairList {
 }
 
 impl PairList {
-    // A copy of a map's rows.
+    // Returns a copy of a map's rows.
     pub(crate) fn new(alloc: Global, rows: &[(&[u8], Val<'_>)]) -> Result<PairList, AllocError>
         ensures { IfOk result (λ list. list ≡ map row_of rows.now) }
     {
@@ -33,7 +33,7 @@ impl PairList {
         Ok(PairList { pairs })
     }
 
-    /// The pairs.
+    /// Returns the pairs.
     pub fn as_slice(&self) -> &[Pair]
         ensures { result.now ≡ self.now }
     {

@@ -1,21 +1,20 @@
 use crate::bytes::Bytes;
 use sm_ranges::key::Key;
 
-/// What a client asks of the sample service.
+/// A client's request to the sample service.
 #[derive(Drop)]
 pub enum Request {
-    /// What does the key hold?
+    /// Returns the value of the key.
     Get(Key),
-    /// The key is to hold the text, in place of the text that it held.
+    /// Makes the key hold the text, and replaces the text that it held.
     Put(Key, Bytes),
-    /// The number is to be added to the count that the key holds. A key that holds nothing counts as 0.
+    /// Adds the number to the key's count. If the key holds nothing, its count is 0 before that.
     Inc(Key, i64),
-    /// The key is to hold the text that it held, followed by this one. A key that holds nothing counts as the empty
-    /// text.
+    /// Appends this text to the key's text. If the key holds nothing, its text is empty before that.
     Append(Key, Bytes),
-    /// The key is to hold nothing.
+    /// Removes the key's value.
     Del(Key),
-    /// Which keys of the shard hold what, from the first of these keys on and below the second? At most so many of
-    /// them, and at most `MAX_SCANNED`.
+    /// Returns the pairs of the shard whose keys are at least the first key and below the second: at most this many,
+    /// and at most `MAX_SCANNED`.
     Scan(Key, Key, u32),
 }

@@ -18,7 +18,7 @@ module _ {Q : Type 0} (w : WorldState Q) (server shard : ℕ) (mode : Mode) (han
   abbrev pub entered : WorldState Q
   entered = with_hand (with_entry w server shard (Admit server mode)) shard (Some hand)
 
-  -- has the parts that the code makes
+  -- the world after the admission has the parts that the code makes
   pub entered_parts : IsSound entered → with_admission (parts_of w pasts) shard hand ≡ parts_of entered pasts
   entered_parts after =
       let entry : Entry Q = record { actor = server; shard = shard; kind = Admit server mode } in
@@ -26,7 +26,7 @@ module _ {Q : Type 0} (w : WorldState Q) (server shard : ℕ) (mode : Mode) (han
       (fits-push (count_of w) w.frame.ceiling w.history entry after.legal) in
       ap (λ records. record (with_admission (parts_of w pasts) shard hand) { records = records }) (sym grown)
 
-  -- and the pasts that it had
+  -- the world after the admission has the pasts that it had before
   pub entered_keeps : Keeps w pasts → Keeps entered pasts
   entered_keeps keeps =
       record {

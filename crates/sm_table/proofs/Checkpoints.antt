@@ -71,7 +71,7 @@ module _ {Q : Type 0} (w : WorldState Q) (server shard : ℕ) where
         ∙ ap (λ t. slice_set t shard (after_done (record_at t shard))) (table_of-push (count_of w) w.frame.ceiling
         w.history admission (fits-push (count_of w) w.frame.ceiling w.history admission legal))
 
-  -- what the shards have applied
+  -- the requests that the shards have applied
   past_based : past_of (between ++ end ∷ []) shard ≡ past_after (past_of w.history shard) ending
   past_based = past_of-push between end ending refl
       ∙ ap (λ past. past_after past ending) (past_of-push_none w.history admission shard refl)
@@ -203,12 +203,12 @@ no_base_there service now same w given shard server past =
     Follows-unchanged service w Plain (CheckpointAt shard server) now now (Err UnknownShard) given
     (rw (past_shards now same w given shard past) refl) refl
 
--- what holds after a call that was refused
+-- a fact that holds after a call that was refused
 pub on_err : {X E P : Type 0} (r : Result X E) → is_err r ≡ true → OnErr r P → P
 on_err (Ok x) refused holds = absurd cc
 on_err (Err e) refused holds = holds
 
--- what holds after a call that wasn't refused
+-- a fact that holds after a call that wasn't refused
 pub on_ok : {X E P : Type 0} (r : Result X E) → is_err r ≡ false → OnOk r P → P
 on_ok (Ok x) made holds = holds
 on_ok (Err e) made holds = absurd cc

@@ -38,7 +38,7 @@ module _ {Q : Type 0} (w : WorldState Q) (shard : ℕ) (change : Change) where
     records = (table_changed (record { records = v.records; ceiling = v.ceiling }) shard change).records;
   }
 
-  -- are those of the changed world
+  -- the changed parts are the parts of the changed world
   pub changed_parts_of : (pasts : List (Past Q)) → IsSound changed_world
       → changed_parts (parts_of w pasts) ≡ parts_of changed_world pasts
   changed_parts_of pasts after =
@@ -97,7 +97,7 @@ module _ {Q R : Type 0} (service : Meaning Q R) {bounds : List (List ℕ)} {desk
           refused,
         ) refl) (ap (λ (t : TableView). record v { records = t.records; ceiling = t.ceiling }) unchanged)
 
-    -- neither does
+    -- neither the desk nor the table refuses the change
     pub made : (table : TableView) (desk : DeskView)
         → None ≡ record_fault v.ceiling (record_at v.records shard)
         → table ≡ table_changed (record { records = v.records; ceiling = v.ceiling }) shard change

@@ -31,7 +31,7 @@ none_of : {X : Type 0} (option : Option X) → is_some option ≡ false → opti
 none_of None is = refl
 none_of (Some x) is = absurd cc
 
--- what a server has in hand that has begun this request
+-- the work in hand of a server that has begun this request
 abbrev begun : {Q : Type 0} → ℕ → ℕ → Q → InHand Q
 begun server number request = record { server = server; work = Some (record { number = number; request = request }) }
 
@@ -90,7 +90,7 @@ module _ {Q R : Type 0} (service : Meaning Q R) {bounds : List (List ℕ)} {desk
   state_of_world = ap (λ k. world_record w k) (sym shard_is)
       ∙ ap (λ records. record_at records shard) (sym stands.records) ∙ sym state_is
 
-  -- the parts without the envelope are those of the world without it
+  -- the parts without the envelope are the parts of the world without it
   abbrev taken : WorldView Q
   taken = record v { in_flight = in_flight }
 
@@ -121,7 +121,7 @@ module _ {Q R : Type 0} (service : Meaning Q R) {bounds : List (List ℕ)} {desk
       (λ _. ap (λ (u : WorldView Q). record u { in_flight = hop.1 }) (parts-from_StandsFor v w stands))
       (λ _. record { bodies = stands.bodies; each = stands.pasts }))))
 
-  -- the server forwards the request, or refuses it where no hop is left or the next server isn't reached
+  -- the server forwards the request, or refuses it if no hop is left or the next server isn't reached
   pub forwarded_on : is_some (forward_to state flight.to) ≡ true → (answer : WorldAnswer R) (flights : List (Flight Q))
       → (answer, flights) ≡ after_hop v.desk in_flight (forwarded flight.envelope state flight.to)
       → FollowsHop (answer, flights)

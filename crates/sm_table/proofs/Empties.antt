@@ -40,7 +40,7 @@ none_yet Q count shard =
 
 module _ {Q : Type 0} {bounds : List (List ℕ)} {desk : DeskView} {table : TableView} {bodies : BodiesView Q}
     {routes : List (Option Route)} {in_flight : List (Flight Q)} {in_hand : List (Option (InHand Q))} where
-  -- parts with a vacant record for each shard, where nothing is kept, in flight or in hand
+  -- parts with a vacant record for each shard, with nothing kept, in flight or in hand
   pub StandsFor-empty : (frame : Frame) → IsFrame frame → bounds ≡ frame.bounds → desk ≡ frame.start
       → table.records ≡ replicate (length frame.bounds) vacant → table.ceiling ≡ frame.ceiling
       → bodies.pasts ≡ replicate (length frame.bounds) no_past → bodies.limits ≡ frame.limits

@@ -32,7 +32,7 @@ use Rattle.sm_table.specs.declared.world.Flight.{Flight}
 use Rattle.sm_table.specs.lemmas.Entries.{hand_within}
 use Rattle.sm_table.specs.lemmas.Steps.{served, worked}
 
--- what is in hand, by its parts
+-- the work in hand, by its parts
 abbrev pub in_hand : {Q : Type 0} → ℕ → Option (Work Q) → Option (InHand Q)
 in_hand server work = Some (record { server = server; work = work })
 
@@ -47,7 +47,7 @@ in_hand-begun : {Q : Type 0} (own : ℕ) (some : Option (Work Q)) (begun_by : �
 in_hand-begun own None begun_by is = absurd cc
 in_hand-begun own (Some one) begun_by is = ap (option_map hand_with) (sym is)
 
--- what is in hand where a server has begun a request
+-- the work in hand if a server has begun a request
 pub hand-from_work : {Q : Type 0} (hand : Option (InHand Q)) (begun_by : ℕ × Work Q) → Some begun_by ≡ work_of hand
     → hand ≡ in_hand begun_by.0 (Some begun_by.1)
 hand-from_work None begun_by is = absurd cc
@@ -62,7 +62,7 @@ module _ {Q : Type 0} (w : WorldState Q) (shard : ℕ) (server : ℕ) (ending : 
     in_hand = slice_set v.in_hand shard None;
   }
 
-  -- are those of the world after it
+  -- the parts after the end are the parts of the world after it
   pub done_parts_of : (pasts before : List (Past Q)) → IsSound (ended w shard server ending)
       → done_parts pasts (parts_of w before) ≡ parts_of (ended w shard server ending) pasts
   done_parts_of pasts before after =

@@ -1,4 +1,4 @@
--- Steps keep a world's frame, and add to its history and to what was published.
+-- Steps keep a world's frame, and add to its history and to its publications.
 use Rattle.std.proofs.Common.{◌≡◌, ℕ, List, [], ◌∷◌, ◌++◌, length, refl, sym, ap, append_assoc, ◌∙◌}
 use Rattle.std.specs.Prelude.{Option, Some, None, nat_lt, remove, slice_index_or}
 use Rattle.std.proofs.lemmas.Bool.{cond_both}

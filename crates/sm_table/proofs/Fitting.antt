@@ -42,7 +42,8 @@ module _ {Q : Type 0} {bounds : List (List ℕ)} {desk : DeskView} {table : Tabl
   abbrev IsShardThere : Flight Q → Type 0
   IsShardThere flight = flight.envelope.shard < length in_hand
 
-  -- another record of a shard, another hand, which it admits, and other requests, no more than its generation
+  -- the parts fit together with another record of a shard, another hand, which the record must admit, and other
+  -- requests, no more than the record's generation
   with_shard : (shard : ℕ) (state : Record) (desk_now : DeskView) (table_now : TableView) (bodies_now : BodiesView Q)
       (hands : List (Option (InHand Q))) → table_now ≡ with_record table shard state
       → stands_of desk_now ≡ map (λ (one : Record). one.stand) (slice_set table.records shard state)
@@ -97,7 +98,7 @@ module _ {Q : Type 0} {bounds : List (List ℕ)} {desk : DeskView} {table : Tabl
           omega arith)
           (cases_eq other shard)
 
-  -- the stands stay where the shard's next record has its stand
+  -- the stands stay the same if the shard's next record has the stand of the one before
   stands_stay : (shard : ℕ) (state : Record) → state.stand ≡ (record_at table.records shard).stand
       → stands_of desk ≡ map (λ (one : Record). one.stand) (slice_set table.records shard state)
   stands_stay shard state stays =
@@ -112,7 +113,7 @@ module _ {Q : Type 0} {bounds : List (List ℕ)} {desk : DeskView} {table : Tabl
     length-map table.records (λ (one : Record). one.stand),
   )
 
-  -- of its stand
+  -- the desk has the stand of each record
   pub stand_there : (shard : ℕ) → shard < length desk.books.shards
       → (shard_at desk.books.shards shard).stand ≡ (record_at table.records shard).stand
   stand_there shard below =
@@ -120,7 +121,7 @@ module _ {Q : Type 0} {bounds : List (List ℕ)} {desk : DeskView} {table : Tabl
       ∙ ap (λ all. slice_index_or all shard Vacant) whole.stands
       ∙ get_or-map (λ (one : Record). one.stand) table.records shard vacant Vacant (shard_there shard below)
 
-  -- after a change of a shard's stand, at the desk too
+  -- the parts fit together after a change of a shard's stand, which the desk must make too
   pub IsTogether-changed : (shard : ℕ) (change : Change) (desk_now : DeskView) (table_now : TableView)
       → shard < length desk.books.shards → desk_now ≡ commanded desk (ChangeOf shard change)
       → table_now ≡ table_changed table shard change
@@ -145,7 +146,7 @@ module _ {Q : Type 0} {bounds : List (List ℕ)} {desk : DeskView} {table : Tabl
       (λ _ _. refl)
       (λ hand is. ap (λ (r : Record). r.admitted) there ∙ whole.admitted shard hand is)
 
-  -- after the end of an admission, with a request at most
+  -- the parts fit together after the end of an admission, with at most one more request
   ended : (shard : ℕ) (table_now : TableView) (bodies_now : BodiesView Q) (hands : List (Option (InHand Q)))
       → shard < length in_hand → table_now ≡ table_done table shard → hands ≡ slice_set in_hand shard None
       → length bodies_now.pasts ≡ length bodies.pasts
@@ -162,7 +163,7 @@ module _ {Q : Type 0} {bounds : List (List ℕ)} {desk : DeskView} {table : Tabl
       arith) (length-set in_hand shard None) (λ other apart. get_or-set_other in_hand shard other None None apart)
       (λ hand held. let none = get_or-set_same in_hand shard None None within in absurd cc))
 
-  -- the bodies keep what they kept
+  -- the parts fit together if the bodies keep the same requests
   pub IsTogether-done :
       (shard : ℕ) (table_now : TableView) (bodies_now : BodiesView Q) (hands : List (Option (InHand Q)))
       → shard < length in_hand → table_now ≡ table_done table shard → hands ≡ slice_set in_hand shard None
@@ -173,7 +174,7 @@ module _ {Q : Type 0} {bounds : List (List ℕ)} {desk : DeskView} {table : Tabl
       ended shard table_now bodies_now hands within done is (ap length kept)
       (λ other _. ap (λ all. past_at all other) kept) (omega arith)
 
-  -- or one keeps the request that its server had in hand
+  -- the parts fit together if one body also keeps the request that its server had in hand
   pub IsTogether-replied : (shard server : ℕ) (work : Work Q) (table_now : TableView) (bodies_now : BodiesView Q)
       (hands : List (Option (InHand Q)))
       → slice_index_or in_hand shard None ≡ Some (record { server = server; work = Some work })
@@ -191,7 +192,7 @@ module _ {Q : Type 0} {bounds : List (List ℕ)} {desk : DeskView} {table : Tabl
       (λ other apart. ap (λ all. past_at all other) kept ∙ get_or-set_other bodies.pasts shard other past no_past apart)
       (omega arith)
 
-  -- after an admission
+  -- the parts fit together after an admission
   pub IsTogether-admitted : (shard : ℕ) (hand : InHand Q) (table_now : TableView) (hands : List (Option (InHand Q)))
       → shard < length table.records → table_now ≡ table_admitted table shard → hands
       ≡ slice_set in_hand shard (Some hand) → IsTogether (view_of bounds desk table_now bodies routes in_flight hands)
@@ -206,7 +207,7 @@ module _ {Q : Type 0} {bounds : List (List ℕ)} {desk : DeskView} {table : Tabl
       (λ other apart. get_or-set_other in_hand shard other (Some hand) None apart)
       (λ _ _. ap (λ (r : Record). r.admitted) there))
 
-  -- after a checkpoint of an idle shard
+  -- the parts fit together after a checkpoint of an idle shard
   pub IsTogether-based : (shard : ℕ) (between table_now : TableView) (bodies_now : BodiesView Q)
       → shard < length table.records → (record_at table.records shard).admitted ≡ false
       → between ≡ table_admitted table shard → table_now ≡ table_done between shard
@@ -235,7 +236,7 @@ module _ {Q : Type 0} {bounds : List (List ℕ)} {desk : DeskView} {table : Tabl
       (omega arith) refl (λ _ _. refl)
       (λ hand held. absurd (true≢false (sym (whole.admitted shard hand held) ∙ idle)))
 
-  -- with other envelopes in flight, for shards that are there
+  -- the parts fit together with other envelopes in flight, for shards that are there
   IsTogether-in_flight : (flights : List (Flight Q)) → All IsShardThere flights
       → IsTogether (view_of bounds desk table bodies routes flights in_hand)
   IsTogether-in_flight flights all = record {
@@ -250,7 +251,7 @@ module _ {Q : Type 0} {bounds : List (List ℕ)} {desk : DeskView} {table : Tabl
     low = whole.low;
   }
 
-  -- with another route of a shard
+  -- the parts fit together with another route of a shard
   pub IsTogether-published : (shard : ℕ) (route : Option Route) (routes_now : List (Option Route)) → routes_now
       ≡ slice_set routes shard route → IsTogether (view_of bounds desk table bodies routes_now in_flight in_hand)
   IsTogether-published shard route routes_now is = record {
@@ -265,7 +266,7 @@ module _ {Q : Type 0} {bounds : List (List ℕ)} {desk : DeskView} {table : Tabl
     low = whole.low;
   }
 
-  -- with another desk of the same stands
+  -- the parts fit together with another desk of the same stands
   pub IsTogether-desk : (desk_now : DeskView) → stands_of desk_now ≡ stands_of desk
       → IsTogether (view_of bounds desk_now table bodies routes in_flight in_hand)
   IsTogether-desk desk_now stands = record {
@@ -280,7 +281,7 @@ module _ {Q : Type 0} {bounds : List (List ℕ)} {desk : DeskView} {table : Tabl
     low = whole.low;
   }
 
-  -- with one more, for a shard that is there
+  -- the parts fit together with one more envelope, for a shard that is there
   pub IsTogether-sent : (shard to number : ℕ) (request : Q) (envelope : EnvelopeView Q (Unit {0}))
       (flights : List (Flight Q)) → shard < length bounds → envelope ≡ direct number shard request → flights ≡ in_flight
       ++ flight_to to envelope ∷ [] → IsTogether (view_of bounds desk table bodies routes flights in_hand)
@@ -307,7 +308,7 @@ module _ {Q : Type 0} {bounds : List (List ℕ)} {desk : DeskView} {table : Tabl
       (λ _. all))
       (λ _. all)
 
-  -- an envelope that came off the flights is forwarded, or refused
+  -- the parts fit together if an envelope that came off the flights is forwarded, or refused
   pub IsTogether-hop : {R : Type 0} (place : ℕ) (envelope : EnvelopeView Q (Unit {0})) (state : Record) (from : ℕ)
       (left flights : List (Flight Q)) (answer : WorldAnswer R) → left ≡ remove in_flight place
       → envelope.shard < length table.records → (answer, flights) ≡ after_hop desk left (forwarded envelope state from)
@@ -320,7 +321,7 @@ module _ {Q : Type 0} {bounds : List (List ℕ)} {desk : DeskView} {table : Tabl
       ap (λ (pair : WorldAnswer R × List (Flight Q)). pair.1) hop in
       IsTogether-in_flight flights (subst (All IsShardThere) (sym as_hopped) onward)
 
-  -- or not in flight any more
+  -- the parts fit together if an envelope isn't in flight any more
   pub IsTogether-remove : (place : ℕ) (left : List (Flight Q)) → left ≡ remove in_flight place
       → IsTogether (view_of bounds desk table bodies routes left in_hand)
   IsTogether-remove place left left_is =

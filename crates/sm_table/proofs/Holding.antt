@@ -35,7 +35,7 @@ in_hand-alone : {Q : Type 0} (own : ℕ) (some : Option (Work Q)) → true ≡ i
 in_hand-alone own None is = refl
 in_hand-alone own (Some one) is = absurd cc
 
--- what is in hand where a server holds the shard without a request
+-- the hand of a server that holds the shard without a request
 pub hand-from_alone : {Q : Type 0} (hand : Option (InHand Q)) → true ≡ is_alone hand
     → (server : ℕ) × (hand ≡ in_hand server None)
 hand-from_alone None is = absurd cc
@@ -109,7 +109,7 @@ module _ {Q R : Type 0} (service : Meaning Q R) {bounds : List (List ℕ)} {desk
       ∙ entered_parts w server shard Direct hand v.pasts sound)
       (λ _. entered_keeps w server shard Direct hand v.pasts (record { bodies = stands.bodies; each = stands.pasts }))
 
-  -- no server holds the shard so
+  -- no server holds the shard without a request
   pub not_freed : (hands : List (Option (InHand Q))) → false ≡ is_alone (slice_index_or v.in_hand shard None) → hands
       ≡ v.in_hand → Follows {R = R} (record v { in_hand = hands }) (Err NotHeld) (outcome service w Plain (Free shard))
   not_freed hands alone stays =

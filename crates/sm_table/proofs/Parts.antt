@@ -1,4 +1,4 @@
--- What the parts of a `World` show of the world that they stand for.
+-- How the parts of a `World` show the world that they stand for.
 use Rattle.std.proofs.Common.{◌≡◌, ℕ, ◌<◌, List, length, refl, sym, ap, subst, ◌∙◌}
 use Rattle.std.specs.Prelude.{Option, Result}
 use Rattle.sm_ownership.specs.declared.record.Record.{Record}
@@ -16,7 +16,7 @@ use Rattle.sm_table.specs.World.{WorldState, Mark, StepOutcome, count_of, last_r
 use Rattle.sm_table.specs.Standing.{IsSound, WorldView, view_of, StandsFor, Follows, world_table}
 use Rattle.sm_table.specs.lemmas.Soundness.{sound_next}
 
--- the parts of a world, where the bodies have these pasts
+-- the parts of a world whose bodies have these pasts
 abbrev pub parts_of : {Q : Type 0} → WorldState Q → List (Past Q) → WorldView Q
 parts_of w pasts = record {
   bounds = w.frame.bounds;
@@ -30,7 +30,7 @@ parts_of w pasts = record {
   in_hand = w.in_hand;
 }
 
--- the pasts are those of the world's shards
+-- the pasts are the pasts of the world's shards
 pub record Keeps {Q : Type 0} (w : WorldState Q) (pasts : List (Past Q)) : Type 0 where
   pub bodies : length pasts ≡ count_of w
   pub each : (shard : ℕ) → shard < count_of w → past_at pasts shard ≡ past_of w.history shard
@@ -115,13 +115,13 @@ same_view v bounds desk records ceiling limits routes in_flight in_hand a b c d 
       in_hand = x;
     }) g
 
--- what stands for a world are its parts
+-- the parts that stand for a world are its parts
 pub parts-from_StandsFor : {Q : Type 0} (v : WorldView Q) (w : WorldState Q) → StandsFor v w → v ≡ parts_of w v.pasts
 parts-from_StandsFor v w stands = same_view v w.frame.bounds w.desk (world_table w) w.frame.ceiling w.frame.limits
     (last_routes w) w.in_flight w.in_hand stands.bounds stands.desk stands.records stands.ceiling stands.limits
     stands.routes stands.in_flight stands.in_hand
 
--- a step that leaves the world leaves the parts
+-- a step that doesn't change the world doesn't change the parts
 pub Follows-unchanged : {Q R : Type 0} (service : Meaning Q R) (w : WorldState Q) (mark : Mark) (step : Step Q)
     (view now : WorldView Q) (answer : Result (WorldAnswer R) WorldFault) → StandsFor now w
     → outcome service w mark step ≡ (answer, w) → view ≡ now → Follows view answer (outcome service w mark step)
@@ -130,7 +130,7 @@ Follows-unchanged service w mark step view now answer stands out same = record {
   stands = subst (λ o. StandsFor view o.1) (sym out) (subst (λ u. StandsFor u w) (sym same) stands);
 }
 
--- a step that leads to another world leads to its parts, where they are those parts if that world is sound
+-- a step that leads to another world leads to the world's parts, if they are its parts whenever that world is sound
 pub Follows-changed : {Q R : Type 0} (service : Meaning Q R) (w : WorldState Q) (mark : Mark) (step : Step Q)
     (view : WorldView Q) (answer : Result (WorldAnswer R) WorldFault) (after : WorldState Q) (pasts : List (Past Q))
     → IsSound w → outcome service w mark step ≡ (answer, after) → (IsSound after → view ≡ parts_of after pasts)

@@ -14,21 +14,21 @@ module _ {Q : Type 0} (history : List (Entry Q)) (entry : Entry Q) where
   abbrev longer : List (Entry Q)
   longer = history ++ entry ∷ []
 
-  -- an entry of another shard leaves them
+  -- an entry of another shard doesn't change them
   pub past_of-push_other : (shard : ℕ) → (entry.shard == shard) ≡ false → past_of longer shard ≡ past_of history shard
   past_of-push_other shard other = λ i. record {
     all = all_of-push_other history entry shard other i;
     first = first_of-push_other history entry shard other i;
   }
 
-  -- so does one that ends no admission, or ends it with nothing
+  -- an entry that ends no admission, or ends it with nothing, doesn't change them either
   pub past_of-push_none : (shard : ℕ) → ending_of entry.kind ≡ Nothing → past_of longer shard ≡ past_of history shard
   past_of-push_none shard nothing = λ i. record {
     all = all_of-push_none history entry nothing shard i;
     first = first_of-push_none history entry nothing shard i;
   }
 
-  -- what an entry of the shard makes of them
+  -- an entry of the shard changes them by how it ends the admission
   pub past_of-push : (ending : Ending Q) → ending_of entry.kind ≡ ending
       → past_of longer entry.shard ≡ past_after (past_of history entry.shard) ending
   past_of-push Nothing is = past_of-push_none entry.shard is

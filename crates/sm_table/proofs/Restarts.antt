@@ -18,7 +18,7 @@ use Rattle.sm_table.specs.Standing.{WorldView, view_of, StandsFor, Follows}
 use Rattle.sm_table.specs.World.{WorldState, Plain, outcome, table_fault, with_change}
 use Rattle.sm_table.proofs.Parts.{parts-from_StandsFor, Follows-unchanged, Follows-changed}
 
--- a step of a restart is for the desk alone: it has no fault of the table, and changes no stand
+-- a step of a restart concerns only the desk: it has no fault of the table, and changes no stand
 spares_table : {Q : Type 0} (w : WorldState Q) (command : Command) → is_restart command ≡ true
     → (table_fault w command ≡ None) × (with_change w command ≡ w)
 spares_table w (Change shard change) is = absurd cc
@@ -28,7 +28,7 @@ spares_table w (Stopped server) is = (refl, refl)
 spares_table w (Back server) is = (refl, refl)
 spares_table w (Fail server) is = (refl, refl)
 
--- it leaves the stands
+-- a step of a restart doesn't change the stands
 pub spares_stands : (desk : DeskView) (command : Command) → is_restart command ≡ true
     → stands_of (commanded desk command) ≡ stands_of desk
 spares_stands desk (Change shard change) is = absurd cc
@@ -49,7 +49,7 @@ module _ {Q R : Type 0} (service : Meaning Q R) {bounds : List (List ℕ)} {desk
   stands : StandsFor v w
   stands = subst (λ u. StandsFor u w) (sym same) given
 
-  -- the desk refuses it
+  -- the desk refuses the step
   pub restart_refused : (fault : CommandFault) → Some fault ≡ desk_fault v.desk command
       → Follows {R = R} now (Err (CommandRefused fault)) (outcome service w Plain (Control command))
   restart_refused fault is =
@@ -58,7 +58,7 @@ module _ {Q R : Type 0} (service : Meaning Q R) {bounds : List (List ℕ)} {desk
       Follows-unchanged service w Plain (Control command) now now (Err (CommandRefused fault)) given
       (rw refused refl) refl
 
-  -- it is made
+  -- the step is made
   pub restarted : is_restart command ≡ true → (desk : DeskView) → None ≡ desk_fault v.desk command
       → desk ≡ commanded v.desk command
       → Follows {R = R} (record v { desk = desk }) (Ok Made) (outcome service w Plain (Control command))

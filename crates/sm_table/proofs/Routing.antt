@@ -1,4 +1,4 @@
--- What a world publishes, in the parts and in the world that they stand for.
+-- The publications of a world, in the parts and in the world that they stand for.
 use Rattle.std.proofs.Common.{◌≡◌, ℕ, Bool, zero, suc, ◌+◌, ◌<◌, true, false, List, [], ◌∷◌, ◌++◌, length, get_or, set}
 use Rattle.std.proofs.Common.{refl, sym, ap, subst, ◌∙◌, arith, ⊎_elim}
 use Rattle.std.specs.Prelude.{Option, Some, None, Ok, Err, find, map, nat_lt, replicate, slice_index_or, slice_set}
@@ -32,11 +32,11 @@ use Rattle.sm_table.proofs.Parts.{Follows-unchanged}
 use Rattle.sm_table.specs.lemmas.Soundness.{sound_next}
 use Rattle.sm_table.specs.lemmas.Steps.{published}
 
--- the last routes of so many shards
+-- the last routes of this many shards
 abbrev pub row_of : List Route → ℕ → List (Option Route)
 row_of publications count = map (routes_of publications) (range_with_len 0 count)
 
--- one route more is the last of its shard, and of no other
+-- a new route becomes the last route of its shard, and of no other shard
 routes_of-push : (publications : List Route) (route : Route) (shard : ℕ) → routes_of (publications ++ route ∷ []) shard
     ≡ (if route.shard == shard then Some route else routes_of publications shard)
 routes_of-push publications route shard =
@@ -77,7 +77,7 @@ row_of-push publications count route within = ext_get_or None (set row route.sha
         ∙ sym (read ∙ rw (ne_eqb route.shard shard (λ same. apart (sym same))) refl))
         (cases_eq shard route.shard)
 
--- where nothing was published, no shard has a route
+-- if nothing was published, no shard has a route
 pub row_of-none : (start count : ℕ) → map (routes_of []) (range_with_len start count) ≡ replicate count None
 row_of-none start zero = refl
 row_of-none start (suc count) = ap (λ rest. None ∷ rest) (row_of-none (start + 1) count)
@@ -93,7 +93,7 @@ shard_of_route : (shard : ℕ) (state : Record) (route : Route) → record_route
     → route.shard ≡ shard
 shard_of_route shard state route is = owner_route shard state.generation (owner_of state.stand) route is
 
--- the route that was made of a record that was read
+-- the route by a record that was read
 pub made_route : (shard : ℕ) (state read : Record) (made : Option Route) (route : Route) → state ≡ read
     → made ≡ record_route shard state → made ≡ Some route → record_route shard read ≡ Some route
 made_route shard state read made route is makes some = ap (record_route shard) (sym is) ∙ (sym makes ∙ some)
@@ -126,7 +126,7 @@ module _ {Q R : Type 0} (service : Meaning Q R) {bounds : List (List ℕ)} {desk
     last_is last read = sym (read ∙ ap (λ routes. slice_index_or routes shard None) given.routes
         ∙ row_at w.publications (count_of w) shard there)
 
-    -- nobody owns the shard
+    -- the shard has no owner
     pub no_route : record_route shard (record_at table_was.records shard) ≡ None
         → Follows {R = R} now (Err WrongPhase) (outcome service w Plain (Publish shard))
     no_route none =

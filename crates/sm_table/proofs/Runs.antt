@@ -1,4 +1,4 @@
--- Each reply is that of one run of all requests of the shard.
+-- Each reply is the reply of one run of all requests of the shard.
 use Rattle.std.proofs.Common.{◌≡◌, ℕ, List, [], ◌∷◌, ◌++◌, length, refl, ap, ◌∙◌, append_assoc}
 use Rattle.std.specs.Prelude.{Option, Some, None, Result, Ok, Err, nat_lt, slice_get, slice_index_or, take}
 use Rattle.std.specs.Option.{option_map}
@@ -44,7 +44,7 @@ said_middle : {Q R : Type 0} (reply_of : List Q → Q → R) (all before : List 
 said_middle reply_of all before request after is =
     rw is (rw (slice_get-middle before request after, take_at before (request ∷ after) (length before) refl) refl)
 
--- a step that replied executed a request after all those of the shard, and that is in the history
+-- a step that replied executed a request after all earlier requests of the shard, and that request is in the history
 record HasRun {Q R : Type 0} (service : Meaning Q R) (w : WorldState Q) (outcome : StepOutcome Q R) (shard : ℕ)
     (reply : R) (place : ℕ) : Type 0 where
   server : ℕ
@@ -164,7 +164,7 @@ history_grows service frame steps later =
     let after = extends_after service (world_of service frame steps) later in
     (after.added, ap (λ w. w.history) (world_after-append service (empty_world frame) steps later) ∙ after.history)
 
--- and to what was published
+-- further steps only add to the publications
 pub publications_grow : {Q R : Type 0} (service : Meaning Q R) (frame : Frame) (steps later : List (Mark × Step Q))
     → (more : List Route)
     × ((world_of service frame (steps ++ later)).publications ≡ (world_of service frame steps).publications ++ more)
@@ -176,7 +176,7 @@ publications_grow service frame steps later =
 
 module _ {Q R : Type 0} (service : Meaning Q R) (w : WorldState Q) (mark : Mark) (step : Step Q) (shard : ℕ) (reply : R)
     (place : ℕ) (run : HasRun service w (outcome service w mark step) shard reply place) where
-  -- after any further steps all requests of the shard still say that reply
+  -- after any further steps, a run of all requests of the shard still says that reply
   said_after : (later : List (Mark × Step Q))
       → said service.reply_of (world_after service (next service w mark step) later).history shard place ≡ Some reply
   said_after later =
@@ -193,7 +193,7 @@ module _ {Q R : Type 0} (service : Meaning Q R) (w : WorldState Q) (mark : Mark)
       (said_middle service.reply_of (all_of (world_after service (next service w mark step) later).history shard)
       (all_of w.history shard) run.request (all_of after.added shard) all)
 
--- what a reply says of the run of its shard, from the world that the steps before it made
+-- how a reply follows from the run of its shard, from the world that the steps before it made
 pub one_run : {Q R : Type 0} (service : Meaning Q R) (frame : Frame) (steps later : List (Mark × Step Q)) (mark : Mark)
     (step : Step Q) (number server : ℕ) (reply : R) (place : ℕ)
     → answer service (world_of service frame steps) mark step ≡ Ok (Replied number server reply place)

@@ -1,4 +1,4 @@
--- The base of a body, and what it keeps, among all that it has applied.
+-- The base of a body, and the requests that it keeps, among all that it has applied.
 use Rattle.std.proofs.Common.{◌≡◌, ◌≤◌, ℕ, ◌+◌, List, [], length, sym, ap, ◌∙◌, arith}
 use Rattle.std.specs.Prelude.{Result, OnOk, OnErr, drop, fold, take}
 use Rattle.std.specs.declared.result.Result.TheVariants.{Ok, Err}
@@ -8,7 +8,7 @@ use Rattle.std.proofs.Math.Seq.{drop-length, take-length}
 
 module _ {State Q : Type 0} (initial : State) (next : State → Q → State) (base : State) (first : ℕ) (kept all : List Q)
     (base_is : base ≡ fold next initial (take first all)) (kept_is : kept ≡ drop first all) where
-  -- the present state is that after all requests
+  -- the present state is the state after all requests
   pub present : fold next base kept ≡ fold next initial all
   present =
       ap (λ state. fold next state kept) base_is
@@ -16,7 +16,7 @@ module _ {State Q : Type 0} (initial : State) (next : State → Q → State) (ba
       ∙ sym (fold-append next initial (take first all) (drop first all))
       ∙ ap (fold next initial) (take-append-drop first all)
 
-  -- after a checkpoint all requests come before the base; one that was refused changes nothing
+  -- after a checkpoint all requests come before the base; a checkpoint that was refused changes nothing
   pub based : {X E : Type 0} (base_now : State) (first_now : ℕ) (kept_now : List Q) (r : Result X E)
       → first ≤ length all
       → OnOk r (base_now ≡ fold next base kept) → OnOk r (first_now ≡ first + length kept) → OnOk r (kept_now ≡ [])

@@ -1,4 +1,4 @@
--- What a server that is admitted to a shard has in hand.
+-- The hand of a server that is admitted to a shard: a request, or none.
 use Rattle.std.specs.Prelude.{ℕ, Bool, false, Option, Some, None, is_none}
 use Rattle.std.specs.Option.{option_map}
 use Rattle.sm_table.specs.declared.hands.InHand.{InHand}

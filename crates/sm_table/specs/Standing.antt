@@ -43,13 +43,13 @@ abbrev pub desk_after : DeskView → List Command → DeskView
 desk_after desk [] = desk
 desk_after desk (command ∷ earlier) = commanded (desk_after desk earlier) command
 
--- the desk refuses none of them
+-- the desk refuses none of these commands
 abbrev pub AreLetThrough : DeskView → List Command → Type 0
 AreLetThrough desk [] = Unit {0}
 AreLetThrough desk (command ∷ earlier) =
     (desk_fault (desk_after desk earlier) command ≡ None) × AreLetThrough desk earlier
 
--- commands that it didn't refuse have made the desk what it is
+-- the desk is the result of commands that it didn't refuse
 pub record IsLedTo (start desk : DeskView) : Type 0 where
   pub commands : List Command
   pub leads : desk_after start commands ≡ desk
@@ -64,18 +64,18 @@ setup_frame setup limits =
 abbrev pub IsThere : List ServerRow → ℕ → Type 0
 IsThere servers server = is_known servers server ≡ true
 
--- an envelope is for a shard that is there, and goes to a server that is
+-- an envelope is for a shard that is there, and goes to a server that is there
 pub record IsFlight {Q : Type 0} (count : ℕ) (servers : List ServerRow) (flight : Flight Q) : Type 0 where
   pub shard : flight.envelope.shard < count
   pub server : IsThere servers flight.to
 
--- a shard is admitted exactly where a server has it in hand, and then that server was admitted last
+-- a shard is admitted if and only if a server has it in hand, and then that server was admitted last
 abbrev pub AgreesWithHand : {Q : Type 0} → List (Entry Q) → Bool → ℕ → Option (InHand Q) → Type 0
 AgreesWithHand history admitted shard None = admitted ≡ false
 AgreesWithHand history admitted shard (Some hand) =
     (admitted ≡ true) × (is_admission_of hand.server (latest_of (reverse history) shard) ≡ true)
 
--- what holds of each world that steps lead to
+-- the facts that hold of each world that steps lead to
 pub record IsSound {Q : Type 0} (w : WorldState Q) : Type 0 where
   pub frame : IsFrame w.frame
   pub desk : IsLedTo w.frame.start w.desk
@@ -88,7 +88,7 @@ pub record IsSound {Q : Type 0} (w : WorldState Q) : Type 0 where
   pub held : (shard : ℕ) → shard < count_of w
       → AgreesWithHand w.history (world_record w shard).admitted shard (slice_index_or w.in_hand shard None)
 
--- what the parts of a `World` show
+-- the parts of a `World`, as views
 pub record WorldView (Q : Type 0) : Type 0 where
   pub bounds : List (List ℕ)
   pub desk : DeskView
@@ -100,7 +100,7 @@ pub record WorldView (Q : Type 0) : Type 0 where
   pub in_flight : List (Flight Q)
   pub in_hand : List (Option (InHand Q))
 
--- what these parts show
+-- the view of these parts
 abbrev pub view_of : {Q : Type 0} → List (List ℕ) → DeskView → TableView → BodiesView Q → List (Option Route)
     → List (Flight Q) → List (Option (InHand Q)) → WorldView Q
 view_of bounds desk table bodies routes in_flight in_hand = record {
@@ -115,8 +115,8 @@ view_of bounds desk table bodies routes in_flight in_hand = record {
   in_hand = in_hand;
 }
 
--- each part has an element for each shard, desk and table have the same stands, flights are for shards that are there,
--- and a shard that a server has in hand is admitted, and no shard has more requests than its generation
+-- each part has an element for each shard, the desk and the table have the same stands, flights are for shards that are
+-- there, a shard that a server has in hand is admitted, and no shard has more requests than its generation
 pub record IsTogether {Q : Type 0} (view : WorldView Q) : Type 0 where
   pub layout : length view.bounds ≡ length view.in_hand
   pub table : length view.records ≡ length view.in_hand
@@ -129,7 +129,7 @@ pub record IsTogether {Q : Type 0} (view : WorldView Q) : Type 0 where
   pub few : (shard : ℕ) → length (past_at view.pasts shard).all ≤ (record_at view.records shard).generation
   pub low : view.ceiling < 2 ^ 36
 
--- the parts are those of the world, which is one that steps lead to
+-- the parts are the parts of the world, and steps lead to that world
 pub record StandsFor {Q : Type 0} (view : WorldView Q) (w : WorldState Q) : Type 0 where
   pub bounds : view.bounds ≡ w.frame.bounds
   pub desk : view.desk ≡ w.desk
@@ -143,20 +143,20 @@ pub record StandsFor {Q : Type 0} (view : WorldView Q) (w : WorldState Q) : Type
   pub in_hand : view.in_hand ≡ w.in_hand
   pub sound : IsSound w
 
--- the step answered what it should, and the parts are those of the world that it leaves
+-- the step gave the answer that it must give, and the parts are the parts of the world that it leaves
 pub record Follows {Q R : Type 0} (view : WorldView Q) (result : Result (WorldAnswer R) WorldFault)
     (outcome : StepOutcome Q R) : Type 0 where
   pub answered : result ≡ outcome.0
   pub stands : StandsFor view outcome.1
 
--- the step went as its answer says: where the parts stood for a world, it answered what it should, and they stand for
--- the next
+-- the step went as its answer says: if the parts stood for a world, it gave the answer that it must give, and the parts
+-- stand for the next world
 abbrev pub GoesAs : {Q R : Type 0} → Meaning Q R → WorldView Q → Result (WorldAnswer R) WorldFault → WorldView Q
     → Step Q → Type 0
 GoesAs {Q = Q} service before result after step =
     (w : WorldState Q) → StandsFor before w → Follows after result (outcome service w (mark_of result) step)
 
--- the parts after an admission to a shard, with what the server then has in hand
+-- the parts after an admission to a shard, with the hand that the server then has
 abbrev pub with_admission : {Q : Type 0} → WorldView Q → ℕ → InHand Q → WorldView Q
 with_admission view shard hand =
     record view {

@@ -1,5 +1,5 @@
--- The world: shards, servers and requests on their way, as one thread would run them. What each step answers, and what
--- it leaves.
+-- The world: shards, servers and requests on their way, as one thread would run them; the answer to each step, and the
+-- world that the step leaves.
 use Rattle.std.specs.Prelude.{ℕ, Bool, true, false, Option, Some, None, Result, Ok, Err, nat_lt, if◌then◌else◌, List}
 use Rattle.std.specs.Prelude.{[], ◌∷◌, ◌++◌, length, map, remove, replicate, slice_get, slice_index_or, slice_set}
 use Rattle.std.specs.List.{range_with_len}
@@ -43,14 +43,16 @@ use Rattle.sm_ownership.specs.Routes.{is_old, record_route, routes_of}
 use Rattle.sm_ownership.specs.Rules.{admit_fault, forward_to}
 use Rattle.sm_ownership.specs.Tables.{record_fault}
 
--- what stays as it is made: bounds of shards, the desk at the start, the greatest generation, most requests by shard
+-- the parts of a world that never change: the bounds of shards, the desk at the start, the greatest generation, and the
+-- most requests by shard
 pub record Frame : Type 0 where
   pub bounds : List (List ℕ)
   pub start : DeskView
   pub ceiling : ℕ
   pub limits : List ℕ
 
--- a world: desk, history, what was published in order, envelopes in flight, by shard what its server has in hand
+-- a world: the desk, the history, the publications in order, the envelopes in flight, and by shard the hand of its
+-- server
 pub record WorldState (Q : Type 0) : Type 0 where
   pub frame : Frame
   pub desk : DeskView
@@ -65,8 +67,8 @@ pub data Mark : Type 0 where
   Unmade : Mark
   Unserved : Mark
 
--- how a step may go: a `Send` and a `Checkpoint` alone may have their memory refused, and the service at a `Finish`
--- alone
+-- how a step may go: only a `Send` and a `Checkpoint` may have their memory refused, and only a `Finish` may have
+-- memory refused to its service
 abbrev pub may_go : {Q : Type 0} → Step Q → Mark → Bool
 may_go step Plain = true
 may_go (Send to number request) Unmade = true
@@ -86,7 +88,7 @@ world_record w shard = record_at (table_of (count_of w) w.frame.ceiling w.histor
 abbrev pub last_routes : {Q : Type 0} → WorldState Q → List (Option Route)
 last_routes w = map (routes_of w.publications) (range_with_len 0 (count_of w))
 
--- what a step answers, and the world that it leaves
+-- the answer to a step, and the world that it leaves
 abbrev pub StepOutcome : Type 0 → Type 0 → Type 0
 StepOutcome Q R = Result (WorldAnswer R) WorldFault × WorldState Q
 
@@ -95,26 +97,26 @@ abbrev pub with_entry : {Q : Type 0} → WorldState Q → ℕ → ℕ → Kind Q
 with_entry w actor shard kind =
     record w { history = w.history ++ record { actor = actor; shard = shard; kind = kind } ∷ [] }
 
--- a world with this in hand for a shard
+-- a world with this hand for a shard
 abbrev pub with_hand : {Q : Type 0} → WorldState Q → ℕ → Option (InHand Q) → WorldState Q
 with_hand w shard hand = record w { in_hand = slice_set w.in_hand shard hand }
 
--- whether the server exists
+-- the server exists
 abbrev pub is_there : {Q : Type 0} → WorldState Q → ℕ → Bool
 is_there w server = is_known w.desk.books.servers server
 
--- what the table refuses of a command that the desk lets through
+-- the fault of the table in a command that the desk lets through
 abbrev pub table_fault : {Q : Type 0} → WorldState Q → Command → Option CommandFault
 table_fault w (ChangeOf shard change) =
     option_map (λ fault. ChangeRefused fault) (record_fault w.frame.ceiling (world_record w shard))
 table_fault w command = None
 
--- a change is an entry of the history, by actor 0; a step of a restart is none
+-- a change is an entry of the history, by actor 0; a step of a restart isn't an entry
 abbrev pub with_change : {Q : Type 0} → WorldState Q → Command → WorldState Q
 with_change w (ChangeOf shard change) = with_entry w 0 shard (Changed change)
 with_change w command = w
 
--- a command is carried out where neither the desk nor the table refuses it
+-- a command is made if neither the desk nor the table refuses it
 abbrev pub after_control : {Q R : Type 0} → WorldState Q → Command → StepOutcome Q R
 after_control w command = option_map_or (λ fault. (Err (CommandRefused fault), w))
     (option_or (desk_fault w.desk command) (table_fault w command))
@@ -129,7 +131,7 @@ abbrev pub new_envelope : {Q R : Type 0} → Meaning Q R → List (List ℕ) →
 new_envelope service bounds n asked = record
     { number = n; shard = shard_of bounds (service.key_of asked); mode = Direct; hops = 0; request = asked; note = tt }
 
--- a new envelope is put last in flight, where the server is reached
+-- a new envelope is put last in flight, if the server is reached
 abbrev pub after_send : {Q R : Type 0} → Meaning Q R → WorldState Q → ℕ → ℕ → Q → StepOutcome Q R
 after_send service w to number request =
     if is_there w to
@@ -154,7 +156,7 @@ reached w to envelope None = (
   with_hand (with_entry w to envelope.shard (Admit to envelope.mode)) envelope.shard (Some (hand_of to envelope)),
 )
 
--- a hop puts the envelope last in flight; where none is left, or the server isn't reached, the request is refused
+-- a hop puts the envelope last in flight; if no hop is left, or the server isn't reached, the request is refused
 abbrev pub after_hop : {Q R : Type 0} → DeskView → List (Flight Q)
     → Result (ℕ × EnvelopeView Q (Unit {0})) (EnvelopeView Q (Unit {0})) → WorldAnswer R × List (Flight Q)
 after_hop desk in_flight (Ok hop) =
@@ -162,7 +164,7 @@ after_hop desk in_flight (Ok hop) =
     else (Refused NotReached, in_flight)
 after_hop desk in_flight (Err envelope) = (Refused TooManyHops, in_flight)
 
--- a server that forwards requests on the shard forwards the envelope; any other begins it or refuses it
+-- a server that forwards requests for the shard forwards the envelope; any other server begins it or refuses it
 abbrev pub arrived : {Q R : Type 0} → WorldState Q → ℕ → EnvelopeView Q (Unit {0}) → Option ℕ → StepOutcome Q R
 arrived w at envelope None =
     reached w at envelope (admit_fault w.frame.ceiling (world_record w envelope.shard) at envelope.mode)
@@ -178,7 +180,7 @@ abbrev pub after_deliver : {Q R : Type 0} → WorldState Q → ℕ → StepOutco
 after_deliver w place = option_map_or (λ flight. arrived (without_flight w place) flight.to flight.envelope
     (forward_to (world_record w flight.envelope.shard) flight.to)) (slice_get w.in_flight place) (Err NoEnvelope, w)
 
--- the admission ends so
+-- the world after the admission ended in this way
 abbrev pub ended : {Q : Type 0} → WorldState Q → ℕ → ℕ → Ending Q → WorldState Q
 ended w shard server ending = with_hand (with_entry w server shard (Done ending)) shard None
 
@@ -191,7 +193,7 @@ with_room service w mark shard server work = (
   ended w shard server (Request work.request),
 )
 
--- an admission with work ends by its request, or refused where the shard keeps as many as it may
+-- an admission with work ends with its request, or is refused if the shard keeps as many requests as it may
 abbrev pub finished : {Q R : Type 0} → Meaning Q R → WorldState Q → Mark → ℕ → ℕ → Work Q → StepOutcome Q R
 finished service w mark shard server work =
     if nat_lt (length (kept w.history shard)) (slice_index_or w.frame.limits shard 0)
@@ -204,7 +206,7 @@ after_finish service w mark shard =
     option_map_or (λ hand. option_map_or (finished service w mark shard hand.server) hand.work (Err NotHeld, w))
     (slice_index_or w.in_hand shard None) (Err NotHeld, w)
 
--- an admission without a request makes this of the world, or is refused by its first fault
+-- the world after an admission without a request, unless its first fault refuses it
 abbrev pub after_admission : {Q R : Type 0} → WorldState Q → ℕ → ℕ → WorldState Q → StepOutcome Q R
 after_admission w shard server made =
     if nat_lt shard (count_of w)
@@ -234,7 +236,7 @@ after_checkpoint w shard server =
     (with_entry (with_entry w server shard (Admit server Direct)) server shard
     (Done (checkpoint_ending (kept w.history shard))))
 
--- the shard's owner at its generation is published, where it has one and that is above the shard's last route
+-- the shard's owner at its generation is published, if it has one and the generation is above the shard's last route
 abbrev pub after_publish : {Q R : Type 0} → WorldState Q → ℕ → StepOutcome Q R
 after_publish w shard =
     if nat_lt shard (count_of w) then option_map_or (λ route.
@@ -242,7 +244,7 @@ after_publish w shard =
     else (Ok Made, record w { publications = w.publications ++ route ∷ [] }))
     (record_route shard (world_record w shard)) (Err WrongPhase, w) else (Err UnknownShard, w)
 
--- what a step that went so answers, and the world that it leaves
+-- the answer to a step that went in this way, and the world that it leaves
 abbrev pub outcome : {Q R : Type 0} → Meaning Q R → WorldState Q → Mark → Step Q → StepOutcome Q R
 outcome service w Unmade step = (Err NoMemory, w)
 outcome service w mark (Control command) = after_control w command
@@ -259,7 +261,7 @@ outcome service w mark (CheckpointAt shard server) = after_checkpoint w shard se
 outcome service w mark (Publish shard) = after_publish w shard
 outcome service w mark (RouteOf key) = (Ok (Way (routes_of w.publications (shard_of w.frame.bounds key))), w)
 
--- what a step answers
+-- the answer to a step
 abbrev pub answer : {Q R : Type 0} → Meaning Q R → WorldState Q → Mark → Step Q → Result (WorldAnswer R) WorldFault
 answer service w mark step = (outcome service w mark step).0
 
@@ -284,7 +286,7 @@ empty_world frame = record {
   in_hand = replicate (length frame.bounds) None;
 }
 
--- the world after these steps, from this one on
+-- the world after these steps, from this world on
 abbrev pub world_after : {Q R : Type 0} → Meaning Q R → WorldState Q → List (Mark × Step Q) → WorldState Q
 world_after service w [] = w
 world_after service w (step ∷ steps) = world_after service (next service w step.0 step.1) steps

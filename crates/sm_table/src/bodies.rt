@@ -28,7 +28,7 @@ impl<S: Service> Model for Bodies<S> {
 }
 
 impl<S: Service> Bodies<S> {
-    /// These bodies, by shard, which have applied nothing.
+    /// Returns these bodies, by shard, before any of them has applied a request.
     pub fn new(alloc: Global, bodies: Vec<S>) -> Result<Bodies<S>, AllocError>
         requires initial { All (λ body. S.base body ≡ S.initial) bodies.items }
         requires first { All (λ body. S.before body ≡ 0) bodies.items }
@@ -43,7 +43,7 @@ impl<S: Service> Bodies<S> {
         Ok(Bodies { bodies: traced })
     }
 
-    /// How many requests the shard has applied.
+    /// Returns how many requests the shard has applied.
     pub fn applied(&self, k: ShardId) -> u64
         requires known { k < length self.now.pasts }
         requires few { length (past_at self.now.pasts k).all < 2 ^ 36 }
@@ -52,7 +52,7 @@ impl<S: Service> Bodies<S> {
         self.bodies[k.index()].applied()
     }
 
-    /// Applies the request to the body of the shard, or hands it back.
+    /// Applies the request to the body of the shard, or returns the request.
     pub fn apply(
         &mut self,
         k: ShardId,
@@ -78,7 +78,7 @@ impl<S: Service> Bodies<S> {
         self.bodies[k.index()].apply(request)
     }
 
-    /// Makes the present state of the shard's body its base, or changes nothing, where memory is refused.
+    /// Makes the present state of the shard's body its base. Changes nothing if memory is refused.
     pub fn checkpoint(&mut self, k: ShardId) -> Result<(), AllocError>
         requires known { k < length self.old.pasts }
         requires few { length (past_at self.old.pasts k).all < 2 ^ 36 }

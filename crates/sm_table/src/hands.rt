@@ -7,7 +7,7 @@ use sm_ranges::shard_id::ShardId;
 use std::alloc::{AllocError, Global};
 use std::marker::Model;
 
-/// What the server admitted to a shard has in hand: a request, or none where it only holds the shard.
+/// The hand of the server that is admitted to a shard: a request, or none if the server only holds the shard.
 #[derive(Drop)]
 pub struct InHand<Q: Drop> {
     pub server: ServerId,
@@ -21,7 +21,7 @@ pub struct Work<Q: Drop> {
     pub request: Q,
 }
 
-/// By shard, what the server that is admitted to it has in hand.
+/// By shard, the hand of the server that is admitted to it.
 #[derive(Drop)]
 pub struct Hands<Q: Drop> {
     hands: Vec<Option<InHand<Q>>>,
@@ -37,7 +37,7 @@ impl<Q: Drop> Model for Hands<Q> {
 }
 
 impl<Q: Drop> Hands<Q> {
-    /// For each of so many shards, that no server has it in hand.
+    /// Returns the hands of this many shards that no server has in hand.
     pub fn none(alloc: Global, count: usize) -> Result<Hands<Q>, AllocError>
         ensures { IfOk result (λ hands. hands ≡ replicate count None) }
     {
@@ -56,8 +56,8 @@ impl<Q: Drop> Hands<Q> {
         self.hands[k.index()] = Some(hand);
     }
 
-    /// Takes the request that a server has begun on the shard, and that server; nothing is in hand there then. Where no
-    /// server has begun one, all stays.
+    /// Takes the request that a server has begun on the shard, and that server; the shard's hand is empty then. If no
+    /// server has begun a request, nothing changes.
     pub fn take_work(&mut self, k: ShardId) -> Option<(ServerId, Work<Q>)>
         ensures work { result ≡ work_of (slice_index_or self.old k None) }
         ensures hands { self.new ≡ (if is_some result then slice_set self.old k None else self.old) }
@@ -74,7 +74,7 @@ impl<Q: Drop> Hands<Q> {
         Some((server, work))
     }
 
-    /// Lets the shard go where a server holds it without a request, and tells whether one did.
+    /// Lets the shard go if a server holds it without a request, and returns whether one did.
     pub fn let_go(&mut self, k: ShardId) -> bool
         requires { k < length self.old }
         ensures alone { result ≡ is_alone (slice_index_or self.old k None) }

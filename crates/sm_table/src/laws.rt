@@ -1,4 +1,4 @@
-//! Laws of the definitions: what holds of every list of steps, and of every history.
+//! Laws of the definitions, which hold of every list of steps, and of every history.
 
 ghost use Rattle.std.specs.Prelude.{◌≡◌, ℕ, Some, Ok, List, ◌∷◌, ◌++◌, length, map};
 ghost use Rattle.sm_ownership.specs.declared.entry.Entry.{Entry};
@@ -22,7 +22,7 @@ pub use sm_ownership::laws::{
     no_phase_refuses, one_admission, same_generation_same_record, two_servers,
 };
 
-/// Whatever the steps, the history that they make is legal.
+/// After any steps, the history that they make is legal.
 pub fn legal_history<Q, R>()
     ensures { (service : Meaning Q R) (frame : Frame) (steps : List (Mark × Step Q)) → IsFrame frame
         → IsLegal (length frame.bounds) frame.ceiling (world_of service frame steps).history }
@@ -35,7 +35,7 @@ pub fn history_grows<Q, R>()
         × ((world_of service frame (steps ++ later)).history ≡ (world_of service frame steps).history ++ added) }
 {}
 
-/// Further steps only add to what was published.
+/// Further steps only add to the publications.
 pub fn publications_grow<Q, R>()
     ensures { (service : Meaning Q R) (frame : Frame) (steps later : List (Mark × Step Q))
         → (more : List Route)
@@ -43,8 +43,8 @@ pub fn publications_grow<Q, R>()
         ++ more) }
 {}
 
-/// Whatever the steps, a reply has the place after all requests of its shard, and is what one run of these says there.
-/// It stays so whatever steps follow.
+/// After any steps, the place of a reply comes after all earlier requests of its shard, and one run of the shard's
+/// requests gives the reply at that place. This stays so after any further steps.
 pub fn one_run<Q, R>()
     ensures { (service : Meaning Q R) (frame : Frame) (steps later : List (Mark × Step Q)) (mark : Mark) (step : Step Q)
         (number server : ℕ) (reply : R) (place : ℕ)
@@ -56,8 +56,8 @@ pub fn one_run<Q, R>()
         × (said service.reply_of after.history shard place ≡ Some reply) }
 {}
 
-/// Whatever the steps, the desk has the stands of the table. There is room for them, and the caps of approved restarts
-/// hold.
+/// After any steps, the desk has the stands of the table, there is room for the shards, and the caps of approved
+/// restarts hold.
 pub fn caps_and_room_hold<Q, R>()
     ensures stands { (service : Meaning Q R) (frame : Frame) (steps : List (Mark × Step Q)) → IsFrame frame
         → let w = world_of service frame steps in

@@ -1,5 +1,6 @@
-//! The world: shards, servers and requests on their way as one thread runs them, with the laws that hold of it. What it
-//! stands on is passed on: the ownership table, the desk that checks control commands, and envelopes.
+//! The world: shards, servers and requests on their way, as one thread runs them, with the laws that it keeps. The
+//! crate also exports everything on which it rests: the ownership table, the desk that checks control commands, and
+//! envelopes.
 //!
 //! ```rust
 //! let assign = Step::Control(Command::Change(k, Change::Assign(one)));

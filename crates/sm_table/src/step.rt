@@ -12,17 +12,17 @@ pub enum Step<Q> {
     Look(ShardId),
     /// A client sends a request, under a number of its own, to the server.
     Send(ServerId, u64, Q),
-    /// The envelope at this place of those in flight reaches its server.
+    /// The envelope at this place among those in flight reaches its server.
     Deliver(usize),
     /// The server admitted to the shard executes the request that it has in hand.
     Finish(ShardId),
-    /// The envelope at this place of those in flight is lost.
+    /// The envelope at this place among those in flight is lost.
     Lose(usize),
     /// The server is admitted to the shard without a request.
     Hold(ShardId, ServerId),
     /// The admission to the shard without a request ends.
     Free(ShardId),
-    /// The server is admitted to the shard, whose present state becomes its base, and that admission ends.
+    /// The server is admitted to the shard, the shard's present state becomes its base, and that admission ends.
     Checkpoint(ShardId, ServerId),
     /// The shard's owner at its generation becomes its published route.
     Publish(ShardId),

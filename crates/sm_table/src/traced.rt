@@ -7,7 +7,7 @@ use sm_trace::trace::Trace;
 use std::alloc::AllocError;
 use std::marker::Model;
 
-/// A shard's body, by all requests that it has applied since the initial state. These stand in proofs alone.
+/// A shard's body, by all requests that it has applied since the initial state. The requests exist only in proofs.
 #[derive(Drop)]
 pub(crate) struct Traced<S: Service> {
     body: S,
@@ -32,7 +32,7 @@ impl<S: Service> Model for Traced<S> {
 }
 
 impl<S: Service> Traced<S> {
-    /// A body that has applied nothing.
+    /// Returns a body that has applied nothing.
     pub fn new(body: S) -> Traced<S>
         requires initial { S.base body ≡ S.initial }
         requires first { S.before body ≡ 0 }
@@ -46,7 +46,7 @@ impl<S: Service> Traced<S> {
         }
     }
 
-    /// How many requests it has applied.
+    /// Returns how many requests the body has applied.
     pub fn applied(&self) -> u64
         requires { length self.now.past.all < 2 ^ 36 }
         ensures { result ≡ length self.now.past.all }
@@ -54,7 +54,7 @@ impl<S: Service> Traced<S> {
         self.body.first() + self.body.kept() as u64
     }
 
-    /// Applies the request, or hands it back.
+    /// Applies the request, or returns it if the body refuses it.
     pub fn apply(&mut self, request: S::Request) -> Result<S::Reply, (S::Request, ApplyFault)>
         ensures past { OnOk result (self.new.past ≡ past_after self.old.past (Request request)) }
         ensures reply { IfOk result (λ reply. reply ≡ S.answer (fold S.next S.initial self.old.past.all) request) }
@@ -73,7 +73,7 @@ impl<S: Service> Traced<S> {
         Ok(reply)
     }
 
-    /// Makes the present state the base, or changes nothing, where memory is refused.
+    /// Makes the present state the base. Changes nothing if memory is refused.
     pub fn checkpoint(&mut self) -> Result<(), AllocError>
         requires { length self.old.past.all < 2 ^ 36 }
         ensures past { OnOk result (self.new.past ≡ past_after self.old.past Checkpoint) }

@@ -40,18 +40,18 @@ use sm_ranges::shard_id::ShardId;
 use std::alloc::{AllocError, Global};
 use std::marker::Model;
 
-/// What a world is made from, beside the bodies of its shards.
+/// The parts from which a world is made, beside the bodies of its shards.
 #[derive(Drop)]
 pub struct Setup {
-    /// Which shard a key belongs to.
+    /// The layout, which says to which shard a key belongs.
     pub layout: Layout,
-    /// What commands are checked against: a vacant shard for each range of the layout.
+    /// The desk that checks commands: it must have a vacant shard for each range of the layout.
     pub desk: Desk,
     /// The greatest generation of a shard, 3 to 2^36 - 1.
     pub ceiling: u64,
 }
 
-/// An envelope in flight, and the server that it goes to.
+/// An envelope in flight, and the server to which it goes.
 #[derive(Drop)]
 pub struct Flight<Q: Drop> {
     pub to: ServerId,
@@ -86,8 +86,8 @@ impl<S: Service> Model for World<S> {
 }
 
 impl<S: Service> World<S> {
-    /// The world in which nothing has happened: no shard has an owner, and nothing is in flight.
-    /// There is a body for each shard of the layout, in the initial state, and none has applied a request yet.
+    /// Returns a world in which nothing has happened: no shard has an owner, and nothing is in flight. It must be given
+    /// a body for each shard of the layout, in the initial state, and none may have applied a request yet.
     pub fn new(alloc: Global, setup: Setup, bodies: Vec<S>) -> Result<World<S>, AllocError>
         requires vacant { stands_of setup.desk ≡ replicate (length setup.layout) Vacant }
         requires bodies { vec_len bodies ≡ length setup.layout }
@@ -119,7 +119,7 @@ impl<S: Service> World<S> {
         })
     }
 
-    /// The shard whose range covers the request's key.
+    /// Returns the shard whose range covers the request's key.
     pub fn shard_of(&self, request: &S::Request) -> ShardId
         ensures within { result < length self.now.bounds }
         ensures value { result ≡ shard_of self.now.bounds (S.key_of request.now) }
@@ -127,7 +127,7 @@ impl<S: Service> World<S> {
         self.layout.shard_of(S::key(request))
     }
 
-    /// The record of a shard.
+    /// Returns the record of a shard.
     pub fn record(&self, k: ShardId) -> Record
         requires { k < length self.now.bounds }
         ensures { result ≡ record_at self.now.records k }
@@ -135,14 +135,14 @@ impl<S: Service> World<S> {
         self.table.record(k)
     }
 
-    /// What commands are checked against.
+    /// Returns the desk that checks commands.
     pub fn desk(&self) -> &Desk
         ensures { result.now ≡ self.now.desk }
     {
         &self.desk
     }
 
-    /// The published route of a shard, where there is one.
+    /// Returns the published route of a shard, if there is one.
     pub fn route(&self, k: ShardId) -> Option<Route>
         requires { k < length self.now.bounds }
         ensures { result ≡ slice_index_or self.now.routes k None }
@@ -150,9 +150,9 @@ impl<S: Service> World<S> {
         self.routes[k.index()]
     }
 
-    /// Makes a step. Where the world stands for one of the definitions, it answers as that one does, and then stands
-    /// for the next. A step that a fault refuses changes nothing. Want of memory is told of a `Send` and of a
-    /// `Checkpoint`, by `NoMemory`, and of a `Finish`, which then refuses its request; of no other step.
+    /// Makes a step. If the world stands for a world of the definitions, it answers as that one does, and then stands
+    /// for the next one. A step that a fault refuses changes nothing. The caller is told of want of memory only for a
+    /// `Send` and a `Checkpoint`, by `NoMemory`, and for a `Finish`, which then refuses its request.
     pub fn step(&mut self, step: Step<S::Request>) -> Result<WorldAnswer<S::Reply>, WorldFault>
         ensures stands { GoesAs (meaning_of S.initial S.next S.answer S.key_of) self.old result self.new step }
         ensures marks { may_go step (mark_of result) ≡ true }
@@ -176,7 +176,7 @@ impl<S: Service> World<S> {
         }
     }
 
-    // Carries out a command, unless it is refused.
+    // Makes a command, unless it is refused.
     fn control(&mut self, command: Command) -> Result<WorldAnswer<S::Reply>, WorldFault>
         ensures stands { GoesAs (meaning_of S.initial S.next S.answer S.key_of) self.old result self.new
             (ControlOf command) }
@@ -229,8 +229,8 @@ impl<S: Service> World<S> {
         }
     }
 
-    /// Puts a direct request for the server in flight, as `Step::Send` does, where `k` is the shard of the request's
-    /// key. It answers `Sent`, `UnknownServer`, `Unreachable` or `NoMemory`.
+    /// Puts a direct request for the server in flight, as `Step::Send` does; `k` must be the shard of the request's
+    /// key. Returns `Sent`, `UnknownServer`, `Unreachable` or `NoMemory`.
     pub fn send(
         &mut self,
         to: ServerId,
@@ -261,7 +261,7 @@ impl<S: Service> World<S> {
         Ok(WorldAnswer::Sent)
     }
 
-    // An envelope in flight reaches its server, which forwards it, begins it, or refuses it.
+    // Has an envelope in flight reach its server, which forwards it, begins it, or refuses it.
     fn deliver(&mut self, place: usize) -> Result<WorldAnswer<S::Reply>, WorldFault>
         ensures stands { GoesAs (meaning_of S.initial S.next S.answer S.key_of) self.old result self.new
             (DeliverAt place) }
@@ -286,7 +286,7 @@ impl<S: Service> World<S> {
         Ok(WorldAnswer::Began(to))
     }
 
-    // The admitted server executes the request in hand, and its admission ends.
+    // Has the admitted server execute the request in hand, which ends its admission.
     fn finish(&mut self, k: ShardId) -> Result<WorldAnswer<S::Reply>, WorldFault>
         ensures stands { GoesAs (meaning_of S.initial S.next S.answer S.key_of) self.old result self.new (FinishAt k) }
         ensures marks { may_go {Q = S.Request} (FinishAt k) (mark_of result) ≡ true }
@@ -310,7 +310,7 @@ impl<S: Service> World<S> {
         }
     }
 
-    // An envelope in flight is lost.
+    // Loses an envelope in flight.
     fn lose(&mut self, place: usize) -> Result<WorldAnswer<S::Reply>, WorldFault>
         ensures stands { GoesAs (meaning_of S.initial S.next S.answer S.key_of) self.old result self.new
             (LoseAt place) }
@@ -391,7 +391,7 @@ impl<S: Service> World<S> {
         Ok(WorldAnswer::Made)
     }
 
-    // Publishes the shard's owner at its generation, where it has one and that is above the shard's last route.
+    // Publishes the shard's owner at its generation, if it has one and the generation is above the shard's last route.
     fn publish(&mut self, k: ShardId) -> Result<WorldAnswer<S::Reply>, WorldFault>
         ensures stands { GoesAs (meaning_of S.initial S.next S.answer S.key_of) self.old result self.new (PublishAt k) }
         ensures marks { may_go {Q = S.Request} (PublishAt k) (mark_of result) ≡ true }
@@ -441,8 +441,8 @@ impl<S: Service> World<S> {
     }
 }
 
-// What a world of so many shards has beside its layout and its desk, where nothing has happened. Each exit of
-// `World::new` would drop these two.
+// Returns the parts of a world of this many shards, beside its layout and its desk, before anything has happened. They
+// are made here because each exit of `World::new` would drop both of those.
 fn empty_parts<S: Service>(
     alloc: Global,
     count: usize,
@@ -466,15 +466,15 @@ fn empty_parts<S: Service>(
     Ok((table, bodies, routes, in_hand))
 }
 
-// No route for each of so many shards.
+// Returns no route for each of this many shards.
 fn no_routes(alloc: Global, count: usize) -> Result<Vec<Option<Route>>, AllocError>
     ensures { IfOk result (λ routes. routes.items ≡ replicate count None) }
 {
     vec![in alloc; None; count]
 }
 
-// The envelope reaches a server that forwards requests: it is put last in flight again, or refused where no hop is left
-// or the next server isn't reached.
+// Passes on an envelope that reached a server that forwards requests: puts it last in flight again, or refuses it if no
+// hop is left or the next server isn't reached.
 fn send_on<Q: Drop, R>(
     in_flight: &mut Vec<Flight<Q>>,
     desk: &Desk,

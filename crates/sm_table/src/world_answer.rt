@@ -3,10 +3,10 @@ use sm_ownership::record::Record;
 use sm_ownership::route::Route;
 use sm_ranges::server_id::ServerId;
 
-/// What a step answers.
+/// The answer to a step.
 #[derive(Drop)]
 pub enum WorldAnswer<R> {
-    /// It was done.
+    /// The step was made.
     Made,
     /// The shard's record.
     Seen(Record),
@@ -18,7 +18,7 @@ pub enum WorldAnswer<R> {
     Forwarded(ServerId),
     /// The request was refused, and is gone.
     Refused(Refusal),
-    /// The request of this number was executed by the server, and has this place among all requests of the shard, from
+    /// The server executed the request of this number. The request has this place among all requests of the shard, from
     /// 0.
     Replied {
         number: u64,
@@ -26,6 +26,6 @@ pub enum WorldAnswer<R> {
         reply: R,
         place: u64,
     },
-    /// The published route, where there is one.
+    /// The published route, if there is one.
     Way(Option<Route>),
 }

@@ -2,7 +2,7 @@ use sm_desk::command::CommandFault;
 use sm_ownership::admit_fault::AdmitFault;
 use thiserror::Error;
 
-/// Why a step was refused. It then changed nothing.
+/// Why a step was refused. A step that is refused changes nothing.
 #[derive(Clone, Copy, Debug, PartialEq, Eq, Drop, Error)]
 pub enum WorldFault {
     /// The command was refused.
@@ -23,10 +23,11 @@ pub enum WorldFault {
     /// There is no envelope at this place.
     #[error("there is no envelope at this place")]
     NoEnvelope,
-    /// No server has the shard in hand, or not so: `Finish` ends an admission with a request, `Free` one without.
+    /// No server has the shard in hand as the step needs it: `Finish` ends an admission with a request, and `Free` one
+    /// without.
     #[error("no server has the shard in hand so")]
     NotHeld,
-    /// The shard's generation is not above that of its last published route.
+    /// The shard's generation isn't above the generation of its last published route.
     #[error("the route is not newer than the published one")]
     OldRoute,
     /// The shard is vacant, so it has no route.

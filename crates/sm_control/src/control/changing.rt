@@ -42,7 +42,7 @@ impl<S: Service> Control<S> {
         self.change(board, k, Change::PrepareAddShard(next))
     }
 
-    /// Has the shard's owner stop executing and forward to the next owner, or answers the first fault that applies.
+    /// Makes the shard's owner stop executing and forward to the next owner. If a fault applies, returns the first one.
     pub fn prepare_drop_shard(&mut self, board: &Board<S>, k: ShardId) -> Result<(), CommandFault>
         requires { self.old.chair.board ≡ board.now }
         ensures answer { let command = ChangeOf k PrepareDropShard in
@@ -52,7 +52,7 @@ impl<S: Service> Control<S> {
         self.change(board, k, Change::PrepareDropShard)
     }
 
-    /// Makes the next owner the owner, to whom the previous one forwards, or answers the first fault that applies.
+    /// Makes the next owner the owner, to which the previous one forwards. If a fault applies, returns the first one.
     pub fn add_shard(&mut self, board: &Board<S>, k: ShardId) -> Result<(), CommandFault>
         requires { self.old.chair.board ≡ board.now }
         ensures answer { let command = ChangeOf k AddShard in
@@ -82,7 +82,7 @@ impl<S: Service> Control<S> {
         self.change(board, k, Change::Cancel)
     }
 
-    /// Pauses the shard, so that nobody executes its requests, or answers the first fault that applies.
+    /// Pauses the shard, so that no server executes its requests. If a fault applies, returns the first one.
     pub fn pause(&mut self, board: &Board<S>, k: ShardId) -> Result<(), CommandFault>
         requires { self.old.chair.board ≡ board.now }
         ensures answer { let command = ChangeOf k Pause in
@@ -92,7 +92,7 @@ impl<S: Service> Control<S> {
         self.change(board, k, Change::Pause)
     }
 
-    /// Has the owner of a paused shard execute again, or answers the first fault that applies.
+    /// Makes the owner of a paused shard execute again. If a fault applies, returns the first one.
     pub fn resume(&mut self, board: &Board<S>, k: ShardId) -> Result<(), CommandFault>
         requires { self.old.chair.board ≡ board.now }
         ensures answer { let command = ChangeOf k Resume in
@@ -117,7 +117,7 @@ impl<S: Service> Control<S> {
         self.change(board, k, Change::Reassign(next))
     }
 
-    // Has the desk judge the change, and makes it on the board, and then at the desk.
+    // Has the desk judge the change. Then makes it on the board, and after that at the desk.
     pub(super) fn change(
         &mut self,
         board: &Board<S>,

@@ -16,8 +16,8 @@ use sm_rule::Board;
 use std::alloc::{AllocError, Global};
 
 impl<S: Service> Control<S> {
-    /// Each vacant shard by number goes to the lowest-numbered server that it fits, earlier moves counted as made.
-    /// The shards that fit no server in their turn are left.
+    /// Returns a plan in which each vacant shard, by number, goes to the lowest-numbered server on which it fits, with
+    /// earlier moves counted as made. The shards that fit on no server in their turn are left.
     pub fn plan_assign(&self, alloc: Global) -> Result<Plan, AllocError>
         ensures plan { IfOk result (λ plan. plan ≡ assign_plan self.now.desk.books) }
         ensures keeps_room { let books = self.now.desk.books in
@@ -27,9 +27,9 @@ impl<S: Service> Control<S> {
         self.desk.books().plan_assign(alloc)
     }
 
-    /// Each shard that the server serves, by number, goes to the lowest-numbered other server that it fits, earlier
-    /// moves counted as wholly migrated; or the first fault that applies. A shard that names the server in another
-    /// stand is not in the plan.
+    /// Returns a plan in which each shard that the server serves, by number, goes to the lowest-numbered other server
+    /// on which it fits, with earlier moves counted as made; or returns the first fault that applies. A shard that
+    /// names the server in another stand is not in the plan.
     pub fn plan_drain(&self, alloc: Global, a: ServerId) -> Result<Plan, DrainFault>
         ensures plan { IfOk result (λ plan. plan ≡ drain_plan self.now.desk.books a) }
         ensures keeps_room { let books = self.now.desk.books in
@@ -44,8 +44,8 @@ impl<S: Service> Control<S> {
         Ok(self.desk.books().plan_drain(alloc, a)?)
     }
 
-    /// The shard's owner, and its generation in all that the chair then has seen; or the first reason for which it has
-    /// no route.
+    /// Returns the shard's owner, and its generation in all that the chair then has seen; or the first reason for which
+    /// it has no route.
     pub fn route(&mut self, board: &Board<S>, k: ShardId) -> Result<Route, RouteFault>
         requires { self.old.chair.board ≡ board.now }
         ensures answer { Routed (route_fault self.old.desk.books k) self.old self.new k result }

@@ -50,7 +50,7 @@ impl<S: Service> Control<S> {
         self.step(Command::Fail(a))
     }
 
-    // Makes a step, which leaves the stands as they are, where the desk lets it through.
+    // Makes a step, which leaves the stands as they are, if the desk allows it.
     fn step(&mut self, step: Command) -> Result<(), CommandFault>
         requires { (books_commanded self.old.desk.books step).shards ≡ self.old.desk.books.shards }
         ensures answer { IsMadeOrRefused (desk_fault self.old.desk step) self.old self.new step result }

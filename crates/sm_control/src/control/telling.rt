@@ -1,4 +1,4 @@
-//! Notes of what the chair has seen.
+//! Notes of the history that the chair has seen.
 ghost use Rattle.std.specs.Prelude.{◌≡◌, ◌≢◌, None};
 ghost use Rattle.sm_ownership.specs.History.{NoneBy};
 ghost use Rattle.sm_rule.specs.Passes.{HasLegalFront};
@@ -9,7 +9,7 @@ use sm_body::service::Service;
 use sm_rule::{Board, Note};
 
 impl<S: Service> Control<S> {
-    /// A note of all that the chair has seen, its changes among it. It can't be refused.
+    /// Returns a note of all that the chair has seen, its changes among it. It can't be refused.
     pub fn note(&mut self, board: &Board<S>) -> Note<S>
         requires { self.old.chair.board ≡ board.now }
         ensures unchanged { self.new ≡ self.old }

@@ -1,4 +1,4 @@
--- What a change is that the desk doesn't refuse.
+-- The facts about a change that the desk doesn't refuse.
 use Rattle.std.specs.Prelude.{◌≡◌, ◌<◌, ℕ, Bool, true, false, Option, Some, None, refl, length, nat_lt, not}
 use Rattle.std.specs.Prelude.{if◌then◌else◌}
 use Rattle.std.specs.Option.{option_map, option_or}
@@ -9,8 +9,8 @@ use Rattle.sm_place.specs.Books.{BooksView, shard_at}
 use Rattle.sm_desk.specs.declared.command.CommandFault.TheVariants.{Change as ChangeRefused}
 use Rattle.sm_desk.specs.Desk.{desk_change_fault, is_unknown, resume_fault, resumed, room_fault}
 
--- the shard is there, the server that the change newly names exists and has room, and the change begins from the
--- shard's stand; the owner that is to execute again isn't leaving
+-- the shard exists, the server that the change newly names exists and has room, the shard's stand allows the change,
+-- and the owner that will execute again isn't leaving
 pub record IsLetThrough (books : BooksView) (shard : ℕ) (change : Change) : Type 0 where
   pub within : shard < length books.shards
   pub known : is_unknown books.servers (newly_named change) ≡ false

@@ -1,4 +1,4 @@
--- What legality asks of an entry, and the faults for which the table refuses one, are the same.
+-- An entry meets the conditions of legality if and only if the table has no fault with which to refuse it.
 use Rattle.std.proofs.Common.{◌≡◌, ℕ, ◌+◌, Bool, true, false, not, ◌&&◌, refl, ap, ◌∙◌, arith}
 use Rattle.std.specs.Prelude.{Option, Some, None, is_none, is_some, nat_lt, nat_le, if◌then◌else◌}
 use Rattle.std.proofs.lemmas.Bool.{and_parts, not-true}
@@ -19,7 +19,7 @@ none_exactly : {X : Type 0} (leads : Bool) (x : X) → leads ≡ is_none (if lea
 none_exactly true x = refl
 none_exactly false x = refl
 
--- a stand leads on by a change exactly where no fault of its phase applies
+-- a change leads on from a stand if and only if no fault of its phase applies
 pub phase_fault-none : (stand : Stand) (change : Change)
     → is_some (stand_after stand change) ≡ is_none (phase_fault stand change)
 phase_fault-none stand change = none_exactly (is_some (stand_after stand change)) _
@@ -35,7 +35,7 @@ none_of_two false true false x y = refl
 none_of_two false false true x y = refl
 none_of_two false false false x y = refl
 
--- the control's change fits exactly where neither the stand nor the table refuses it
+-- the control's change fits if and only if neither the stand nor the table refuses it
 pub change_fits-no_fault : (ceiling : ℕ) (state : Record) (change : Change) → change_fits ceiling state 0 change
     ≡ (is_none (phase_fault state.stand change) && is_none (record_fault ceiling state))
 change_fits-no_fault ceiling state change =
@@ -60,7 +60,7 @@ none_of_four true false false false x y z u = refl
 spent_unless : (ceiling reached : ℕ) → nat_lt ceiling reached ≡ not (nat_le reached ceiling)
 spent_unless ceiling reached = grind (arith, nat_tests)
 
--- where a shard has an executor
+-- for a shard that has an executor
 none_executing : (ceiling : ℕ) (state : Record) (server : ℕ) (mode : Mode)
     → is_none (executing_fault ceiling state server mode)
     ≡ (not state.admitted && (nat_le (state.generation + 2) ceiling && accepts state server mode))
@@ -77,14 +77,14 @@ none_at (Paused owner) admitted generation ceiling server mode = and_never admit
 none_at stand admitted generation ceiling server mode =
     none_executing ceiling (record { stand = stand; admitted = admitted; generation = generation }) server mode
 
--- no fault of admission applies exactly where the record is idle, has room for an admission and its end, and accepts
+-- no fault of admission applies if and only if the record is idle, has room for an admission and its end, and accepts
 -- the server
 pub admit_fault-none : (ceiling : ℕ) (state : Record) (server : ℕ) (mode : Mode)
     → is_none (admit_fault ceiling state server mode)
     ≡ (not state.admitted && (nat_le (state.generation + 2) ceiling && accepts state server mode))
 admit_fault-none ceiling state server mode = none_at state.stand state.admitted state.generation ceiling server mode
 
--- what stops a request that the stand accepts
+-- the fault of a request that the stand accepts
 abbrev fault_of_accepted : ℕ → Bool → ℕ → Option AdmitFault
 fault_of_accepted ceiling admitted generation =
     if admitted then Some Admitted else if nat_lt ceiling (generation + 2) then Some Spent else None
@@ -105,8 +105,7 @@ accepted_at stand admitted generation ceiling server mode accepted =
     accepted_executing ceiling
     (record { stand = stand; admitted = admitted; generation = generation }) server mode accepted
 
--- a request that a record accepts is refused for no other reason than that the shard is admitted, or its generations
--- spent
+-- if a record accepts a request, it is refused only if the shard is admitted or its generations are spent
 pub admit_fault-accepted : (ceiling : ℕ) (state : Record) (server : ℕ) (mode : Mode) → accepts state server mode ≡ true
     → admit_fault ceiling state server mode
     ≡ (if state.admitted then Some Admitted else if nat_lt ceiling (state.generation + 2) then Some Spent else None)

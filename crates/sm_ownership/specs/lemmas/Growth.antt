@@ -48,13 +48,13 @@ module _ {Q : Type 0} (count ceiling : ℕ) where
       let there = ltb-true entry.shard (length (table earlier)) (and_parts _ _ fit).0 in
       rw fit (get_or-set_same (table earlier) entry.shard (after earlier entry) vacant there)
 
-  -- and of no other
+  -- an entry that fits doesn't change the record of any other shard
   pub record_at-latest_other : (entry : Entry Q) (earlier : List (Entry Q)) (shard : ℕ) → shard ≢ entry.shard
       → FitsAfter earlier entry → record_at (table (entry ∷ earlier)) shard ≡ record_at (table earlier) shard
   record_at-latest_other entry earlier shard apart fit =
       rw fit (get_or-set_other (table earlier) entry.shard shard (after earlier entry) vacant apart)
 
-  -- the same of an entry at the end of a history
+  -- the same for an entry at the end of a history
   pub table_of-push : (history : List (Entry Q)) (entry : Entry Q) → FitsAfter (reverse history) entry
       → table_of count ceiling (history ++ entry ∷ [])
       ≡ slice_set (table_of count ceiling history) entry.shard (after (reverse history) entry)
@@ -76,7 +76,7 @@ module _ {Q : Type 0} (count ceiling : ℕ) where
       → FitsAfter (reverse history) entry → IsLegal count ceiling (history ++ entry ∷ [])
   legal-push history entry legal fit = rw (reverse-append history (entry ∷ [])) (fit, legal)
 
-  -- an entry of a legal history fits what came before it
+  -- an entry of a legal history fits those before it
   pub fits-push : (history : List (Entry Q)) (entry : Entry Q) → IsLegal count ceiling (history ++ entry ∷ [])
       → FitsAfter (reverse history) entry
   fits-push history entry legal = (rw (reverse-append history (entry ∷ [])) at legal).0
@@ -86,7 +86,7 @@ module _ {Q : Type 0} (count ceiling : ℕ) where
   legal_earlier [] earlier legal = legal
   legal_earlier (entry ∷ later) earlier legal = legal_earlier later earlier legal.1
 
-  -- what a legal history begins with is legal
+  -- if a history is legal, each history with which it begins is legal
   pub legal_prefix : (history later : List (Entry Q)) → IsLegal count ceiling (history ++ later)
       → IsLegal count ceiling history
   legal_prefix history later legal = legal_earlier (reverse later) (reverse history)

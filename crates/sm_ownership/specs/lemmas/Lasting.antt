@@ -1,5 +1,5 @@
--- What lasts while a history grows: the record of a shard or else its generation, the stand without the control, and an
--- admission until its actor ends it.
+-- Facts that last while a history grows: a shard has the same record or a greater generation, its stand stays without
+-- the control, and an admission stays until its actor ends it.
 use Rattle.std.proofs.Common.{◌≡◌, ◌≢◌, ℕ, ◌<◌, ◌+◌, Bool, true, false, not, List, [], ◌∷◌, ◌++◌, refl, sym, ap, subst}
 use Rattle.std.proofs.Common.{◌∙◌, arith, ◌⊎◌, ⊎_elim, inl, inr}
 use Rattle.std.specs.Prelude.{Option, Some, None, reverse, ◌==◌, ◌||◌}
@@ -38,13 +38,13 @@ module _ {Q : Type 0} where
       let other : (entry.actor == actor) ≡ false = ne_eqb entry.actor actor (All-head Is entry earlier none) in
       rw other (acts_as-none earlier actor server (All-tail Is entry earlier none))
 
-  -- an entry of another actor leaves what an actor admitted
+  -- an entry of another actor doesn't change an actor's admissions
   pub acts_as-other : (entry : Entry Q) (earlier : List (Entry Q)) (actor server : ℕ) → entry.actor ≢ actor
       → acts_as earlier actor server ≡ true → acts_as (entry ∷ earlier) actor server ≡ true
   acts_as-other entry earlier actor server apart acts = let other : (entry.actor == actor) ≡ false =
       ne_eqb entry.actor actor apart in rw other acts
 
-  -- so does its own entry that admits the actor's server, or nobody
+  -- an actor's own entry doesn't either, if it admits the actor's server, or nobody
   pub acts_as-own : (entry : Entry Q) (earlier : List (Entry Q)) (actor server : ℕ) → admits_only server entry.kind
       ≡ true → acts_as earlier actor server ≡ true → acts_as (entry ∷ earlier) actor server ≡ true
   acts_as-own entry earlier actor server only acts =
@@ -52,7 +52,7 @@ module _ {Q : Type 0} where
       rw only (or_else (not (entry.actor == actor))) in
       and_from _ _ here acts
 
-  -- the latest entry of another shard is as it was
+  -- an entry of another shard doesn't change the latest entry of a shard
   pub latest_of-other : (entry : Entry Q) (earlier : List (Entry Q)) (shard : ℕ) → shard ≢ entry.shard
       → latest_of (entry ∷ earlier) shard ≡ latest_of earlier shard
   latest_of-other entry earlier shard apart = let other : (entry.shard == shard) ≡ false =
@@ -65,7 +65,7 @@ module _ {Q : Type 0} where
       sym (eqb-true entry.actor actor (and_parts (entry.actor == actor) (is_admit entry.kind) first).0)
       ∙ eqb-true entry.actor other (and_parts (entry.actor == other) (is_admit entry.kind) second).0
 
-  -- what fits an admitted record is the end of the admission by its actor
+  -- only the end of the admission, by its actor, fits an admitted record
   fits_admitted : (ceiling : ℕ) (earlier : List (Entry Q)) (state : Record) (actor shard : ℕ) (kind : Kind Q)
       → kind_fits ceiling earlier state actor shard kind ≡ true → state.admitted ≡ true
       → is_admission_of actor (latest_of earlier shard) ≡ true
@@ -95,7 +95,7 @@ module _ {Q : Type 0} (count ceiling : ℕ) where
   abbrev table : List (Entry Q) → List Record
   table earlier = table_of_latest count ceiling earlier
 
-  -- an entry that fits changes the record of its shard alone
+  -- an entry that fits changes only the record of its shard
   pub next_record : (entry : Entry Q) (earlier : List (Entry Q)) (shard : ℕ)
       → fits ceiling earlier (table earlier) entry ≡ true
       → ((shard ≢ entry.shard) × (record_at (table (entry ∷ earlier)) shard ≡ record_at (table earlier) shard))
@@ -111,7 +111,7 @@ module _ {Q : Type 0} (count ceiling : ℕ) where
       (λ (apart : shard ≢ entry.shard). inl (apart, record_at-latest_other count ceiling entry earlier shard apart fit))
       (cases_eq shard entry.shard)
 
-  -- an entry that fits while a shard is admitted by another actor is of another shard
+  -- if an entry fits while a shard is admitted by another actor, it is of another shard
   pub admission_excludes : (entry : Entry Q) (earlier : List (Entry Q)) (shard actor : ℕ) → fits ceiling earlier
       (table earlier) entry ≡ true → entry.actor ≢ actor → (record_at (table earlier) shard).admitted ≡ true
       → is_admission_of actor (latest_of earlier shard) ≡ true → shard ≢ entry.shard
@@ -175,7 +175,7 @@ module _ {Q : Type 0} (count ceiling : ℕ) where
       subst (λ entries. IsSameOrLater (record_at (table_of count ceiling history) shard)
       (record_at (table entries) shard)) (sym turned) (later_latest (reverse later) (reverse history) shard legal')
 
-  -- without entries of the control every stand stays
+  -- if the control has no entries, every stand stays
   pub stand_stays : (history later : List (Entry Q)) (shard : ℕ) → IsLegal count ceiling (history ++ later)
       → NoneBy 0 later → (record_at (table_of count ceiling (history ++ later)) shard).stand
       ≡ (record_at (table_of count ceiling history) shard).stand

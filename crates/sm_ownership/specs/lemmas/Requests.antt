@@ -1,4 +1,4 @@
--- The requests of a shard, and what it keeps of them, while a history grows.
+-- The requests of a shard, and those that it keeps, while a history grows.
 use Rattle.std.proofs.Common.{◌≡◌, ◌≤◌, ℕ, Bool, true, false, ◌&&◌, List, [], ◌∷◌, ◌++◌, length, refl, ap, subst, arith}
 use Rattle.std.proofs.Common.{length-append, ◌∙◌}
 use Rattle.std.specs.Prelude.{Option, None, drop, reverse, take, ◌==◌, if◌then◌else◌}
@@ -38,14 +38,14 @@ first_latest-within (entry ∷ earlier) shard =
     cond_both (entry.shard == shard && is_checkpoint (ending_of entry.kind)) _ _
     (λ n. n ≤ length (all_of (reverse (entry ∷ earlier)) shard)) (λ _. omega arith) (λ _. omega arith)
 
--- as many requests as came before a checkpoint are there
+-- at least as many requests are there as came before a checkpoint
 pub first_of-within : {Q : Type 0} (history : List (Entry Q)) (shard : ℕ)
     → first_of history shard ≤ length (all_of history shard)
 first_of-within history shard =
     subst (λ entries. first_of history shard ≤ length (all_of entries shard)) (reverse-reverse history)
     (first_latest-within (reverse history) shard)
 
--- the requests before the checkpoint, and those that are kept since, are all
+-- all requests are those before the checkpoint, followed by those kept since
 pub kept-end : {Q : Type 0} (history : List (Entry Q)) (shard : ℕ)
     → take (first_of history shard) (all_of history shard) ++ kept history shard ≡ all_of history shard
 kept-end history shard = take-append-drop (first_of history shard) (all_of history shard)
@@ -58,7 +58,7 @@ module _ {Q : Type 0} (history : List (Entry Q)) (entry : Entry Q) where
       then length (all_of history shard) else first_of history shard)
   first_of-push shard = rw (reverse-append history (entry ∷ []), reverse-reverse history) refl
 
-  -- an entry of another shard leaves the requests of a shard
+  -- an entry of another shard doesn't change the requests of a shard
   pub all_of-push_other : (shard : ℕ) → (entry.shard == shard) ≡ false → all_of longer shard ≡ all_of history shard
   all_of-push_other shard other =
       all_of-append history (entry ∷ []) shard ∙ rw other (append-nil (all_of history shard))
@@ -70,7 +70,7 @@ module _ {Q : Type 0} (history : List (Entry Q)) (entry : Entry Q) where
   pub kept-push_other : (shard : ℕ) → (entry.shard == shard) ≡ false → kept longer shard ≡ kept history shard
   kept-push_other shard other = λ i. drop (first_of-push_other shard other i) (all_of-push_other shard other i)
 
-  -- so does one that ends no admission, or ends it with nothing
+  -- an entry doesn't either, if it ends no admission, or ends it with nothing
   module _ (nothing : ending_of entry.kind ≡ Nothing) (shard : ℕ) where
     pub all_of-push_none : all_of longer shard ≡ all_of history shard
     all_of-push_none =
@@ -83,7 +83,7 @@ module _ {Q : Type 0} (history : List (Entry Q)) (entry : Entry Q) where
     pub kept-push_none : kept longer shard ≡ kept history shard
     kept-push_none = λ i. drop (first_of-push_none i) (all_of-push_none i)
 
-  -- an entry that has a request adds it last
+  -- if an entry has a request, it adds this request last
   module _ (request : Q) (some : ending_of entry.kind ≡ Request request) where
     pub all_of-push_some : all_of longer entry.shard ≡ all_of history entry.shard ++ request ∷ []
     all_of-push_some =
@@ -117,6 +117,6 @@ module _ {Q : Type 0} (history : List (Entry Q)) (entry : Entry Q) where
   kept-push_ending (Request request) is = kept-push_some request is
   kept-push_ending Checkpoint is = kept-push_checkpoint is
 
-  -- what a shard keeps after an entry of its own
+  -- the requests that a shard keeps after an entry of its own
   pub kept-push : kept longer entry.shard ≡ kept_after (kept history entry.shard) (ending_of entry.kind)
   kept-push = kept-push_ending (ending_of entry.kind) refl

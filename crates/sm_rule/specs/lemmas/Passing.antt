@@ -1,4 +1,4 @@
--- What several calls with one pass tell together.
+-- The combined knowledge from several calls with one pass.
 use Rattle.std.proofs.Common.{◌≡◌, ◌≢◌, ℕ, false, List, [], ◌∷◌, ◌++◌, refl, sym, ap, ◌∙◌, subst, append_assoc}
 use Rattle.std.specs.Prelude.{Option, Some, None, ◌==◌}
 use Rattle.std.proofs.lemmas.Bool.{ne_eqb}
@@ -16,7 +16,7 @@ use Rattle.sm_rule.specs.Boards.{BoardValue}
 use Rattle.sm_rule.specs.Passes.{PassAdds, PassLooks, PassValue, own, pass_adding, pass_seeing}
 use Rattle.sm_rule.specs.Views.{Begins, Grows, IsMet, entry_of}
 
--- what grows by entries of others, and then grows on
+-- a history that grows by entries of others, and then grows on
 pub grows_grows : {Q : Type 0} (limits : Limits) (number : ℕ) (one two three added : List (Entry Q))
     → Grows limits number one two [] → Grows limits number two three added → Grows limits number one three added
 grows_grows limits number one two three added first second = (
@@ -27,7 +27,7 @@ grows_grows limits number one two three added first second = (
   second.3,
 )
 
--- the same where the second says it of other limits and another number, which are the first's
+-- the same if the second has other limits and another number, which are equal to the first's
 pub grows_on : {Q : Type 0} (limits same_limits : Limits) (number same_number : ℕ) (one two three : List (Entry Q))
     (added : ℕ → List (Entry Q)) → same_limits ≡ limits → same_number ≡ number → Grows limits number one two []
     → Grows same_limits same_number two three (added same_number) → Grows limits number one three (added number)
@@ -44,7 +44,7 @@ pub begins_begins : {Q : Type 0} (one two three : List (Entry Q)) → Begins one
 begins_begins one two three first second =
     (first.0 ++ second.0, second.1 ∙ (ap (λ entries. entries ++ second.0) first.1 ∙ append_assoc one first.0 second.0))
 
--- own entries of what comes after others
+-- the own entries of a history that follows others
 pub own_append : {Q : Type 0} (number : ℕ) (one two : List (Entry Q))
     → own number (one ++ two) ≡ own number one ++ own number two
 own_append number one two = filter-append (λ entry. entry.actor == number) one two
@@ -56,7 +56,7 @@ own_none number (entry ∷ entries) none =
     ne_eqb entry.actor number (All-head (λ one. one.actor ≢ number) entry entries none) in
     rw other (own_none number entries (All-tail (λ one. one.actor ≢ number) entry entries none))
 
--- what grows has those own entries more that were added
+-- growth adds exactly the own entries that were added
 pub own_grows : {Q : Type 0} (limits : Limits) (number : ℕ) (before after added : List (Entry Q))
     → Grows limits number before after added → own number after ≡ own number before ++ own number added
 own_grows limits number before after added grows =
@@ -65,12 +65,12 @@ own_grows limits number before after added grows =
     ∙ ap (λ entries. entries ++ own number added) (own_append number before grows.0 ∙ (ap
     (λ entries. own number before ++ entries) (own_none number grows.0 grows.2) ∙ append-nil (own number before))))
 
--- what was met begins with what was told, and has no more entries of the note's number
+-- the history that was met begins with the told one, and has no more entries of the note's number
 pub met_begins : {Q : Type 0} (number : ℕ) (seen history : List (Entry Q)) → IsMet number seen history
     → Begins seen history
 met_begins number seen history met = (met.0, met.1)
 
--- after a look, and after an entry of one's own, what had been seen is a front of what is
+-- after a look, and after an own entry, the earlier view is a front of the present one
 pub looks_begins : {Q : Type 0} (p q : PassValue Q) → PassLooks p q → Begins p.seen q.seen
 looks_begins p q looks = grows_begins p.board.limits p.number p.seen q.seen [] looks.0
 

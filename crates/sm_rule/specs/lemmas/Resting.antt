@@ -1,4 +1,4 @@
--- What becomes of a body that applies a request, or makes a checkpoint.
+-- How a body changes if it applies a request, or makes a checkpoint.
 use Rattle.std.proofs.Common.{◌≡◌, ℕ, suc, ◌+◌, ◌-◌, ◌≤◌, List, [], ◌∷◌, ◌++◌, length, drop, take, refl, sym, ap, ◌∙◌}
 use Rattle.std.proofs.Common.{subst, arith, length-append, length-drop, take-append-drop}
 use Rattle.std.specs.Prelude.{Option, fold}
@@ -16,7 +16,7 @@ pub all_based : {Q : Type 0} (all list : List Q) → all_after all (checkpoint_e
 all_based all [] = refl
 all_based all (request ∷ more) = refl
 
--- a body that kept nothing ends with nothing, and else with a checkpoint
+-- a body that kept nothing ends with nothing, and otherwise with a checkpoint
 checkpoint_ends : {S Q : Type 0} (rests : S → ℕ → List Q → Type 0) (held : Option (HeldShard Q)) (body : S)
     → first_held held ≤ length (all_held held) → rests body (length (all_held held)) (all_held held)
     → EndsWith rests held body (checkpoint_ending (list_held held))
@@ -60,13 +60,13 @@ module _ {S State Q : Type 0} (initial : State) (next : State → Q → State) (
         same_base ∙ (is.3 ∙ ap (fold next initial) (sym (take-append-le first all (request ∷ []) is.0))),
       )
 
-  -- one that is as it was
+  -- a body that is as it was
   pub rests_same : (body later : S) (first : ℕ) (all : List Q) → keeps body first all → requests later ≡ requests body
       → base later ≡ base body → before later ≡ before body → keeps later first all
   rests_same body later first all is same_list same_base same_before =
       (is.0, same_before ∙ is.1, same_list ∙ is.2, same_base ∙ is.3)
 
-  -- the state after what it keeps is that after all requests
+  -- the state after the kept requests is the state after all requests
   pub state_after : (body : S) (first : ℕ) (all : List Q) → keeps body first all
       → fold next (base body) (requests body) ≡ fold next initial all
   state_after body first all is =
@@ -84,7 +84,7 @@ module _ {S State Q : Type 0} (initial : State) (next : State → Q → State) (
       let count = is.1 in
       omega arith
 
-  -- the same of a body that was lent to apply a request, which an admission may then end with
+  -- the same for a body that was borrowed to apply a request; an admission may then end with it
   pub ends_applied : (held : Option (HeldShard Q)) (given lent later : S) (request : Q) → lent ≡ given
       → keeps given (first_held held) (all_held held) → requests later ≡ requests lent ++ request ∷ []
       → base later ≡ base lent → before later ≡ before lent → EndsWith keeps held later (Request request)

@@ -31,8 +31,8 @@ use std::marker::Brand;
 use std::snapshot::Snapshot;
 
 impl<S: Service> Board<S> {
-    /// The first reason for which a record of this board doesn't admit the server for a request that came so, if any.
-    /// Without a server that is `Vacant`, `Paused`, or else `NotExecutor`.
+    /// Returns the first reason for which a record of this board doesn't admit the server for a request that came in
+    /// this mode, if there is one. Without a server that is `Vacant`, `Paused` or `NotExecutor`.
     pub fn refusal(
         &self,
         state: &Record,
@@ -51,7 +51,7 @@ impl<S: Service> Board<S> {
         }
     }
 
-    // The same of the record that has this word: most admissions find at once that it has none.
+    // Does the same for the record with this word. Most admissions find at once that there is no reason.
     #[inline(always)]
     fn refusal_by(
         &self,
@@ -73,7 +73,7 @@ impl<S: Service> Board<S> {
         self.refusal_of(word, server, mode)
     }
 
-    // The same of the word alone, outside of the way of most admissions.
+    // Does the same with only the word. It is separate because most admissions don't need it.
     #[inline(never)]
     fn refusal_of(&self, word: u64, server: Option<ServerId>, mode: Mode) -> Option<AdmitFault>
         requires { (state : RecordValue) × IsWordOf state word }
@@ -83,10 +83,10 @@ impl<S: Service> Board<S> {
         self.refusal(&record_of_word(word), server, mode)
     }
 
-    /// Admits the pass to the shard, for a request that came to its server so, and gives the permit with the shard's
-    /// body, which has the shard's limit and rests on all requests that the pass has then seen of the shard; or answers
-    /// the first fault that applies to the record read, or that it was overtaken. A refusal adds no entry of the pass.
-    /// That a call adds none of other actors no clause says.
+    /// Admits the pass to the shard, for a request that came to its server in this mode. Returns the permit with the
+    /// shard's body, which has the shard's limit and rests on all requests of the shard that the pass has then seen. If
+    /// the pass isn't admitted, returns the first fault that applies to the record read, or that the call was
+    /// overtaken. A refusal adds no entry of the pass. No clause says that a call adds no entries of other actors.
     #[inline(always)]
     pub fn admit(
         &self,
@@ -213,9 +213,9 @@ impl<S: Service> Board<S> {
         body
     }
 
-    /// Ends the admission of the permit, and gives its body back. Since the admission the body has gained one request,
-    /// or none, or has made a checkpoint of what it kept, and the entry says which; it has the limit of its shard. It
-    /// can't be refused.
+    /// Ends the admission of the permit, and gives its body back. Since the admission the body must have gained one
+    /// request, or none, or it must have made a checkpoint of its kept requests, and the entry says which. It must have
+    /// the limit of its shard. The end can't be refused.
     pub fn finish(&self, pass: &mut Pass<S>, permit: Permit<S>) -> Front
         requires board { pass.old.board ≡ self.now }
         requires permit { HoldsPermit pass.old permit }

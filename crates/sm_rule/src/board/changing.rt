@@ -19,9 +19,9 @@ use sm_word::word::pack;
 use std::marker::Brand;
 
 impl<S: Service> Board<S> {
-    /// Makes the change, which the shard's stand in all that the chair has seen allows; or answers that the shard's
-    /// generations are spent, that the shard is admitted, or that the call was overtaken. A refusal adds no entry of
-    /// the chair. That a call adds none of other actors no clause says.
+    /// Makes the change, if the shard's stand in the history that the chair has seen allows it. Otherwise returns that
+    /// the shard's generations are spent, that the shard is admitted, or that the call was overtaken. A refusal adds no
+    /// entry of the chair. No clause says that a call adds no entries of other actors.
     pub fn change(
         &self,
         chair: &mut Chair<S>,
@@ -41,7 +41,7 @@ impl<S: Service> Board<S> {
         }
     }
 
-    /// `change`, for whom it is known that the change leads to this stand.
+    /// Does the same as `change`. The caller must know that the change leads to this stand.
     pub fn change_to(
         &self,
         chair: &mut Chair<S>,
@@ -86,7 +86,8 @@ impl<S: Service> Board<S> {
         }
     }
 
-    // The record after the change, which leads to this stand, or why the record read doesn't allow one now.
+    // Returns the record after the change, which leads to this stand; or why the record read doesn't allow a change
+    // now.
     fn changed(
         &self,
         read: &Record,
@@ -116,7 +117,7 @@ impl<S: Service> Board<S> {
     }
 }
 
-// The servers that a change names are numbered as servers are. Reading the number tells the proof so, and does nothing
+// Shows that the servers in a change have valid numbers. Reading a number tells that to the proof, and does nothing
 // else.
 fn names_servers(change: &Change)
     ensures { NewlyNamesServer change.now }

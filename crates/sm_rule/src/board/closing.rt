@@ -14,9 +14,10 @@ use sm_word::word::record_of_word;
 use std::alloc::Global;
 
 impl<S: Service> Board<S> {
-    /// Ends the board: each shard's record, and the body of each idle one, of its limit and resting on all its
-    /// requests, after one legal history that extends what the chair had seen by entries of passes, and extends what
-    /// the pass had seen. The body of a shard whose permit was never spent isn't there.
+    /// Ends the board. Returns each shard's record, and the body of each idle shard, which has the shard's limit and
+    /// rests on all its requests, after one legal history. That history extends everything that the chair had seen by
+    /// entries of passes, and extends everything that the pass had seen. If a shard's permit was never spent, its body
+    /// is missing.
     pub fn close(self, chair: Chair<S>, pass: Pass<S>) -> Vec<(Record, Option<S>)>
         requires board { chair.board ≡ self }
         requires pass { pass.board ≡ self }
@@ -42,7 +43,7 @@ impl<S: Service> Board<S> {
     }
 }
 
-// Each shard's record, and its body where it isn't admitted.
+// Returns each shard's record, and its body if it isn't admitted.
 fn emptied<S: Drop>(
     mut closed: Closed<Option<S>, Global>,
     mut rows: Vec<(Record, Option<S>)>,
@@ -65,7 +66,7 @@ fn emptied<S: Drop>(
     rows
 }
 
-// What the slot of a shard with this record has at home.
+// Returns the body in the slot of a shard with this record, if it is at home.
 fn at_home<S: Drop>(slot: Option<S>, state: &Record) -> Option<S>
     ensures { result ≡ (if state.now.admitted then None else slot) }
 {

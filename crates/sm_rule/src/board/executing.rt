@@ -16,9 +16,9 @@ use sm_body::service::{ApplyFault, Service};
 use std::alloc::AllocError;
 
 impl<S: Service> Board<S> {
-    /// Has the permit's body, as the admission gave it, apply the request, and ends the admission. The entry keeps the
-    /// request where it is applied, and else none; a request that isn't applied comes back with the reason: `KeptFull`
-    /// where the body keeps as many as its limit, `NoMemory` only where it keeps fewer.
+    /// Makes the permit's body, as it was at the admission, apply the request, and ends the admission. If the request
+    /// is applied, the entry keeps it. Otherwise the request comes back with the reason: `KeptFull` if the body keeps
+    /// as many as its limit, and `NoMemory` only if it keeps fewer.
     pub fn execute(
         &self,
         pass: &mut Pass<S>,
@@ -31,7 +31,7 @@ impl<S: Service> Board<S> {
             (all_held pass.old.held) }
         requires limit { S.limit permit.body ≡ limit_at self.now.limits permit.shard }
 
-        // An applied request is the shard's last one, and its reply is that of the state after all those before it.
+        // An applied request is the shard's last one, and its reply is that of the state after all requests before it.
         ensures applied { OnOk result.0 (PassAdds pass.old permit.shard (Done (Requested request)) pass.new) }
         ensures all { OnOk result.0 (all_of pass.new.seen permit.shard ≡ all_held pass.old.held ++ request ∷ []) }
         ensures kept { OnOk result.0 (kept pass.new.seen permit.shard ≡ S.requests permit.body ++ request ∷ []) }
@@ -39,7 +39,7 @@ impl<S: Service> Board<S> {
             reply ≡ S.answer (fold S.next S.initial (all_held pass.old.held)) request) }
         ensures room { OnOk result.0 (length (S.requests permit.body) < S.limit permit.body) }
 
-        // A refused one comes back, as the body refuses it, and the entry keeps none.
+        // A refused request comes back, as the body refuses it, and the entry keeps none.
         ensures refused { OnErr result.0 (PassAdds pass.old permit.shard (Done Nothing) pass.new) }
         ensures unchanged { OnErr result.0 (kept pass.new.seen permit.shard ≡ S.requests permit.body) }
         ensures handed_back { IfErr result.0 (λ back. back.0 ≡ request) }
@@ -65,9 +65,9 @@ impl<S: Service> Board<S> {
         }
     }
 
-    /// Has the permit's body, as the admission gave it, make a checkpoint, and ends the admission. The entry is that
-    /// checkpoint, or nothing where the body kept no request, and then the shard keeps none. Where memory is refused it
-    /// is nothing, and the shard keeps what it kept.
+    /// Makes the permit's body, as it was at the admission, make a checkpoint, and ends the admission. If the body kept
+    /// requests, the entry is that checkpoint, and then the shard keeps none. If the body kept no request, there is no
+    /// checkpoint. If memory is refused, there is none either, and the shard keeps the same requests.
     pub fn checkpoint(
         &self,
         pass: &mut Pass<S>,
@@ -102,7 +102,7 @@ impl<S: Service> Board<S> {
         }
     }
 
-    /// Says, for proofs alone, how many requests the shard had that the pass holds. It does nothing.
+    /// Tells proofs how many requests the shard had that the pass holds. It does nothing.
     pub fn bounds(&self, pass: &Pass<S>)
         requires board { pass.now.board ≡ self.now }
         ensures { length (all_held pass.now.held) < 2 ^ 36 }

@@ -17,9 +17,10 @@ use std::alloc::{AllocError, Global};
 use std::snapshot::Snapshot;
 
 impl<S: Service> Board<S> {
-    /// A board of as many vacant shards as bodies (1 to 4,096), which have applied nothing yet, whose generations stay
-    /// at or below the ceiling (3 to 2^36 - 1), and its chair; or the first fault that applies, `NoMemory` only where
-    /// no other does, and the bodies are dropped. Each shard has the limit of the body at its place in the list.
+    /// Makes a board with a vacant shard for each body (1 to 4,096 bodies), and its chair. The bodies must not have
+    /// applied anything yet. Generations stay at or below the ceiling (3 to 2^36 - 1). On a fault returns the first one
+    /// that applies, and drops the bodies; `NoMemory` comes only if no other fault applies. Each shard has the limit of
+    /// the body at its place in the list.
     pub fn make(
         alloc: Global,
         bodies: Vec<S>,
@@ -44,7 +45,7 @@ impl<S: Service> Board<S> {
         }
     }
 
-    // The board and its chair, where their sizes have no fault.
+    // Makes the board and its chair. The sizes must have no fault.
     fn made(alloc: Global, bodies: Vec<S>, ceiling: u64) -> Result<(Board<S>, Chair<S>), AllocError>
         requires initial { All (λ body. S.base body ≡ S.initial) bodies.items }
         requires before { All (λ body. S.before body ≡ 0) bodies.items }
@@ -79,7 +80,8 @@ impl<S: Service> Board<S> {
     }
 }
 
-// The first reason, other than want of memory, for which there is no board of so many shards below this ceiling.
+// Returns the first reason, other than a lack of memory, for which there is no board of so many shards below this
+// ceiling.
 fn first_fault(count: usize, ceiling: u64) -> Option<MakeFault>
     ensures fault { result ≡ make_fault count ceiling }
     ensures sizes { IfNone result ((1 ≤ count) × (count ≤ MAX_SHARDS) × (ceiling < 2 ^ 36)) }

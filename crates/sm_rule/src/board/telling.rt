@@ -1,10 +1,12 @@
-//! What one caller tells another.
-ghost use Rattle.std.specs.Prelude.{◌≡◌, ◌≢◌, [], None};
+//! How one caller tells another how much it has seen.
+ghost use Rattle.std.specs.Prelude.{◌≡◌, ◌≢◌, ◌≤◌, [], None, Some};
 ghost use Rattle.sm_ownership.specs.History.{NoneBy};
+ghost use Rattle.sm_rule.specs.declared.view.Parent.{Parent};
 ghost use Rattle.sm_rule.specs.declared.view.Stage.TheVariants.{Acting};
 ghost use Rattle.sm_rule.specs.Passes.{HasLegalFront, PassLooks};
+ghost use Rattle.sm_rule.specs.Rule.{ViewHolds};
 ghost use Rattle.sm_rule.specs.Steps.{IsHalf};
-ghost use Rattle.sm_rule.specs.Views.{Begins, IsMet, Looks, informed};
+ghost use Rattle.sm_rule.specs.Views.{Begins, IsMet, Looks, cutting, informed, parent_of};
 
 use super::Board;
 use crate::chair::Chair;
@@ -16,7 +18,8 @@ use atomic_table::Seat;
 use sm_body::service::Service;
 
 impl<S: Service> Board<S> {
-    /// A new pass with another number and the same server, which has seen all that this one has. It can't be refused.
+    /// Returns a new pass with another number and the same server, which has seen all that this one has. It can't be
+    /// refused.
     pub fn split(&self, pass: &mut Pass<S>) -> Pass<S>
         requires board { pass.old.board ≡ self.now }
         ensures unchanged { pass.new ≡ pass.old }
@@ -34,7 +37,7 @@ impl<S: Service> Board<S> {
         }
     }
 
-    /// A note of all that the pass has seen: one that is split from it. It can't be refused.
+    /// Returns a note of everything that the pass has seen: a note that is split from the pass. It can't be refused.
     pub fn note(&self, pass: &mut Pass<S>) -> Note<S>
         requires board { pass.old.board ≡ self.now }
         ensures unchanged { pass.new ≡ pass.old }
@@ -48,7 +51,7 @@ impl<S: Service> Board<S> {
         self.split(pass).into_note()
     }
 
-    /// A note of all that the chair has seen. It can't be refused.
+    /// Returns a note of all that the chair has seen. It can't be refused.
     pub fn chair_note(&self, chair: &mut Chair<S>) -> Note<S>
         requires board { chair.old.board ≡ self.now }
         ensures unchanged { chair.new ≡ chair.old }
@@ -63,8 +66,8 @@ impl<S: Service> Board<S> {
         }
     }
 
-    /// Tells the pass all that the note had seen: it has then seen that too, and no more entries of the note's number.
-    /// It can't be refused.
+    /// Tells the pass everything that the note had seen. The pass has then seen that, too, and no more entries of the
+    /// note's number. It can't be refused.
     pub fn meet(&self, pass: &mut Pass<S>, note: Note<S>)
         requires board { pass.old.board ≡ self.now }
         requires note { note.board ≡ self.now }
@@ -75,22 +78,25 @@ impl<S: Service> Board<S> {
         self.take_in(&mut pass.seat, seat);
     }
 
-    // A new seat with a number of its own, which has seen all that this one has.
-    fn cut(&self, seat: &mut Seat<Option<S>, View<S::Request>>) -> Seat<Option<S>, View<S::Request>>
+    // A new seat with a number of its own, which has seen all that this one has, and names this one as its parent.
+    pub(super) fn cut(
+        &self,
+        seat: &mut Seat<Option<S>, View<S::Request>>,
+    ) -> Seat<Option<S>, View<S::Request>>
         requires table { seat.old.table_id ≡ self.now.id }
         requires live { seat.old.me.0.stage ≡ Acting }
         ensures table { seat.new.table_id ≡ seat.old.table_id }
-        ensures unchanged { seat.new.me ≡ seat.old.me }
+        ensures cutting { seat.new.me ≡ (cutting seat.old.me.0, seat.old.me.1) }
         ensures new_table { result.table_id ≡ self.now.id }
         ensures slots { result.me.1 ≡ [] }
-        ensures half { IsHalf seat.old.me.0 result.me.0 }
+        ensures half { IsHalf seat.old.me.0 (Some (parent_of seat.old.me.0)) result.me.0 }
     {
         let mut new = self.table.shared.split_seat::<Halves>(seat);
         let _ = self.table.shared.load::<Enroll>(&mut new, 0);
         new
     }
 
-    // Takes in another seat, and looks.
+    // Takes in another seat, and looks. If that one was cut from this one, no fewer were cut from this one since.
     pub(super) fn take_in(
         &self,
         seat: &mut Seat<Option<S>, View<S::Request>>,
@@ -105,6 +111,9 @@ impl<S: Service> Board<S> {
         ensures slots { seat.new.me.1 ≡ seat.old.me.1 }
         ensures seen { Looks (informed seat.old.me.0 other.me.0) seat.new.me.0 }
         ensures met { IsMet other.me.0.number other.me.0.seen seat.new.me.0.seen }
+        ensures holds { ViewHolds seat.new.me.0 }
+        ensures cuts { (parent : Parent) → other.me.0.parent ≡ Some parent → parent.number ≡ seat.old.me.0.number
+            → parent.cuts ≤ seat.old.me.0.cuts }
     {
         self.table.shared.join_seat::<Halves>(seat, other);
         let _ = self.table.shared.load::<Meet>(seat, 0);

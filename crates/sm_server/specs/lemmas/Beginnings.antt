@@ -1,4 +1,4 @@
--- What holds of each entry of a history holds of what it begins with.
+-- A property of each entry of a history is one of each entry of its beginnings.
 use Rattle.std.proofs.Common.{◌≢◌, ℕ, List, [], ◌∷◌, ◌++◌, subst}
 use Rattle.std.specs.Prelude.{All}
 use Rattle.std.proofs.lemmas.List.Elements.{All-cons, All-head, All-nil, All-tail}

@@ -66,7 +66,7 @@ unless_other : {Q : Type 0} (same : Bool) (own actor : ℕ) (kind : Kind Q) → 
 unless_other false own actor kind is own_only = refl
 unless_other true own actor kind is own_only = subst (λ a. admits_only a kind ≡ true) (is refl) own_only
 
--- where each actor is admitted under its own number alone, each has one server for good
+-- if each actor is admitted only under its own number, each has one server for good
 acts_as_itself : {Q : Type 0} (history : List (Entry Q)) (actor : ℕ) → list_all
     (λ entry. admits_only entry.actor entry.kind) history ≡ true → acts_as (reverse history) actor actor ≡ true
 acts_as_itself history actor own =
@@ -74,7 +74,7 @@ acts_as_itself history actor own =
     (entry.actor == actor) entry.actor actor entry.kind (eqb-true entry.actor actor) only) history own
 
 module _ {Q : Type 0} where
-  -- an entry of another shard leaves who holds this one
+  -- an entry of another shard doesn't change who holds this one
   held_other : (history : List (Entry Q)) (entry : Entry Q) (admitted : Bool) (shard : ℕ) (hand : Option (InHand Q))
       → (entry.shard == shard) ≡ false → AgreesWithHand history admitted shard hand
       → AgreesWithHand (history ++ entry ∷ []) admitted shard hand
@@ -82,7 +82,7 @@ module _ {Q : Type 0} where
   held_other history entry admitted shard (Some hand) other held =
       (held.0, rw (reverse-append history (entry ∷ [])) (rw other held.1))
 
-  -- nothing is in hand at an idle record, whatever is written next
+  -- nothing is in hand at an idle record, whatever entries come later
   held_idle : (history longer : List (Entry Q)) (admitted : Bool) (shard : ℕ) (hand : Option (InHand Q))
       → admitted ≡ false → AgreesWithHand history admitted shard hand → AgreesWithHand longer admitted shard hand
   held_idle history longer admitted shard None idle held = held
@@ -94,7 +94,7 @@ module _ {Q : Type 0} where
   none_held history admitted shard None idle held = refl
   none_held history admitted shard (Some hand) idle held = absurd (true≢false (sym held.0 ∙ idle))
 
-  -- what is in hand is so at a shard that is there
+  -- a shard that is in hand is there
   pub hand_within : (hands : List (Option (InHand Q))) (shard : ℕ) (hand : InHand Q)
       → slice_index_or hands shard None ≡ Some hand → shard < length hands
   hand_within hands shard hand is =
@@ -109,7 +109,7 @@ set-set [] i a b = refl
 set-set (x ∷ xs) zero a b = refl
 set-set (x ∷ xs) (suc i) a b = ap (λ rest. x ∷ rest) (set-set xs i a b)
 
--- a further command that the desk doesn't refuse
+-- the desk after one more command that it doesn't refuse
 pub led_on : (start desk : DeskView) (command : Command) → IsLedTo start desk → desk_fault desk command ≡ None
     → IsLedTo start (commanded desk command)
 led_on start desk command led through = record {
@@ -118,7 +118,7 @@ led_on start desk command led through = record {
   through = (ap (λ one. desk_fault one command) led.leads ∙ through, led.through);
 }
 
--- an entry that may come next in a world, and what the desk knows and what is in hand then
+-- an entry that may come next in a world, and the desk and the hands after it
 record IsNext {Q : Type 0} (w : WorldState Q) (entry : Entry Q) (desk : DeskView)
     (hands : List (Option (InHand Q))) : Type 0 where
   led : IsLedTo w.frame.start desk
@@ -191,7 +191,7 @@ module _ {Q : Type 0} (w : WorldState Q) (entry : Entry Q) (desk : DeskView) (ha
         (cases_eq shard entry.shard);
   }
 
--- what holds where no fault of the table applies
+-- a fact that holds if no fault of the table applies
 not_busy : {X : Type 0} (room busy : Bool) (x y : X)
     → (if not room then Some x else if busy then Some y else None) ≡ None → busy ≡ false
 not_busy true false x y none = refl
@@ -209,13 +209,13 @@ module _ {Q : Type 0} (w : WorldState Q) (sound : IsSound w) where
   long_table : length (world_table w) ≡ count_of w
   long_table = length-table_of (count_of w) w.frame.ceiling w.history
 
-  -- an entry that leaves the stand of its shard leaves all stands
+  -- an entry that doesn't change the stand of its shard changes no stand
   stands_stay : (shard : ℕ) (after : Record) → after.stand ≡ (world_record w shard).stand
       → stands_of w.desk ≡ map (λ (state : Record). state.stand) (slice_set (world_table w) shard after)
   stands_stay shard after stays =
       sound.stands ∙ sym (map-set_same (λ (state : Record). state.stand) (world_table w) shard after vacant stays)
 
-  -- the desk has a shard for each record, of its stand
+  -- the desk has a shard for each record, with the stand of that record
   pub shards_long : length w.desk.books.shards ≡ length (world_table w)
   shards_long = omega (
     arith,
@@ -328,7 +328,7 @@ module _ {Q : Type 0} (w : WorldState Q) (sound : IsSound w) where
         here = rw freed refl;
       })
 
--- an admission that ends at once: nothing is in hand before it and after
+-- an admission that ends at once: nothing is in hand before it or after it
 module _ {Q : Type 0} (w : WorldState Q) (sound : IsSound w) where
   pub sound_admit_done : (server shard : ℕ) (ending : Ending Q) → shard < count_of w → IsServer server
       → admit_fault w.frame.ceiling (world_record w shard) server Direct ≡ None

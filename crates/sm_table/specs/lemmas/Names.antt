@@ -17,7 +17,8 @@ known_of : (known : Bool) → not known ≡ false → known ≡ true
 known_of true is = refl
 known_of false is = absurd cc
 
--- a change of a stand that names known servers leads to such a one, where the server that it newly names is known
+-- a change of a stand that names known servers leads to a stand that names known servers, if the server that it newly
+-- names is known
 pub names_after : (servers : List ServerRow) (stand : Stand) (change : Change) → AllNamed (IsThere servers) stand
     → is_unknown servers (newly_named change) ≡ false
     → AllNamed (IsThere servers) (unwrap_or (stand_after stand change) stand)
@@ -41,7 +42,7 @@ known_where : (servers : List ServerRow) (here : Bool) (other to : ℕ) → is_k
 known_where servers true other to known is = cc
 known_where servers false other to known is = absurd cc
 
--- a server forwards to one that is known
+-- a server forwards to a server that is known
 pub known_forward : (servers : List ServerRow) (stand : Stand) (server to : ℕ) → AllNamed (IsThere servers) stand
     → forward_at stand server ≡ Some to → is_known servers to ≡ true
 known_forward servers (Forwarding owner next) server to named is =

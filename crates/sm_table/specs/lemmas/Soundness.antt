@@ -92,7 +92,7 @@ servers_after start [] = refl
 servers_after start (command ∷ earlier) =
     servers_commanded (desk_after start earlier) command ∙ servers_after start earlier
 
--- what is known is a server
+-- a known number is a server
 known_server : {Q : Type 0} (w : WorldState Q) (server : ℕ) → IsSound w → is_there w server ≡ true → IsServer server
 known_server w server sound known =
     let servers = w.desk.books.servers in
@@ -111,7 +111,7 @@ neither : {X : Type 0} (first second : Option X) → option_or first second ≡ 
 neither None second none = (refl, none)
 neither (Some x) second none = absurd cc
 
--- a world stays sound with other envelopes in flight, for shards that are there and to servers that are
+-- a world stays sound with other envelopes in flight, for shards that are there and to servers that are there
 sound_flights : {Q : Type 0} (w : WorldState Q) (in_flight : List (Flight Q)) → IsSound w
     → All (IsFlight (count_of w) w.desk.books.servers) in_flight → IsSound (record w { in_flight = in_flight })
 sound_flights w in_flight sound flights = record {
@@ -166,7 +166,7 @@ sound_taken {Q = Q} w place sound = sound_flights w (remove w.in_flight place) s
     IsGoing : Flight Q → Type 0
     IsGoing = IsFlight (count_of w) w.desk.books.servers
 
--- what each step leaves
+-- the world after each step
 module _ {Q : Type 0} (R : Type 0) (w : WorldState Q) (sound : IsSound w) where
   abbrev LeavesSound : StepOutcome Q R → Type 0
   LeavesSound outcome = IsSound outcome.1
@@ -212,7 +212,7 @@ module _ {Q : Type 0} (R : Type 0) (w : WorldState Q) (sound : IsSound w) where
   sound_reached to envelope None within is none =
       sound_admit w sound to envelope.shard envelope.mode _ within is refl none
 
-  -- an envelope goes on to a server that is known
+  -- an envelope is forwarded to a server that is known
   sound_hopped : (from to : ℕ) (envelope : EnvelopeView Q (Unit {0})) → envelope.shard < count_of w
       → is_there w to ≡ true → LeavesSound (hopped w (after_hop w.desk w.in_flight (sent_on envelope from (Some to))))
   sound_hopped from to envelope within known = cond_both (nat_lt envelope.hops MOST_HOPS) _ _

@@ -21,7 +21,7 @@ use Rattle.sm_table.specs.declared.world_fault.WorldFault.TheVariants.{WrongPhas
 use Rattle.sm_table.specs.World.{WorldState, Mark, StepOutcome, arrived, count_of, ended, finished, with_change}
 use Rattle.sm_table.specs.World.{without_flight, world_record}
 
--- a command, which this fault forbids
+-- a command, unless this fault forbids it
 abbrev pub controlled : {Q R : Type 0} → WorldState Q → Command → Option CommandFault → StepOutcome Q R
 controlled w command fault = option_map_or (λ (why : CommandFault). (Err (CommandRefused why), w)) fault
     (Ok Made, record (with_change w command) { desk = commanded w.desk command })
@@ -53,7 +53,7 @@ abbrev pub served : {Q R : Type 0} → Meaning Q R → WorldState Q → Mark →
 served {Q} service w mark shard hand =
     option_map_or (λ (one : InHand Q). worked service w mark shard one.server one.work) hand (Err NotHeld, w)
 
--- what an admission makes, or its fault and nothing
+-- the world after an admission, or only its fault
 abbrev pub made_unless : {Q R : Type 0} → Option AdmitFault → WorldState Q → WorldState Q → StepOutcome Q R
 made_unless fault w made = option_map_or (λ (why : AdmitFault). (Err (AdmitRefused why), w)) fault (Ok Made, made)
 
@@ -62,7 +62,7 @@ abbrev pub let_go : {Q R : Type 0} → WorldState Q → ℕ → ℕ → Option (
 let_go {Q} w shard server work = option_map_or (λ (one : Work Q). (Err NotHeld, w)) work
     (Ok Made, ended w shard server Nothing)
 
--- the end of what holds a shard, if anything does
+-- the end of an admission that holds a shard, if there is one
 abbrev pub freed : {Q R : Type 0} → WorldState Q → ℕ → Option (InHand Q) → StepOutcome Q R
 freed {Q} w shard hand = option_map_or (λ (one : InHand Q). let_go w shard one.server one.work) hand (Err NotHeld, w)
 

@@ -10,7 +10,7 @@ use Rattle.sm_table.specs.lemmas.Soundness.{sound_world}
 use Rattle.sm_table.proofs.Extensions.{extends_after}
 use Rattle.sm_table.proofs.laws.caps_and_room_hold.Goals as goal
 
--- what commands that aren't refused keep
+-- the caps and the room, which commands keep if they aren't refused
 record AreKept (allowed : RestartCaps) (books : BooksView) : Type 0 where
   sound : AreSound books
   caps : MeetsCaps allowed books

@@ -1,4 +1,4 @@
--- `empty` makes what owns nothing.
+-- `empty` makes the owner of nothing.
 use Rattle.sm_kept.proofs.OwnerEmpty.{empty_meets}
 use Rattle.sm_handle.proofs.AsOwner.{O}
 use Rattle.sm_handle.specs.contracts.owned.Owned.empty.Key.{name as #self}

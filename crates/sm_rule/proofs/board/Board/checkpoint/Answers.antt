@@ -5,7 +5,7 @@ use Rattle.sm_rule.specs.Views.{all_held, first_held, list_held}
 use Rattle.sm_rule.specs.lemmas.Resting.{all_based, ends_based, lent_rests, rests_same}
 use Rattle.sm_rule.proofs.board.Board.checkpoint.Goals as goal
 
--- the body is the checkpoint of what it kept, or is as it was
+-- the body is the checkpoint of its kept requests, or is as it was
 pub finish-front-requires-clause-body : goal.finish-front-requires-clause-body
 finish-front-requires-clause-body g c = λ _ _. (
   checkpoint_ending (list_held c.args.pass.now.held),

@@ -5,7 +5,7 @@ use Rattle.sm_rule.specs.Views.{all_held, first_held}
 use Rattle.sm_rule.specs.lemmas.Resting.{ends_applied, lent_rests, rests_same, state_after}
 use Rattle.sm_rule.proofs.board.Board.execute.Goals as goal
 
--- the body rested on what it did at the admission, and then on the request too, or still on that
+-- the body rested on its requests at the admission, and now also on the new request, or still only on those
 pub finish-front-requires-clause-body : goal.finish-front-requires-clause-body
 finish-front-requires-clause-body g c = λ _ _. (
   Requested c.args.request,

@@ -2,7 +2,7 @@ use Rattle.std.proofs.Common.{◌≡◌, [], ◌++◌, All, length, map, replica
 use Rattle.sm_table.specs.Bodies.{no_past}
 use Rattle.sm_table.proofs.bodies.Bodies.new.Given as goal
 
--- those that are traced, and those that are left
+-- the bodies that are traced, and the bodies that are left
 abbrev pub invariant-loop-body : goal.invariant-loop-body
 invariant-loop-body g l = record {
   pasts : map (λ run. run.past) l.traced.items
