@@ -4,4 +4,5 @@ pub mod Passes
 pub mod Replies
 pub mod Since
 pub mod Telling
+pub mod Ways
 pub mod lemmas

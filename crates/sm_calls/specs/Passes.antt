@@ -6,8 +6,8 @@ use Rattle.sm_rule.specs.Boards.{BoardValue}
 use Rattle.sm_rule.specs.Passes.{HasLegalFront, PassValue}
 use Rattle.sm_rule.specs.Views.{Begins}
 
--- a new pass of the board and the server, which holds nothing: it has seen a legal history that extends what it was
--- told, in which it has no entry
+-- a new pass of the board and the server, which holds nothing: it has seen a legal history that extends the one that it
+-- was told, in which it has no entry
 pub record IsNewPass {Q : Type 0} (board : BoardValue) (server : ℕ) (told : List (Entry Q))
     (pass : PassValue Q) : Type 0 where
   pub board_is : pass.board ≡ board

@@ -18,7 +18,7 @@ pub enum CallFault {
     /// Memory for the way was refused.
     #[error("out of memory")]
     NoMemory,
-    /// The message was let go with no reply, as where its server was stopped.
+    /// The message was dropped without a reply, for instance because its server was stopped.
     #[error("no reply will come")]
     Closed,
 }
@@ -36,7 +36,7 @@ impl From<SendFault> for CallFault {
     }
 }
 
-/// A call that was not answered, and its request, but where the message was let go.
+/// A call that was not answered, and its request, unless the message was dropped.
 #[derive(Drop, Error)]
 #[error("{fault}")]
 pub struct CallRefused<Q: Drop> {

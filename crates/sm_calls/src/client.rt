@@ -56,7 +56,7 @@ impl<S: Service> Model for Client<S> {
 }
 
 impl<S: Service> Client<S> {
-    /// A client that has seen what the board has at some moment, and no route.
+    /// Makes a client that has seen the board's history up to some moment, and no route.
     pub fn new(
         ground: Arc<Ground<S>>,
         network: Arc<Network<Message<S>>>,
@@ -75,10 +75,11 @@ impl<S: Service> Client<S> {
         }
     }
 
-    /// Has a server answer the request: the one of the route that the client's router gives of the key. The answer's
-    /// history extends all that the client had seen. A request that was not answered comes back, but after `Closed`.
-    /// `NoRoute` comes only where the router gives no route, and `Refused` where a server's step on an envelope of this
-    /// call gave that reason; the client then has seen the record by which it did.
+    /// Sends the request to the server in the route that the client's router has for the key. That server answers it,
+    /// or one to which it is forwarded. The answer's history extends everything that the client had seen. A request
+    /// that was not answered comes back, except after `Closed`. `NoRoute` comes only if the router has no route.
+    /// `Refused` comes only if a step of such a server on an envelope of this call gave that reason; the client then
+    /// has seen the record by which the server refused.
     pub fn call<R: Wait>(
         &mut self,
         rt: &R,
@@ -100,10 +101,10 @@ impl<S: Service> Client<S> {
         self.call_shard_at(rt, alloc, route.server, number, k, request)
     }
 
-    /// Has this server answer the request, or one that it forwards it to. The answer's history extends all that the
-    /// client had seen. A request that was not answered comes back, but after `Closed`. `NoRoute` never comes, and
-    /// `Refused` only where a server's step on an envelope of this call gave that reason; the client then has seen the
-    /// record by which it did.
+    /// Sends the request to this server, which answers it, or forwards it to a server that does. The answer's history
+    /// extends everything that the client had seen. A request that was not answered comes back, except after `Closed`.
+    /// `NoRoute` never comes. `Refused` comes only if a step of such a server on an envelope of this call gave that
+    /// reason; the client then has seen the record by which the server refused.
     pub fn call_at<R: Wait>(
         &mut self,
         rt: &R,
@@ -113,14 +114,14 @@ impl<S: Service> Client<S> {
         request: S::Request,
     ) -> Result<Answer<S>, CallRefused<S::Request>>
         ensures called { CalledAt
-            (meaning_of S.initial S.next S.answer S.key_of) self.old number request result self.new }
+            (meaning_of S.initial S.next S.answer S.key_of) self.old server number request result self.new }
         ensures since { IsClientSince self.old self.new }
     {
         let k = self.shard_of(&request);
         self.call_shard_at(rt, alloc, server, number, k, request)
     }
 
-    /// The shard whose range covers the request's key.
+    /// Returns the shard whose range covers the request's key.
     pub fn shard_of(&self, request: &S::Request) -> ShardId
         ensures within { result < length self.now.bounds }
         ensures value { result ≡ shard_of self.now.bounds (S.key_of request.now) }
@@ -128,7 +129,7 @@ impl<S: Service> Client<S> {
         self.ground.layout.shard_of(S::key(request))
     }
 
-    /// `call_at`, for who has found the shard of the request's key.
+    /// Does the same as `call_at`, if the caller has found the shard of the request's key.
     pub fn call_shard_at<R: Wait>(
         &mut self,
         rt: &R,
@@ -141,12 +142,12 @@ impl<S: Service> Client<S> {
         requires within { k < length self.old.bounds }
         requires shard { k ≡ shard_of self.old.bounds (S.key_of request) }
         ensures called { CalledAt
-            (meaning_of S.initial S.next S.answer S.key_of) self.old number request result self.new }
+            (meaning_of S.initial S.next S.answer S.key_of) self.old server number request result self.new }
         ensures since { IsClientSince self.old self.new }
     {
-        match self.message(alloc, number, k, request) {
+        match self.message(alloc, server, number, k, request) {
             Ok((message, receiver)) => {
-                let reply = exchange(rt, &*self.network, server, message, receiver);
+                let reply = exchange(rt, &*self.network, message, receiver);
                 self.taken(reply)
             }
             Err(request) => Err(CallRefused {
@@ -156,11 +157,12 @@ impl<S: Service> Client<S> {
         }
     }
 
-    // The message of a new call for the key's shard, and the end on which its reply is received. The request comes back
-    // where memory is refused.
+    // Returns the message of a new call at the server for the key's shard, and the receiver of its reply. If memory is
+    // refused, the request comes back.
     fn message(
         &mut self,
         alloc: Global,
+        server: ServerId,
         number: u64,
         k: ShardId,
         request: S::Request,
@@ -168,7 +170,8 @@ impl<S: Service> Client<S> {
         requires within { k < length self.old.bounds }
         requires shard { k ≡ shard_of self.old.bounds (S.key_of request) }
         ensures message { IfOk result
-            (λ made. IsCallOf (meaning_of S.initial S.next S.answer S.key_of) self.old number request made.0) }
+            (λ made. IsCallOf (meaning_of S.initial S.next S.answer S.key_of) self.old server number request
+            made.0) }
         ensures receiver { IfOk result (λ made. made.1 ≡ Some made.0) }
         ensures back { IfErr result (λ back. back ≡ request) }
         ensures unchanged { self.new ≡ self.old }
@@ -178,13 +181,15 @@ impl<S: Service> Client<S> {
         };
         let note = ground.board.note(&mut self.pass);
         let envelope = Envelope::new(number, k, request, note);
-        match reply_channel::<S>(alloc, &ground.layout, &envelope) {
-            Ok((sender, receiver)) => Ok((Message::new(ground, envelope, sender), receiver)),
+        match reply_channel::<S>(alloc, &ground.layout, server, &envelope) {
+            Ok((sender, receiver)) => {
+                Ok((Message::new(ground, server, envelope, sender), receiver))
+            }
             Err(_) => Err(request_of(envelope)),
         }
     }
 
-    // What the client makes of the reply to its call; there is none where the message was let go.
+    // Returns the client's result from the reply to its call. If the message was dropped, there is no reply.
     fn taken(
         &mut self,
         reply: Result<ReplyOf<S, S::Request>, RecvError>,
@@ -209,7 +214,7 @@ impl<S: Service> Client<S> {
         }
     }
 
-    // The request of an envelope that came back. Where a server refused it, the client learns what its note tells.
+    // Returns the request of an envelope that came back. If a server refused it, the client meets its note.
     fn taken_back(
         &mut self,
         fault: &CallFault,
@@ -232,7 +237,7 @@ impl<S: Service> Client<S> {
         }
     }
 
-    /// The shard's record after all that the client then has seen.
+    /// Returns the shard's record after all that the client then has seen.
     pub fn look(&mut self, k: ShardId) -> Record
         requires { k < self.old.pass.board.limits.count }
         ensures { HasLooked self.old k result self.new }
@@ -240,22 +245,22 @@ impl<S: Service> Client<S> {
         self.ground.board.look(&mut self.pass, k)
     }
 
-    /// The route of the key's shard that was published last of those that the client's router has then seen, or none
-    /// where it has seen none, or the read is refused.
+    /// Returns the latest published route of the key's shard among those that the client's router has then seen.
+    /// Returns nothing if it has seen none, or if the read is refused.
     pub fn route(&mut self, key: &[u8]) -> Option<Route>
         ensures { HasReadRoute self.old (shard_of self.old.bounds key.now) result self.new }
     {
         self.router.route(&self.ground.layout, key)
     }
 
-    // `route`, for who has found the key's shard.
+    // Does the same as `route`, if the caller has found the key's shard.
     fn shard_route(&mut self, k: ShardId) -> Option<Route>
         ensures { HasReadRoute self.old k result self.new }
     {
         self.router.shard_route(k)
     }
 
-    /// Learns an answer: the client then has seen the history that the answer's note tells.
+    /// Learns an answer: the client then has seen the history of the answer's note.
     pub fn learn(&mut self, answer: Answer<S>) -> Told<S::Reply>
         requires { answer.note.board ≡ self.old.pass.board }
         ensures told { result ≡ record {
@@ -279,7 +284,7 @@ impl<S: Service> Client<S> {
         }
     }
 
-    /// Tells the client what a note tells.
+    /// Makes the client meet a note.
     pub fn hear(&mut self, note: Note<S>)
         requires { note.board ≡ self.old.pass.board }
         ensures { HasHeard self.old note self.new }
@@ -292,7 +297,7 @@ impl<S: Service> Client<S> {
         self.network.counters.count_retry();
     }
 
-    /// The client's pass, as where the cluster stops.
+    /// Returns the client's pass, for instance when the cluster stops.
     pub fn into_pass(self) -> Pass<S>
         ensures pass { result ≡ self.pass }
         ensures free { result.held ≡ None }
@@ -301,18 +306,17 @@ impl<S: Service> Client<S> {
     }
 }
 
-// Sends the message of a new call to the server, and waits for the reply.
+// Sends the message of a new call to its server, and waits for the reply.
 fn exchange<S: Service, R: Wait>(
     rt: &R,
     network: &Network<Message<S>>,
-    server: ServerId,
     message: Message<S>,
     receiver: ReplyReceiver<S>,
 ) -> Result<ReplyOf<S, S::Request>, RecvError>
     requires { receiver ≡ Some message }
     ensures { IfOk result (Fits (meaning_of S.initial S.next S.answer S.key_of) (Some message)) }
 {
-    match network.send(rt, server, message) {
+    match network.send(rt, message.server(), message) {
         Ok(()) => receiver.receive(rt),
         Err(unsent) => Ok(CallReply::Refused(
             CallFault::from(unsent.fault),

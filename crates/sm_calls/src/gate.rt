@@ -1,13 +1,13 @@
 use sm_ranges::server_id::ServerId;
 use std::sync::Wait;
 
-/// What a worker passes before it serves a request. It may wait there.
+/// A gate that a worker passes before it serves a request. It may wait there.
 pub trait Gate {
     /// Lets the worker of this server through with the request of this number.
     fn pass<R: Wait>(&self, rt: &R, server: ServerId, number: u64);
 }
 
-/// The gate that holds nobody.
+/// A gate that stops nobody.
 #[derive(Clone, Copy, Drop)]
 pub struct Open;
 

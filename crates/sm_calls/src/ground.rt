@@ -1,4 +1,4 @@
-//! What the clients of a cluster and its messages share.
+//! The common ground of a cluster's clients and its messages.
 ghost use Rattle.std.specs.Prelude.{◌≡◌};
 ghost use Rattle.sm_calls.specs.Passes.{IsNewPass};
 
@@ -17,7 +17,7 @@ pub struct Ground<S: Service> {
 }
 
 impl<S: Service> Ground<S> {
-    /// A new pass of the server, which has seen all that the note had.
+    /// Returns a new pass of the server, which has seen everything that the note had seen.
     pub fn pass_told(&self, server: ServerId, note: Note<S>) -> Pass<S>
         requires { note.board ≡ self.now.board }
         ensures { IsNewPass self.now.board server note.seen result }

@@ -1,5 +1,5 @@
 //! The ways to the servers' inboxes.
-ghost use Rattle.std.specs.Prelude.{◌≡◌, IfErr};
+ghost use Rattle.std.specs.Prelude.{◌≡◌, IfErr, IfOk, map};
 
 use sm_counts::counters::Counters;
 use sm_counts::counts::ServerCounts;
@@ -10,25 +10,28 @@ use sm_rows::ServerRow;
 use std::alloc::{AllocError, Global};
 use std::sync::{Arc, Wait};
 
-/// The doors of all servers, and what is counted. Clients and workers share it.
+/// The doors of all servers, and the counters. Clients and workers share them.
 #[derive(Drop)]
 pub struct Network<M: Drop> {
-    // By rising numbers, each with its door at the same place.
+    // The servers by ascending numbers, each with its door at the same place.
     servers: Vec<ServerId>,
     doors: Vec<Door<M>>,
-    /// What is counted.
+    /// The counters.
     pub counters: Counters,
 }
 
-/// The doors of these servers, all open, and their inboxes, each with room for as many parcels as its server has
-/// workers, and counters for so many shards. The rows stand by rising numbers.
+/// Makes the doors of these servers, all open, and their inboxes, each with room for as many parcels as its server has
+/// workers; and counters for so many shards. The rows must have ascending numbers.
 pub fn network_of<M: Drop, R: Wait>(
     rt: &R,
     alloc: Global,
     rows: &[ServerRow],
     shards: usize,
     workers: u32,
-) -> Result<(Arc<Network<M>>, Vec<Inbox<M>>), AllocError> {
+) -> Result<(Arc<Network<M>>, Vec<Inbox<M>>), AllocError>
+    ensures { IfOk result
+        (λ made. map (λ inbox. inbox.server) made.1.items ≡ map (λ row. row.id) rows.now) }
+{
     let counters = Counters::new(alloc, rows.len(), shards)?;
     let mut network = Network {
         servers: Vec::new(alloc),
@@ -47,7 +50,10 @@ impl<M: Drop> Network<M> {
         alloc: Global,
         rows: &[ServerRow],
         workers: u32,
-    ) -> Result<Vec<Inbox<M>>, AllocError> {
+    ) -> Result<Vec<Inbox<M>>, AllocError>
+        ensures { IfOk result
+            (λ inboxes. map (λ inbox. inbox.server) inboxes.items ≡ map (λ row. row.id) rows.now) }
+    {
         let mut inboxes = Vec::new(alloc);
         for row in rows {
             let (door, inbox) = inbox_of(rt, alloc, row.id, workers)?;
@@ -58,8 +64,8 @@ impl<M: Drop> Network<M> {
         Ok(inboxes)
     }
 
-    /// Puts the message into the server's inbox, or gives it back: `Unreachable` where the door is shut, `NoMemory`
-    /// where memory was refused.
+    /// Puts the message into the server's inbox, or gives it back: with `Unreachable` if the door is shut, and with
+    /// `NoMemory` if memory was refused.
     pub(crate) fn send<R: Wait>(&self, rt: &R, to: ServerId, message: M) -> Result<(), Unsent<M>>
         ensures { IfErr result (λ unsent. unsent.message ≡ message) }
     {
@@ -72,7 +78,7 @@ impl<M: Drop> Network<M> {
         }
     }
 
-    /// Opens or shuts the server's door, where one is named.
+    /// Opens or shuts the server's door, if one is named.
     pub fn set_door(&self, door: Option<(ServerId, bool)>) {
         let Some((server, is_open)) = door else {
             return;
@@ -96,7 +102,7 @@ impl<M: Drop> Network<M> {
         }
     }
 
-    /// The tally of the server.
+    /// Returns the tally of the server.
     pub(crate) fn tally(&self, server: ServerId) -> Option<&Tally> {
         match self.servers.binary_search(&server) {
             Ok(at) => self.counters.tally(at),
@@ -104,12 +110,12 @@ impl<M: Drop> Network<M> {
         }
     }
 
-    /// What was counted of each server.
+    /// Returns the counts of each server.
     pub fn server_counts(&self, alloc: Global) -> Result<Vec<ServerCounts>, AllocError> {
         self.counters.servers(alloc, &self.servers)
     }
 
-    // The server's door, where it is open. What finds it shut is counted.
+    // Returns the server's door, if it is open. A message that finds it shut is counted.
     fn open_door(&self, server: ServerId) -> Option<&Door<M>> {
         let door = self.door(server)?;
         if door.is_open() {

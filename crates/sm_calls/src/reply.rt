@@ -13,13 +13,14 @@ use sm_body::service::Service;
 use sm_envelope::envelope::Envelope;
 use sm_inbox::{LOOKS, pause};
 use sm_ranges::layout::Layout;
+use sm_ranges::server_id::ServerId;
 use sm_rule::note::Note;
 use sm_server::Answer;
 use std::alloc::{AllocError, Global};
 use std::marker::{Brand, Model, PhantomData};
 use std::sync::Wait;
 
-/// What a client is told of its call: the answer, or why its envelope comes back.
+/// The reply to a client's call: the answer, or why its envelope comes back.
 #[derive(Drop)]
 pub(crate) enum CallReply<A: Drop, E: Drop> {
     Answered(A),
@@ -28,10 +29,10 @@ pub(crate) enum CallReply<A: Drop, E: Drop> {
 
 pub(crate) type ReplyOf<S, Q> = CallReply<Answer<S>, Envelope<Q, Note<S>>>;
 
-/// A reply as it crosses its channel. Contracts see the reply alone.
+/// A reply on its channel. Contracts see only the reply.
 ///
-/// It names the service and no other type: a channel names what crosses it in many of its own types, and that of
-/// `ReplyOf` is made of more types than the borrow checker covers where the service is an instance of a generic type.
+/// It names only the service type. A channel uses its element's type in many of its own types, and the type of
+/// `ReplyOf` is made from more types than the borrow checker handles if the service is an instance of a generic type.
 #[derive(Drop)]
 struct CrossingReply<S: Service> {
     reply: ReplyOf<S, S::Request>,
@@ -55,7 +56,7 @@ impl<S: Service> CrossingReply<S> {
     }
 }
 
-/// What a pass of a reply's channel knows: the call, once it was sent. No value of it is made.
+/// The knowledge of a pass of a reply's channel: the call, once it was sent. No value of this type is made.
 pub(crate) struct Asked<Q> {
     request: PhantomData<Q>,
 }
@@ -66,7 +67,7 @@ impl<Q> Model for Asked<Q> {
     ghost view = { λ _. None };
 }
 
-/// The rule of a reply's channel: what it holds are replies to the one call that all its passes know.
+/// The rule of a reply's channel: it contains replies to the one call that all its passes know.
 pub(crate) struct ReplyRule<S> {
     service: PhantomData<S>,
 }
@@ -152,7 +153,7 @@ impl<S: Service> Model for ReplyReceiver<S> {
 }
 
 impl<S: Service> ReplySender<S> {
-    /// Sends the reply. It is lost where the caller is gone.
+    /// Sends the reply. If the caller is gone, the reply is lost.
     pub(crate) fn send<R: Wait>(self, rt: &R, reply: ReplyOf<S, S::Request>)
         requires { Fits (meaning_of S.initial S.next S.answer S.key_of) self reply }
     {
@@ -188,15 +189,18 @@ impl<S: Service> ReplyReceiver<S> {
     }
 }
 
-// The two ends of a channel whose passes know the call that `J` tells.
+// Returns the two ends of a channel whose passes know the call in `J`.
 fn channel_as<S: Service, J: Asking<S::Request>>(
     alloc: Global,
     _layout: &Layout,
+    _server: ServerId,
     _envelope: &Envelope<S::Request, Note<S>>,
 ) -> Result<(ReplySender<S>, ReplyReceiver<S>), AllocError>
-    requires { J.asked ≡ Some (record { bounds = _layout.now; sent = _envelope.now }) }
-    ensures sender { IfOk result (λ ends. ends.0 ≡ Some (record { bounds = _layout.now; sent = _envelope.now })) }
-    ensures receiver { IfOk result (λ ends. ends.1 ≡ Some (record { bounds = _layout.now; sent = _envelope.now })) }
+    requires { J.asked ≡ Some (record { bounds = _layout.now; server = _server; sent = _envelope.now }) }
+    ensures sender { IfOk result (λ ends. ends.0
+        ≡ Some (record { bounds = _layout.now; server = _server; sent = _envelope.now })) }
+    ensures receiver { IfOk result (λ ends. ends.1
+        ≡ Some (record { bounds = _layout.now; server = _server; sent = _envelope.now })) }
 {
     let (sender, receiver, mut pass) = bounded_with::<
         CrossingReply<S>,
@@ -214,14 +218,18 @@ fn channel_as<S: Service, J: Asking<S::Request>>(
     ))
 }
 
-/// The two ends of a new channel for the reply to the call of this envelope, which is served by this layout.
+/// Returns the two ends of a new channel for the reply to the call of this envelope at the server, which is served by
+/// this layout.
 pub(crate) fn reply_channel<S: Service>(
     alloc: Global,
     layout: &Layout,
+    server: ServerId,
     envelope: &Envelope<S::Request, Note<S>>,
 ) -> Result<(ReplySender<S>, ReplyReceiver<S>), AllocError>
-    ensures sender { IfOk result (λ ends. ends.0 ≡ Some (record { bounds = layout.now; sent = envelope.now })) }
-    ensures receiver { IfOk result (λ ends. ends.1 ≡ Some (record { bounds = layout.now; sent = envelope.now })) }
+    ensures sender { IfOk result (λ ends. ends.0
+        ≡ Some (record { bounds = layout.now; server = server; sent = envelope.now })) }
+    ensures receiver { IfOk result (λ ends. ends.1
+        ≡ Some (record { bounds = layout.now; server = server; sent = envelope.now })) }
 {
-    channel_as::<S, Brand>(alloc, layout, envelope)
+    channel_as::<S, Brand>(alloc, layout, server, envelope)
 }

@@ -1,6 +1,6 @@
 use sm_ranges::server_id::ServerId;
 
-/// What a client learned of an answer.
+/// The result of an answer that a client has learned.
 #[derive(Clone, Copy, PartialEq, Eq, Drop)]
 pub struct Told<R> {
     /// The number of the call.

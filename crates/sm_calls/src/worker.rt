@@ -1,4 +1,4 @@
-//! A worker serves what comes into its inbox.
+//! A worker serves the messages in its inbox.
 use crate::gate::Gate;
 use crate::message::Message;
 use crate::network::Network;
@@ -6,7 +6,7 @@ use sm_body::service::Service;
 use sm_inbox::{Inbox, Parcel};
 use std::sync::Wait;
 
-/// Serves what comes, until it is told to stop.
+/// Serves messages until it is told to stop.
 pub fn work<S: Service, G: Gate, R: Wait>(
     rt: &R,
     inbox: &Inbox<Message<S>>,
@@ -19,7 +19,7 @@ pub fn work<S: Service, G: Gate, R: Wait>(
         match inbox.next(rt) {
             Ok(Parcel::Serve(message)) => {
                 gate.pass(rt, server, message.number());
-                message.serve(rt, network, server, tally);
+                message.serve(rt, network, tally);
             }
             Ok(Parcel::Stop) => return,
             Err(_) => return,

@@ -1,17 +1,17 @@
-//! What a cluster counted, as a table on standard error.
+//! A cluster's counts, as a table on standard error.
 use sm_cluster::{Counts, Fate, ServerCounts};
 use sm_threads::CountsListener;
 use std::io;
 use std::io::Eprint;
 
-/// A listener that writes what it hears to standard error, as a table. A failure to write there changes nothing.
+/// A listener that writes its events to standard error, as a table. If writing fails, nothing else changes.
 #[derive(Drop)]
 pub struct CountsTable<'a, R> {
     rt: &'a R,
 }
 
 impl<'a, R> CountsTable<'a, R> {
-    /// A listener that writes to the standard error of `rt`.
+    /// Returns a listener that writes to the standard error of `rt`.
     pub fn new(rt: &'a R) -> CountsTable<'a, R> {
         CountsTable { rt }
     }
@@ -23,7 +23,7 @@ impl<'a, R: Eprint> CountsListener for CountsTable<'a, R> {
     }
 }
 
-/// A row for each server, and one for each shard to which anything happened.
+/// Returns a row for each server, and one for each shard to which anything happened.
 fn write_table<R: Eprint>(rt: &R, counts: &Counts) -> io::Result<()> {
     eprintln!(rt; "server  answered  forwarded  refused")?;
     for row in &counts.servers {

@@ -1,13 +1,13 @@
 use sm_script::{Form, Shape, Topic, forms};
 use std::alloc::{AllocError, Global};
 
-/// What stands before the lines in the help of scripts.
+/// The text before the lines in the help on scripts.
 const HEAD: &str = "\
 The script comes on standard input: a line of settings, and then a command a line.
 K is a shard's number, and A and B are servers' numbers. Each line stands with an example.
 ";
 
-/// What stands behind them.
+/// The text behind them.
 const TAIL: &str = "
 Each command has one answer line. An empty line and a line that begins with # have none.
 
@@ -29,7 +29,7 @@ answers
 
 docs/SCRIPT.md of the repository has all settings, commands and answers.";
 
-/// The headings under which the lines stand, in their order.
+/// The headings of the lines, in their order.
 const TOPICS: [(Topic, &str); 6] = [
     (Topic::Migrations, "Migrations"),
     (Topic::Requests, "Requests"),
@@ -50,7 +50,7 @@ fn push_all(text: &mut String, pieces: &[&str]) -> Result<(), AllocError> {
     Ok(())
 }
 
-/// How the docs name what a word has to be.
+/// Returns the name in the docs for a word of this shape.
 fn name_of(shape: Shape) -> &'static str {
     match shape {
         Shape::Shard => "shard",
@@ -64,7 +64,7 @@ fn name_of(shape: Shape) -> &'static str {
     }
 }
 
-/// Appends a line of the help: how a line is written, what it does, and an example.
+/// Appends a line of the help: a line's form, its effect, and an example.
 fn push_help(text: &mut String, form: &Form) -> Result<(), AllocError> {
     push_all(text, &["  ", form.name, " ", form.arguments])?;
     for _ in form.name.len().saturating_add(form.arguments.len())..WIDTH {
@@ -73,7 +73,7 @@ fn push_help(text: &mut String, form: &Form) -> Result<(), AllocError> {
     push_all(text, &[" ", form.help, " (", form.example, ")\n"])
 }
 
-/// Appends the names of what the words behind a line's first one have to be.
+/// Appends the names of the shapes of the words behind a line's first one.
 fn push_shapes(text: &mut String, shapes: &[Shape]) -> Result<(), AllocError> {
     let mut between = "";
     for shape in shapes {
@@ -111,7 +111,7 @@ fn push_rows_of(text: &mut String, topic: Topic) -> Result<(), AllocError> {
     Ok(())
 }
 
-/// The help on scripts.
+/// Returns the help on scripts.
 pub fn script_help(alloc: Global) -> Result<String, AllocError> {
     let mut text = String::new(alloc);
     text.push_str(HEAD)?;
@@ -123,7 +123,7 @@ pub fn script_help(alloc: Global) -> Result<String, AllocError> {
     Ok(text)
 }
 
-/// The tables of all lines, as docs/SCRIPT.md has them.
+/// Returns the tables of all lines, as docs/SCRIPT.md has them.
 pub fn line_tables(alloc: Global) -> Result<String, AllocError> {
     let mut text = String::new(alloc);
     for (topic, heading) in TOPICS {

@@ -15,9 +15,9 @@ use crate::help::{line_tables, script_help};
 use clap::error::ErrorKind;
 use clap::{Arg, ArgAction, ArgMatches, Command};
 use sm_cluster::Open;
-use sm_explain::{Beginning, Console, Explained};
-use sm_lines::{Dialogue, RunFault, Status, run};
-use sm_model::{ModelEngine, run_model};
+use sm_explain::{Beginning, Console};
+use sm_lines::{Dialogue, RunFault, Status};
+use sm_model::{run_model, run_model_explained};
 use sm_threads::{run_threads, run_threads_explained};
 use std::alloc::Global;
 use std::io::{Read, Write};
@@ -27,16 +27,16 @@ use std::sync::Wait;
 use std::thread::Threads;
 use std::{env, io};
 
-/// What `--version` prints after the program's name: the line of the file VERSION.
+/// The text that `--version` prints after the program's name: the line of the file VERSION.
 const VERSION: &str = "0.1.0";
 
-/// The exit status where the command line isn't accepted, also where that can't be told.
+/// The exit status if the command line isn't accepted, even if that can't be told.
 const REFUSED: u8 = 2;
 
 /// The exit status of an explained run in which a line was answered by `error`.
 const WITH_ERRORS: u8 = 3;
 
-/// What runs the script.
+/// The engine that runs the script.
 #[derive(Clone, Copy, PartialEq, Eq, Drop)]
 enum Runner {
     /// The model, on one thread.
@@ -45,30 +45,31 @@ enum Runner {
     Threads,
 }
 
-/// What the command line asks for: a script on this runner, and whether sentences about lines that are refused go to
-/// standard error.
+/// The request of the command line: a script on this runner, and whether sentences about refused lines go to standard
+/// error.
 #[derive(Clone, Copy, Drop)]
 struct Choice {
     runner: Runner,
     explains: bool,
 }
 
-/// What the program is to do.
+/// The task of the program.
 #[derive(Clone, Copy, Drop)]
 enum Task {
-    /// To run the script of standard input.
+    /// To run the script on standard input.
     Run(Choice),
-    /// To print how the lines of scripts are written.
+    /// To print the forms of scripts' lines.
     Lines,
 }
 
-/// The words of the command line, the program's name first; an error is a word that is not UTF-8, or want of memory.
+/// Returns the words of the command line, the program's name first; an error is a word that is not UTF-8, or want of
+/// memory.
 fn command_line(rt: &HostRuntime) -> io::Result<Vec<String>> {
     let words = env::args(rt)?.collect(rt.alloc())?;
     Ok(words)
 }
 
-/// A subcommand that runs the script of standard input.
+/// Returns a subcommand that runs the script of standard input.
 fn runner_command<'a>(
     alloc: Global,
     name: &'a str,
@@ -89,7 +90,7 @@ fn runner_command<'a>(
     )
 }
 
-/// Whether the subcommand of this name explains, where it was chosen.
+/// Returns whether the subcommand with this name explains, if it was chosen.
 fn explains(matches: &ArgMatches, name: &str) -> Option<bool> {
     match matches.subcommand_matches(name) {
         Some(chosen) => Some(chosen.get_flag("explain")),
@@ -97,8 +98,8 @@ fn explains(matches: &ArgMatches, name: &str) -> Option<bool> {
     }
 }
 
-/// The task that the words name, where this is the help on scripts; an error is a refusal, help that was asked for,
-/// or want of memory.
+/// Returns the task that the words name, if this is the help on scripts. An error is a refusal, help that was asked
+/// for, or a lack of memory.
 fn choose(alloc: Global, words: &[String], help: &str) -> Result<Task, clap::Error> {
     let model = runner_command(
         alloc,
@@ -127,7 +128,7 @@ fn choose(alloc: Global, words: &[String], help: &str) -> Result<Task, clap::Err
     Ok(task_of(&matches))
 }
 
-/// The task of a command line that is accepted.
+/// Returns the task of a command line that is accepted.
 fn task_of(matches: &ArgMatches) -> Task {
     if matches.subcommand_matches("lines").is_some() {
         return Task::Lines;
@@ -144,13 +145,13 @@ fn task_of(matches: &ArgMatches) -> Task {
     }
 }
 
-/// Tells on standard error why the program ends early.
+/// Writes on standard error why the program ends early.
 fn end_early<R: Runtime>(rt: &R, fault: RunFault) -> anyhow::Result<ExitCode> {
     eprintln!(rt; "fault {fault}")?;
     Ok(ExitCode::FAILURE)
 }
 
-/// The exit status of a run that ended so, without explanations.
+/// Returns the exit status of a run that ended so, without explanations.
 fn end_plain<R: Runtime>(rt: &R, ended: Result<Status, RunFault>) -> anyhow::Result<ExitCode> {
     match ended {
         Ok(Status::Ran) => Ok(ExitCode::SUCCESS),
@@ -159,9 +160,9 @@ fn end_plain<R: Runtime>(rt: &R, ended: Result<Status, RunFault>) -> anyhow::Res
     }
 }
 
-/// Runs the script of the dialogue's reader, and writes its answers, on any streams alike. Of streams that tell their
-/// bytes, as a buffer in memory does, what was written is what the runner's definition says. Standard input and
-/// output, which `main` hands over, tell none.
+/// Runs the script of the dialogue's reader, and writes its answers, on any streams. If the streams tell their bytes,
+/// as a buffer in memory does, the written bytes are those in the runner's definition. Standard input and output, which
+/// `main` passes, tell none.
 fn run_on<
     I: Read + Drop,
     W: Write + Drop,
@@ -178,6 +179,32 @@ fn run_on<
     }
 }
 
+/// Runs the script as `run_on` does, and tells the console why lines are refused, and the counts of a cluster.
+fn run_explained_on<
+    I: Read + Drop,
+    W: Write + Drop,
+    R: Runtime + Threads + Wait + Send + Sync + 'static,
+>(
+    rt: &R,
+    alloc: Global,
+    runner: Runner,
+    dialogue: &mut Dialogue<I, W>,
+    console: &Console<R>,
+) -> Result<Status, RunFault>
+    ensures model { runner ≡ Runner.Model → OnOk result (WroteScript dialogue.old dialogue.new) }
+    ensures threads { runner ≡ Runner.Threads → result ≡ Ok Status.Ran
+        → RanScript WritesAnswers dialogue.old dialogue.new }
+    ensures read_all { result ≡ Ok Status.Ran → IsAtEnd dialogue.new.reading.left }
+{
+    match runner {
+        Runner::Model => run_model_explained(alloc, dialogue, console),
+        Runner::Threads => {
+            let table = CountsTable::new(rt);
+            run_threads_explained(rt, alloc, dialogue, &Open, console, table)
+        }
+    }
+}
+
 /// Runs the script of standard input.
 fn run_plain<R: Runtime + Threads + Wait + Send + Sync + 'static>(
     rt: &R,
@@ -190,8 +217,8 @@ fn run_plain<R: Runtime + Threads + Wait + Send + Sync + 'static>(
     }
 }
 
-/// Runs the script of standard input, and tells on standard error why lines or settings are refused, and what a
-/// cluster counted.
+/// Runs the script on standard input. Writes on standard error why lines or settings are refused, and a cluster's
+/// counts.
 fn run_explained<R: Runtime + Threads + Wait + Send + Sync + 'static>(
     rt: &R,
     alloc: Global,
@@ -200,16 +227,7 @@ fn run_explained<R: Runtime + Threads + Wait + Send + Sync + 'static>(
     let console = Console::new(rt);
     let mut output = Beginning::new(alloc, io::writer(rt));
     let ended = match Dialogue::new(alloc, rt.reader(), &mut output) {
-        Ok(mut dialogue) => match runner {
-            Runner::Model => {
-                let mut engine = Explained::new(ModelEngine::new(alloc), &console);
-                run(alloc, &mut dialogue, &mut engine)
-            }
-            Runner::Threads => {
-                let table = CountsTable::new(rt);
-                run_threads_explained(rt, alloc, &mut dialogue, &Open, &console, table)
-            }
-        },
+        Ok(mut dialogue) => run_explained_on(rt, alloc, runner, &mut dialogue, &console),
         Err(_) => Err(RunFault::NoMemory),
     };
     match ended {

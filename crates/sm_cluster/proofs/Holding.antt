@@ -16,14 +16,14 @@ use Rattle.sm_rule.specs.Views.{Begins, record_in}
 use Rattle.sm_rule.specs.lemmas.Passing.{begins_begins}
 use Rattle.sm_cluster.specs.Holding.{AreEndedIn, AreHoldsOn, HasEnded, HasEndedIn, HoldsShard, hold_at}
 
--- what holds of each hold of a list
+-- a property of each hold of a list
 abbrev pub EachHold : {Q : Type 0} → (ℕ → PassValue Q → Type 0) → List (Option (PassValue Q)) → Type 0
 EachHold {Q} P holds = (shard : ℕ) (pass : PassValue Q) → hold_at holds shard ≡ Some pass → P shard pass
 
 none_some : {X : Type 0} (x : X) → None ≡ Some x → ⊥
 none_some x is = absurd cc
 
--- what lies in a place of a list, however the place is read
+-- the element at a place of a list, however the place is read
 pub at_place : {X : Type 0} (xs : List X) (i : ℕ) (x d : X) → i < length xs → x ≡ slice_index_or xs i x
     → slice_index_or xs i d ≡ x
 at_place [] i x d within is = absurd (omega (arith, within))
@@ -66,7 +66,7 @@ holds_put {Q} board holds shard hold are within theirs held =
     (λ pass is. subst (λ (one : PassValue Q). (one.board ≡ board) × HoldsShard one shard) (same_some hold pass is)
     (theirs, held))
 
--- what lies in a place is a hold of the shard
+-- the element at a place is a hold of the shard
 pub held_of : {Q : Type 0} (board : BoardValue) (holds : List (Option (PassValue Q))) (shard : ℕ)
     (slot : Option (PassValue Q)) → AreHoldsOn board holds → hold_at holds shard ≡ slot
     → IfSome slot (λ hold. (hold.board ≡ board) × HoldsShard hold shard)
@@ -124,7 +124,7 @@ each_more {Q} P front slot each last shard pass is =
     (last pass here.1))
     (held_last front slot shard pass is)
 
--- what has ended in what was seen has ended in a history that extends it
+-- a hold that has ended in the seen history has ended in a history that extends it
 pub ended_last : {Q : Type 0} (slot : Option (PassValue Q)) (seen history : List (Entry Q)) → IfSome slot
     (HasEndedIn seen) → Begins seen history → (pass : PassValue Q) → slot ≡ Some pass → HasEndedIn history pass
 ended_last None seen history ended begins pass is = absurd (none_some pass is)
@@ -140,7 +140,7 @@ pub ended_nothing : {Q : Type 0} (history : List (Entry Q)) (holds : List (Optio
 ended_nothing history [] none shard pass is = absurd (none_some pass is)
 ended_nothing history (slot ∷ holds) none shard pass is = absurd (omega (arith, none))
 
--- who holds one shard holds no other
+-- a pass that holds one shard holds no other
 same_first : {X : Type 0} (one other : ℕ × X) → Some one ≡ Some other → one.0 ≡ other.0
 same_first {X} one other same = ap (λ (pair : ℕ × X). pair.0) (same_some one other same)
 

@@ -1,3 +1,4 @@
+pub mod Crewing
 pub mod Holding
 pub mod Placing
 pub mod Publishing

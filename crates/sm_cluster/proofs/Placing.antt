@@ -1,4 +1,4 @@
--- Where the requests of answers stand among all requests of their shards.
+-- The places of answers' requests among all requests of their shards.
 use Rattle.std.proofs.Common.{◌≡◌, ◌≢◌, ◌<◌, ◌≤◌, ℕ, ◌+◌, ◌⊎◌, inl, inr, List, [], ◌∷◌, ◌++◌, drop, length, take, refl}
 use Rattle.std.proofs.Common.{sym, ap, ◌∙◌, subst, arith, append_assoc, eq-eqb, length-append, rules, take-append-drop}
 use Rattle.std.specs.Prelude.{Option, Some, slice_get}
@@ -26,7 +26,7 @@ slice_get-middle : {X : Type 0} (before : List X) (x : X) (after : List X)
 slice_get-middle [] x after = refl
 slice_get-middle (one ∷ before) x after = slice_get-middle before x after
 
--- what is said of a request at its place
+-- the statement about a request at its place
 said_at : {Q R : Type 0} (reply_of : List Q → Q → R) (all : List Q) (place : ℕ) (request : Q) (reply : R)
     → slice_get all place ≡ Some request → option_map (λ (q : Q). reply_of (take place all) q) (slice_get all place)
     ≡ Some reply → reply ≡ reply_of (take place all) request
@@ -74,7 +74,7 @@ module _ {Q R : Type 0} (service : Meaning Q R) (shard : ℕ) (mode : Mode) (req
       subst (λ (pair : List Q × ℕ). take pair.1 pair.0 ≡ all_of is.last.0 shard) (λ i. (sym all_is i, sym place_is i))
       (take_at (all_of is.last.0 shard) (request ∷ []) (length (all_of is.last.0 shard)) refl)
 
-  -- in every history that extends the answer's, the request stands at the answer's place, and the reply is by those
+  -- in every history that extends the answer's, the request is at the answer's place, and the reply depends on those
   -- before it
   module _ (history : List (Entry Q)) (extends : Begins answer.note.seen history) where
     pub stands_in : slice_get (all_of history shard) answer.place ≡ Some request
@@ -147,7 +147,7 @@ begins_front number seen front entry own none begins = by_more begins.0 begins.1
         absurd (none_last number front entry (subst (NoneBy number) (sym (is ∙ append-nil seen)) none) own)
     by_more (one ∷ more) is (inl long) = let n = count (one ∷ more) is in absurd (omega (arith, n))
 
--- an answer that extends what a caller had seen, who had learned another of the shard
+-- an answer that extends the history of a caller who had learned another answer of the shard
 pub in_order : {Q R : Type 0} (service : Meaning Q R) (shard : ℕ) (mode next_mode : Mode) (request next : Q)
     (learned answer : AnswerValue Q R) (seen : List (Entry Q)) → IsAnswer service shard mode request learned
     → IsAnswer service shard next_mode next answer → Begins learned.note.seen seen → Begins seen answer.note.seen

@@ -1,4 +1,4 @@
--- What a publication leaves that the publisher refused.
+-- The effect of publishing if the publisher refuses.
 use Rattle.std.proofs.Common.{◌≡◌, ℕ, refl, rules, subst}
 use Rattle.std.specs.Prelude.{IfNone, IfSome, IsOkUnless, Option, Some, None, Result, Ok, Err}
 use Rattle.sm_control.specs.Routes.{Routed}
@@ -15,7 +15,7 @@ same_err result x y is also = search rules
 not_ok : {X E : Type 0} (result : Result X E) (x : X) (e : E) → result ≡ Ok x → result ≡ Err e → ⊥
 not_ok result x e is also = search rules
 
--- a refused route has the map's first fault, or want of memory where there is none
+-- a refused route has the map's first fault, or a lack of memory if there is none
 pub map_fault : (first : Option RouteFault) (result : Result (Unit {0}) RouteFault) (refused : RouteFault)
     → result ≡ Err refused → IfSome first (λ fault. result ≡ Err fault) → IfNone first (IsOkUnless result NoMemory)
     → IsMapFault first refused

@@ -1,4 +1,4 @@
--- What a closed board leaves to the clients that came back.
+-- The meaning of a closed board for the clients that came back.
 use Rattle.std.proofs.Common.{◌≡◌, ℕ, false, List, ◌++◌, length, arith, subst}
 use Rattle.std.specs.Prelude.{All, Option, Some, Result, Ok, Err, IfOk, slice_get}
 use mathlib.Core.Option.{some}
@@ -28,14 +28,15 @@ ok_then (Err refused) P R held then = tt
 pub all_of_nobody : {X : Type 0} (P : X → Type 0) (xs : List X) → length xs ≡ 0 → All P xs
 all_of_nobody P xs none k d less = absurd (omega (arith, none, less))
 
--- what has ended in a history has ended in each that extends it
+-- a hold that has ended in a history has ended in each history that extends it
 ended_later : {Q : Type 0} (holds : List (Option (PassValue Q))) (history later : List (Entry Q)) → Begins history later
     → AreEndedIn history holds → AreEndedIn later holds
 ended_later holds history later begins ended shard pass is =
     let one = ended shard pass is in
     (one.0, one.1, begins_begins one.0.seen history later one.2 begins)
 
--- what the closing pass had seen extends what the cluster told, what each client had seen, and the end of each hold
+-- the history that the closing pass had seen extends everything that the cluster told, everything that each client had
+-- seen, and the end of each hold
 pub closed_stopped : {S Q : Type 0} (keeps : S → ℕ → List Q → Type 0) (limit : S → ℕ) (cluster : ClusterValue Q)
     (told closer : PassValue Q) (clients : List (ClientValue Q)) (rows : List (Record × Option S))
     → WasClosed keeps limit cluster.control.chair closer rows
@@ -55,7 +56,7 @@ closed_stopped {S} {Q} keeps limit cluster told closer clients rows closed all m
       begins_begins cluster.told told.seen history first (begins_begins told.seen closer.seen history more closed.3),
     )
 
--- what a client that came back had learned is among the requests on which the body of its shard rests
+-- an answer that a returned client had learned is among the requests on which the body of its shard rests
 pub lasts : {S Q R : Type 0} (service : Meaning Q R) (keeps : S → ℕ → List Q → Type 0) (limit : S → ℕ)
     (cluster : ClusterValue Q) (clients : List (ClientValue Q)) (rows : List (Record × Option S))
     (client : ClientValue Q) (at shard : ℕ) (mode : Mode) (request : Q) (answer : AnswerValue Q R)

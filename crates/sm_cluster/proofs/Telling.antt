@@ -1,4 +1,4 @@
--- What a cluster tells, and its teller.
+-- The history that a cluster tells, and its teller.
 use Rattle.std.proofs.Common.{◌≡◌, List, ap, subst, ◌∙◌}
 use Rattle.sm_ownership.specs.declared.entry.Entry.{Entry}
 use Rattle.sm_rule.specs.Boards.{BoardValue}
@@ -8,7 +8,7 @@ use Rattle.sm_rule.specs.lemmas.Passing.{begins_begins, looks_begins, met_begins
 use Rattle.sm_cluster.specs.Clusters.{ClusterValue, TellsMore, cluster_telling}
 use Rattle.sm_cluster.specs.Passes.{IsTeller}
 
--- what a note was cut from with is seen by who met it
+-- whoever meets a note has seen the history with which the note was cut
 pub begins_met : {Q : Type 0} (earlier : List (Entry Q)) (note : PassValue Q) (later : List (Entry Q))
     → Begins earlier note.seen → IsMet note.number note.seen later → Begins earlier later
 begins_met earlier note later begins met =
@@ -23,7 +23,7 @@ teller_looks {Q} board history later before after is looks begins = (
   begins,
 )
 
--- one that has looked is one of what it was
+-- a teller that has looked is a teller of its earlier history
 pub teller_stays : {Q : Type 0} (board : BoardValue) (history : List (Entry Q)) (before after : PassValue Q)
     → IsTeller board history before → PassLooks before after → IsTeller board history after
 teller_stays board history before after is looks =

@@ -1,4 +1,4 @@
--- What a checkpoint of a cluster's shard leaves.
+-- The effect of a checkpoint of a cluster's shard.
 use Rattle.std.specs.Prelude.{ℕ, ◌≡◌, ◌<◌, ◌≤◌, true, false, [], Result, Ok, Err}
 use Rattle.sm_desk.specs.Desk.{is_known}
 use Rattle.sm_ownership.specs.History.{kept}
@@ -18,7 +18,7 @@ abbrev pub hold_fault_of : CheckpointFault → HoldFault
 hold_fault_of (checkpoint.Admit refusal) = hold.Admit refusal
 hold_fault_of checkpoint.NoMemory = hold.NoMemory
 
--- what the pass that makes a checkpoint, as it was before and is after, leaves and answers
+-- the effect and the answer of the pass that makes a checkpoint, by its values before and after
 abbrev pub BasesOrRefuses : {Q : Type 0} → PassValue Q → ℕ → PassValue Q → Result Front HoldFault → Type 0
 BasesOrRefuses before shard after (Ok front) =
     HasMadeCheckpoint before shard after × (kept after.seen shard ≡ [])
@@ -26,8 +26,8 @@ BasesOrRefuses before shard after (Ok front) =
 BasesOrRefuses before shard after (Err fault) =
     (refusal : CheckpointFault) × (fault ≡ hold_fault_of refusal) × CheckpointRefused before shard after refusal
 
--- a new pass of the server, which had seen all that the cluster told, made the checkpoint or was refused; the cluster
--- then tells all that it has seen
+-- a new pass of the server, which had seen everything that the cluster told, made the checkpoint or was refused; the
+-- cluster then tells everything that it has seen
 pub record IsBasedBy {Q : Type 0} (cluster : ClusterValue Q) (shard server : ℕ)
     (result : Result Front HoldFault) (later : ClusterValue Q) : Type 0 where
   pub before : PassValue Q
@@ -37,8 +37,7 @@ pub record IsBasedBy {Q : Type 0} (cluster : ClusterValue Q) (shard server : ℕ
   pub told : Begins after.seen later.told
   pub others : TellsMore cluster later
 
--- what a checkpoint leaves and answers: the first reason that applies, or what comes of it where there are both shard
--- and server
+-- the effect and the answer of a checkpoint: the first reason that applies, or the result if shard and server exist
 abbrev pub HasBased : {Q : Type 0} → ClusterValue Q → ℕ → ℕ → Result Front HoldFault → ClusterValue Q → Type 0
 HasBased before shard server result after =
     (before.control.chair.board.limits.count ≤ shard → (result ≡ Err hold.UnknownShard) × (after ≡ before))

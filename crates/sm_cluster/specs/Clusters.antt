@@ -1,4 +1,4 @@
--- Clusters as contracts see them, and what one gives at its stop.
+-- Clusters as contracts see them, and the result of a cluster's stop.
 use Rattle.std.specs.Prelude.{ℕ, ◌≡◌, ◌≤◌, ◌<◌, true, false, All, List, ◌++◌, Option, Some, None, slice_set}
 use Rattle.sm_control.specs.Controls.{ControlValue}
 use Rattle.sm_desk.specs.Desk.{is_known}
@@ -16,15 +16,17 @@ use Rattle.sm_cluster.specs.declared.hold_fault.HoldFault.TheVariants as hold
 use Rattle.sm_calls.specs.Calls.{ClientValue, client_seeing}
 use Rattle.sm_cluster.specs.Holding.{AreEndedIn, IsHold, IsTurnedAway, hold_at}
 use Rattle.sm_calls.specs.Passes.{IsNewPass}
+use Rattle.sm_cluster.specs.Teams.{TeamValue}
 
--- a cluster: its control, the published map, the bounds of the shards, the pass by which each shard is held, if any,
--- and the history that it tells, which has what its calls have done
+-- a cluster: its control, the published map, the bounds of the shards, the pass that holds each shard, if any, the
+-- history that it tells, which has the effects of its calls, and the teams of its servers
 pub record ClusterValue (Q : Type 0) : Type 0 where
   pub control : ControlValue Q
   pub map : PublisherView
   pub bounds : List (List ℕ)
   pub holds : List (Option (PassValue Q))
   pub told : List (Entry Q)
+  pub teams : List TeamValue
 
 -- a cluster with a control that is now this
 abbrev pub cluster_commanded : {Q : Type 0} → ClusterValue Q → ControlValue Q → ClusterValue Q
@@ -51,8 +53,8 @@ abbrev pub KnowsBoth : {Q : Type 0} → ClusterValue Q → ℕ → ℕ → Type 
 KnowsBoth cluster shard server =
     (shard < cluster.control.chair.board.limits.count) × (is_known cluster.control.desk.books.servers server ≡ true)
 
--- the shard is held by a new pass of the server, which had seen all that the cluster told; the cluster tells of its
--- admission, and nothing else has changed
+-- the shard is held by a new pass of the server, which had seen everything that the cluster told; the cluster tells of
+-- its admission, and nothing else has changed
 abbrev pub HasHeld : {Q : Type 0} → ClusterValue Q → ℕ → ℕ → ClusterValue Q → Type 0
 HasHeld {Q} before shard server after =
     KnowsBoth before shard server
@@ -60,7 +62,7 @@ HasHeld {Q} before shard server after =
     × Begins pass.seen after.told
     × TellsMore (cluster_holding before shard (Some pass)) after
 
--- why a shard isn't held, the first fault that applies, and the cluster that this leaves: a new pass that had seen all
+-- why a shard isn't held, the first fault that applies, and the cluster after it: a new pass that had seen everything
 -- that the cluster told is refused by the record that it read, which the cluster then tells
 abbrev pub HoldRefused : {Q : Type 0} → ClusterValue Q → ℕ → ℕ → HoldFault → ClusterValue Q → Type 0
 HoldRefused before shard server hold.UnknownShard after =
@@ -75,7 +77,7 @@ HoldRefused {Q} before shard server (hold.Admit refusal) after =
     × TellsMore before after
 HoldRefused before shard server fault after = ⊥
 
--- the pass that held the shard has ended its admission with nothing, which the cluster tells, and nothing else has
+-- the pass that held the shard has ended its admission without a request, which the cluster tells, and nothing else has
 -- changed
 abbrev pub HasFreed : {Q : Type 0} → ClusterValue Q → ℕ → ClusterValue Q → Type 0
 HasFreed {Q} before shard after =
@@ -94,19 +96,20 @@ FreeRefused cluster shard fault = ⊥
 abbrev pub IsClientOf : {Q : Type 0} → ClusterValue Q → ClientValue Q → Type 0
 IsClientOf cluster client = (client.pass.board ≡ cluster.control.chair.board) × (client.bounds ≡ cluster.bounds)
 
--- the client has seen all that the cluster tells
+-- the client has seen everything that the cluster tells
 abbrev pub KnowsAll : {Q : Type 0} → ClusterValue Q → ClientValue Q → Type 0
 KnowsAll cluster client = Begins cluster.told client.pass.seen
 
--- the cluster has told the client, which has then seen all that the cluster tells, and all that its control has seen
+-- the cluster has told the client, which has then seen everything that the cluster tells, and everything that its
+-- control has seen
 abbrev pub HasTold : {Q : Type 0} → ClusterValue Q → ClientValue Q → ClientValue Q → Type 0
 HasTold cluster before after =
     PassLooks before.pass after.pass × KnowsAll cluster after
     × Begins cluster.control.chair.seen after.pass.seen × (after ≡ client_seeing before after.pass)
 
--- the rows are those of all shards after one legal history, to which passes alone have added since the chair last
--- looked, which extends what each client that came back had seen, in which each hold was ended, and which extends what
--- the cluster told
+-- the rows are those of all shards after one legal history, to which only passes have added since the chair last
+-- looked, which extends everything that each returned client had seen, in which each hold was ended, and which extends
+-- everything that the cluster told
 abbrev pub WasStopped : {S Q : Type 0} → (S → ℕ → List Q → Type 0) → (S → ℕ) → ClusterValue Q → List (ClientValue Q)
     → List (Record × Option S) → Type 0
 WasStopped {S} {Q} keeps limit cluster clients rows =

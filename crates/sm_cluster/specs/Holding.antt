@@ -12,7 +12,7 @@ use Rattle.sm_rule.specs.Passes.{PassAdds, PassLooks, PassValue}
 use Rattle.sm_rule.specs.Views.{Begins}
 use Rattle.sm_calls.specs.Passes.{IsNewPass}
 
--- the pass by which the shard is held, if any
+-- the pass that holds the shard, if any
 abbrev pub hold_at : {Q : Type 0} → List (Option (PassValue Q)) → ℕ → Option (PassValue Q)
 hold_at holds shard = slice_index_or holds shard None
 
@@ -26,14 +26,14 @@ pub record AreHoldsOn {Q : Type 0} (board : BoardValue) (holds : List (Option (P
   pub each : (shard : ℕ) (pass : PassValue Q) → hold_at holds shard ≡ Some pass
       → (pass.board ≡ board) × HoldsShard pass shard
 
--- the pass has seen more, and isn't admitted for a direct request to the shard by the record that it has then seen,
+-- the pass has seen more, and isn't admitted for a direct request to the shard, by the record that it has then seen,
 -- which is told
 abbrev pub IsTurnedAway : {Q : Type 0} → PassValue Q → ℕ → AdmitRefusal → List (Entry Q) → Type 0
 IsTurnedAway {Q} before shard refusal told =
     (after : PassValue Q) × PassLooks before after × RefusedBy before after shard Direct refusal
     × Begins after.seen told
 
--- a new pass of the server that had seen all that was told was admitted to the shard, for a direct request
+-- a new pass of the server that had seen the whole told history was admitted to the shard, for a direct request
 abbrev pub IsHold : {Q : Type 0} → BoardValue → List (Entry Q) → ℕ → ℕ → PassValue Q → Type 0
 IsHold {Q} board told shard server pass =
     (before : PassValue Q) × IsNewPass board server told before × PassAdmitted before shard Direct pass
@@ -46,7 +46,7 @@ HasEnded before after = (shard : ℕ) × HoldsShard before shard × PassAdds bef
 abbrev pub HasEndedIn : {Q : Type 0} → List (Entry Q) → PassValue Q → Type 0
 HasEndedIn {Q} history pass = (ended : PassValue Q) × HasEnded pass ended × Begins ended.seen history
 
--- that of each hold did
+-- the admission of each hold has ended
 abbrev pub AreEndedIn : {Q : Type 0} → List (Entry Q) → List (Option (PassValue Q)) → Type 0
 AreEndedIn {Q} history holds =
     (shard : ℕ) (pass : PassValue Q) → hold_at holds shard ≡ Some pass → HasEndedIn history pass

@@ -4,6 +4,7 @@ pub mod Commands
 pub mod Holding
 pub mod Passes
 pub mod Publications
+pub mod Teams
 pub mod lemmas
 pub use Rattle.sm_calls.specs.Calls
 pub use Rattle.sm_calls.specs.Since

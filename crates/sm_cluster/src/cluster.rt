@@ -20,17 +20,18 @@ use sm_rule::pass::Pass;
 use std::marker::Model;
 use std::sync::Arc;
 
-/// Servers as threads over one board, its control and the published map. It has to be stopped: it can't be dropped.
+/// Servers as threads over one board, with its control and the published map. It must be stopped, because it can't be
+/// dropped.
 ///
-/// Its calls take it by `&mut`, so that contracts say what each did. Who calls from several threads puts it under a
-/// lock.
+/// Its calls take it by `&mut`, so that contracts can state each call's effect. Callers on several threads must put it
+/// under a lock.
 pub struct Cluster<S: Service> {
     ground: Arc<Ground<S>>,
     network: Arc<Network<Message<S>>>,
     control: Control<S>,
     publisher: Publisher,
     holds: Holds<S>,
-    // A pass of no server, which has seen what the calls have done.
+    // A pass without a server, which has seen the effects of the calls.
     teller: Pass<S>,
     crew: Crew,
 }
@@ -50,6 +51,7 @@ impl<S: Service> Model for Cluster<S> {
       bounds = (arc_value cluster.ground).layout;
       holds = cluster.holds;
       told = cluster.teller.seen;
+      teams = cluster.crew;
     } };
 
     ghost invariant = { λ cluster. (cluster.control.chair.board ≡ (arc_value cluster.ground).board)
@@ -58,14 +60,14 @@ impl<S: Service> Model for Cluster<S> {
 }
 
 impl<S: Service> Cluster<S> {
-    /// The control's desk.
+    /// Returns the control's desk.
     pub fn desk(&self) -> &Desk
         ensures { result.now ≡ self.now.control.desk }
     {
         self.control.desk()
     }
 
-    /// Which shard a key belongs to.
+    /// Returns which shard a key belongs to.
     pub fn layout(&self) -> &Layout
         ensures { result.now ≡ self.now.bounds }
     {

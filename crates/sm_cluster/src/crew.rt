@@ -1,5 +1,6 @@
 //! The threads of a cluster: for each server a team of workers, which share an inbox.
-ghost use Rattle.std.specs.Prelude.{◌≢◌, IfErr};
+ghost use Rattle.std.specs.Prelude.{◌≡◌, ◌≢◌, ◌++◌, ◌∷◌, [], IfErr, OnOk, map};
+ghost use Rattle.sm_cluster.specs.Teams.{team_with, teams_of};
 
 use crate::start_fault::StartFault;
 use sm_body::service::Service;
@@ -7,20 +8,39 @@ use sm_calls::{Gate, Message, Network, work};
 use sm_inbox::Inbox;
 use sm_ranges::server_id::ServerId;
 use std::alloc::Global;
+use std::marker::Model;
 use std::sync::{Arc, Wait};
 use std::thread;
 use std::thread::{JoinHandle, Threads};
 
-// The workers of one server.
+/// The workers of one server. Contracts see how many there are.
 #[derive(Drop)]
 struct Team {
     server: ServerId,
     threads: Vec<JoinHandle<()>>,
 }
 
-/// All workers. It has to be stopped: it can't be dropped.
+impl Model for Team {
+    ghost use Rattle.std.specs.Prelude.{length};
+    ghost use Rattle.sm_cluster.specs.Teams.{TeamValue};
+
+    ghost Value = { TeamValue };
+
+    ghost view = { λ team. record { server = team.server; workers = length team.threads.items } };
+}
+
+/// All workers. It must be stopped, because it can't be dropped. Contracts see its teams.
 pub(crate) struct Crew {
     teams: Vec<Team>,
+}
+
+impl Model for Crew {
+    ghost use Rattle.std.specs.Prelude.{List};
+    ghost use Rattle.sm_cluster.specs.Teams.{TeamValue};
+
+    ghost Value = { List TeamValue };
+
+    ghost view = { λ crew. crew.teams.items };
 }
 
 impl Team {
@@ -38,7 +58,8 @@ impl Team {
         S::Reply: 'static,
         G: Gate + Send + Sync + Drop + 'static,
         R: Threads + Wait + Clone + Send + Drop + 'static,
-        ensures { IfErr result (λ fault. fault ≢ StartFault.TooManyWorkers) }
+        ensures fault { IfErr result (λ fault. fault ≢ StartFault.TooManyWorkers) }
+        ensures started { OnOk result (self.new ≡ team_with self.old 1) }
     {
         let Ok(theirs) = rt.clone() else {
             return Err(StartFault::NoMemory);
@@ -71,7 +92,8 @@ impl Team {
         S::Reply: 'static,
         G: Gate + Send + Sync + Drop + 'static,
         R: Threads + Wait + Clone + Send + Drop + 'static,
-        ensures { IfErr result (λ fault. fault ≢ StartFault.TooManyWorkers) }
+        ensures fault { IfErr result (λ fault. fault ≢ StartFault.TooManyWorkers) }
+        ensures started { OnOk result (self.new ≡ team_with self.old workers) }
     {
         for _ in 0..workers {
             self.start_worker(rt, network, gate, inbox)?;
@@ -95,14 +117,16 @@ impl Team {
 }
 
 impl Crew {
-    /// A crew of nobody.
-    pub(crate) fn new(alloc: Global) -> Crew {
+    /// Returns an empty crew.
+    pub(crate) fn new(alloc: Global) -> Crew
+        ensures { result ≡ [] }
+    {
         Crew {
             teams: Vec::new(alloc),
         }
     }
 
-    /// Starts so many workers for each inbox. Where a thread or memory is refused, those that were started go on.
+    /// Starts so many workers for each inbox. If a thread or memory is refused, those that were started go on.
     pub(crate) fn start<S, G, R>(
         &mut self,
         rt: &R,
@@ -118,22 +142,46 @@ impl Crew {
         S::Reply: 'static,
         G: Gate + Send + Sync + Drop + 'static,
         R: Threads + Wait + Clone + Send + Drop + 'static,
-        ensures { IfErr result (λ fault. fault ≢ StartFault.TooManyWorkers) }
+        ensures fault { IfErr result (λ fault. fault ≢ StartFault.TooManyWorkers) }
+        ensures started { OnOk result
+            (self.new ≡ self.old ++ teams_of workers (map (λ inbox. inbox.server) inboxes.now)) }
     {
         let Ok(gate) = Arc::new(alloc, gate) else {
             return Err(StartFault::NoMemory);
         };
         for inbox in inboxes {
-            self.teams.reserve(1)?;
-            let mut team = Team {
-                server: inbox.server,
-                threads: Vec::new(alloc),
-            };
-            let started = team.start(rt, network, &gate, inbox, workers);
-            self.teams.push_reserved(team);
-            started?;
+            self.start_team(rt, alloc, network, &gate, inbox, workers)?;
         }
         Ok(())
+    }
+
+    // Starts this many workers for the inbox. If a thread or memory is refused, those that were started go on.
+    fn start_team<S, G, R>(
+        &mut self,
+        rt: &R,
+        alloc: Global,
+        network: &Arc<Network<Message<S>>>,
+        gate: &Arc<G>,
+        inbox: &Inbox<Message<S>>,
+        workers: u32,
+    ) -> Result<(), StartFault>
+    where
+        S: Service + 'static,
+        S::Request: 'static,
+        S::Reply: 'static,
+        G: Gate + Send + Sync + Drop + 'static,
+        R: Threads + Wait + Clone + Send + Drop + 'static,
+        ensures fault { IfErr result (λ fault. fault ≢ StartFault.TooManyWorkers) }
+        ensures started { OnOk result (self.new ≡ self.old ++ teams_of workers (inbox.now.server ∷ [])) }
+    {
+        self.teams.reserve(1)?;
+        let mut team = Team {
+            server: inbox.server,
+            threads: Vec::new(alloc),
+        };
+        let started = team.start(rt, network, gate, inbox, workers);
+        self.teams.push_reserved(team);
+        started
     }
 
     /// Shuts all doors, and stops and joins the workers.

@@ -15,7 +15,7 @@ use sm_rule::pass::Pass;
 use sm_rule::permit::Permit;
 use std::marker::Model;
 
-/// An admission without a request. It has to be ended: it can't be dropped. Contracts see its pass.
+/// An admission without a request. It must be ended: it can't be dropped. Contracts see its pass.
 pub(crate) struct Hold<S: Service> {
     pass: Pass<S>,
     permit: Permit<S>,
@@ -40,8 +40,8 @@ impl<S: Service> Model for Hold<S> {
 }
 
 impl<S: Service> Hold<S> {
-    /// Admits the pass to the shard for a direct request, or answers why not, and tells another pass what this one then
-    /// has seen.
+    /// Admits the pass to the shard for a direct request, or returns why it can't. Tells another pass everything that
+    /// this one then has seen.
     pub(crate) fn begin(
         board: &Board<S>,
         mut pass: Pass<S>,
@@ -69,7 +69,7 @@ impl<S: Service> Hold<S> {
         }
     }
 
-    /// Ends the admission with nothing, and gives a note of what its pass then has seen.
+    /// Ends the admission without a request, and returns a note of everything that its pass then has seen.
     pub(crate) fn end(self, board: &Board<S>) -> Note<S>
         requires { self.board ≡ board.now }
         ensures { HasEnded self result }

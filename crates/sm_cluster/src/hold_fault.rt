@@ -2,7 +2,7 @@ use sm_rule::admit_refusal::AdmitRefusal;
 use sm_server::CheckpointFault;
 use thiserror::Error;
 
-/// Why a shard isn't held, isn't freed or makes no checkpoint: the first reason that applies, in this order.
+/// Why a shard can't be held or freed, or makes no checkpoint: the first reason that applies, in this order.
 #[derive(Clone, Copy, Debug, PartialEq, Eq, Drop, Error)]
 pub enum HoldFault {
     /// There is no such shard.
@@ -14,7 +14,7 @@ pub enum HoldFault {
     /// The server was not admitted to the shard.
     #[error("{0}")]
     Admit(AdmitRefusal),
-    /// The shard is to be freed, and isn't held.
+    /// The shard isn't held, so it can't be freed.
     #[error("the shard is not held")]
     NotHeld,
     /// Memory for the checkpoint was refused.

@@ -10,7 +10,7 @@ use sm_rule::pass::Pass;
 use std::alloc::{AllocError, Global};
 use std::marker::Model;
 
-/// The admissions without a request of all shards, at most one each. They have to be ended: they can't be dropped.
+/// The admissions without a request of all shards, at most one each. They must be ended: they can't be dropped.
 /// Contracts see the pass of each.
 pub(crate) struct Holds<S: Service> {
     slots: Vec<Option<Hold<S>>>,
@@ -26,7 +26,7 @@ impl<S: Service> Model for Holds<S> {
 }
 
 impl<S: Service> Holds<S> {
-    /// No holds, with room for one of each shard of the board.
+    /// Makes an empty list, with room for one hold of each shard of the board.
     pub(crate) fn new(alloc: Global, board: &Board<S>) -> Result<Holds<S>, AllocError>
         ensures none { IfOk result (λ holds. holds ≡ replicate board.now.limits.count None) }
         ensures theirs { IfOk result (λ holds. AreHoldsOn board.now holds) }
@@ -66,7 +66,7 @@ impl<S: Service> Holds<S> {
         self.slots[k.index()].take()
     }
 
-    /// Ends all with nothing, and tells a pass what each then has seen.
+    /// Ends all without a request, and tells a pass everything that each then has seen.
     pub(crate) fn end(self, board: &Board<S>, closer: &mut Pass<S>)
         requires theirs { AreHoldsOn board.now self }
         requires board { closer.old.board ≡ board.now }
@@ -83,7 +83,7 @@ impl<S: Service> Holds<S> {
     }
 }
 
-// Ends the hold of a place, if there is one, and tells a pass what it then has seen.
+// Ends the hold at a place, if there is one, and tells a pass everything that it then has seen.
 fn let_go<S: Service>(slot: Option<Hold<S>>, board: &Board<S>, closer: &mut Pass<S>)
     requires hold { IfSome slot (λ hold. hold.board ≡ board.now) }
     requires board { closer.old.board ≡ board.now }

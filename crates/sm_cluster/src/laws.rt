@@ -1,4 +1,4 @@
-//! What the answers of calls mean to their users.
+//! The meaning of calls' answers for their users.
 ghost use Rattle.std.specs.Prelude.{◌≡◌, ◌<◌, ℕ, List, Option, Some, false, slice_get, take};
 ghost use mathlib.Core.Option.{some};
 ghost use lib.ListN.{get_elem?};
@@ -16,8 +16,8 @@ ghost use Rattle.sm_cluster.specs.Clusters.{ClusterValue, WasStopped};
 
 use sm_body::service::Service;
 
-/// A client that learned an answer gets a later place at that shard, and reads its own writes: the reply is that after
-/// requests of which the learned one is at its place, across every migration.
+/// If a client has learned an answer, its next request to that shard gets a later place, and reads the client's own
+/// writes: the reply is that after requests among which the learned one is at its place, across every migration.
 pub fn answers_come_in_order<Q, R>()
     ensures { (service : Meaning Q R) (earlier later : ClientValue Q) (number next_number : ℕ) (request next : Q)
         (learned answer : AnswerValue Q R)
@@ -30,8 +30,8 @@ pub fn answers_come_in_order<Q, R>()
         × (answer.reply ≡ service.reply_of before next) }
 {}
 
-/// Two answers of one shard at one place, whose notes one history extends, are to the same request with the same reply,
-/// whoever got them.
+/// If one history extends the notes of two answers of one shard at one place, they answer the same request with the
+/// same reply, whoever got them.
 pub fn answers_agree<Q, R>()
     ensures { (service : Meaning Q R) (shard : ℕ) (mode other_mode : Mode) (request other_request : Q)
         (answer other : AnswerValue Q R) (history : List (Entry Q))
@@ -41,8 +41,8 @@ pub fn answers_agree<Q, R>()
         → (request ≡ other_request) × (answer.reply ≡ other.reply) }
 {}
 
-/// Nothing acknowledged is lost: what a client that came back had learned is among the requests on which the body rests
-/// that the stop gives for its shard.
+/// Nothing acknowledged is lost: if a client came back, each answer that it had learned is among the requests on which
+/// the shard's body in the stop's result rests.
 pub fn answers_last<S: Service>()
     ensures { (cluster : ClusterValue S.Request) (clients : List (ClientValue S.Request))
         (rows : List (Record × Option S))

@@ -7,8 +7,7 @@ use std::io::Write;
 /// How many bytes are kept: more than any answer to settings has.
 const KEPT: usize = 64;
 
-/// A writer that passes each call on, and keeps a front of the first bytes that it is given: there the answer to
-/// settings stands.
+/// A writer that passes each call on, and keeps a front of the first bytes: these are the answer to settings.
 #[derive(Drop)]
 pub struct Beginning<W> {
     inner: W,
@@ -16,7 +15,7 @@ pub struct Beginning<W> {
 }
 
 impl<W> Beginning<W> {
-    /// A writer to `inner`, to which nothing was written yet.
+    /// Returns a writer to `inner`, to which nothing was written yet.
     pub fn new(alloc: Global, inner: W) -> Beginning<W>
         ensures { result.inner ≡ inner }
     {
@@ -26,7 +25,7 @@ impl<W> Beginning<W> {
         }
     }
 
-    /// The name of the fault that the answer to settings gave, where what was written first is one.
+    /// Returns the name of the fault in the answer to settings, if the first bytes are one.
     pub fn settings_fault(&self) -> Option<&str> {
         match str::from_utf8(&self.kept) {
             Ok(text) => text.strip_prefix("settings ")?.strip_suffix("\n"),
@@ -34,7 +33,7 @@ impl<W> Beginning<W> {
         }
     }
 
-    /// Keeps a front of these bytes, where nothing is kept yet. Where memory is refused, nothing is.
+    /// Keeps a front of these bytes, if nothing is kept yet. If memory is refused, keeps nothing.
     fn keep(&mut self, bytes: &[u8])
         ensures { self.new.inner ≡ self.old.inner }
     {

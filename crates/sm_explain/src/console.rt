@@ -5,7 +5,7 @@ use sm_script::Form;
 use std::cell::Cell;
 use std::io::Eprint;
 
-/// A listener that writes what it hears to standard error, a line each. A failure to write there changes nothing.
+/// A listener that writes its events to standard error, one in a line. If writing fails, nothing else changes.
 #[derive(Drop)]
 pub struct Console<'a, R> {
     rt: &'a R,
@@ -13,7 +13,7 @@ pub struct Console<'a, R> {
 }
 
 impl<'a, R> Console<'a, R> {
-    /// A listener that has heard nothing, and writes to the standard error of `rt`.
+    /// Returns a listener that has heard nothing, and writes to the standard error of `rt`.
     pub fn new(rt: &'a R) -> Console<'a, R> {
         Console {
             rt,
@@ -21,14 +21,14 @@ impl<'a, R> Console<'a, R> {
         }
     }
 
-    /// Whether a line was answered by `error`.
+    /// Returns whether a line was answered by `error`.
     pub fn has_heard_error(&self) -> bool {
         self.has_heard_error.get()
     }
 }
 
 impl<'a, R: Eprint> Console<'a, R> {
-    /// Writes how the line is to be written.
+    /// Writes the right form of the line.
     fn tell_form(&self, line: u64, answer: &str, form: Form) {
         let (name, arguments) = (form.name, form.arguments);
         let space = if arguments.is_empty() { "" } else { " " };

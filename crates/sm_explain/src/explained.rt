@@ -4,8 +4,8 @@ use sm_lines::{BeginFault, Engine};
 use std::alloc::Global;
 use std::marker::Model;
 
-/// An engine whose sessions answer as those of another do, and tell a listener why lines were refused. Contracts see
-/// it as that other engine.
+/// An engine whose sessions answer like those of another engine, and tell a listener why lines were refused. Contracts
+/// see it as that other engine.
 #[derive(Drop)]
 pub struct Explained<E, L> {
     engine: E,
@@ -21,7 +21,7 @@ impl<E, L> Model for Explained<E, L> {
 impl<E, L> Explained<E, L> {
     ghost use Rattle.std.specs.Prelude.{◌≡◌};
 
-    /// The engine, whose sessions tell this listener.
+    /// Returns the engine, whose sessions tell this listener.
     pub fn new(engine: E, listener: L) -> Explained<E, L>
         ensures { result ≡ engine }
     {

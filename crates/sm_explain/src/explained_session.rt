@@ -6,7 +6,7 @@ use std::alloc::AllocError;
 use std::cell::Cell;
 use std::marker::Model;
 
-/// A session that answers as another does, and tells a listener why lines were refused, each with its number: the
+/// A session that answers like another one, and tells a listener why lines were refused, each with its number: the
 /// settings are line 1. Contracts see it as that other session.
 pub struct ExplainedSession<S, L> {
     inner: S,
@@ -24,7 +24,7 @@ impl<S, L> Model for ExplainedSession<S, L> {
 impl<S, L> ExplainedSession<S, L> {
     ghost use Rattle.std.specs.Prelude.{◌≡◌};
 
-    /// The session, before its first line.
+    /// Returns the session, before its first line.
     pub(crate) fn new(inner: S, listener: L) -> ExplainedSession<S, L>
         ensures { result ≡ inner }
     {
@@ -39,7 +39,7 @@ impl<S, L> ExplainedSession<S, L> {
 impl<S, L: Drop> ExplainedSession<S, L> {
     ghost use Rattle.std.specs.Prelude.{◌≡◌};
 
-    /// The session that answers.
+    /// Returns the session that answers.
     pub(crate) fn into_inner(self) -> S
         ensures { result ≡ self }
     {
@@ -53,7 +53,7 @@ impl<S, L: Drop> ExplainedSession<S, L> {
 }
 
 impl<S, L: Listener> ExplainedSession<S, L> {
-    /// Counts a line, and tells what is to be said of it and its answer.
+    /// Counts a line, and tells the sentence about it and its answer.
     fn explain(&self, line: &[u8], answer: &[u8]) {
         let number = self.line.get().saturating_add(1);
         self.line.set(number);

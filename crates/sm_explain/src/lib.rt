@@ -1,5 +1,5 @@
-//! Tells beside a run why lines were answered by `error` or `refused`, and why settings weren't accepted. What the
-//! run reads and writes stays what it is.
+//! Tells beside a run why lines were answered with `error` or `refused`, and why settings weren't accepted. The input
+//! and the output of the run stay the same.
 //!
 //! ```rust
 //! let console = Console::new(&rt);

@@ -1,9 +1,9 @@
 use crate::sentence::Sentence;
 
-/// Who is told why lines were refused.
+/// The listener for the reasons of refused lines.
 pub trait Listener {
-    /// Hears of the line of this number, 2 for the one after the settings, what it was answered, as `error BadLine`,
-    /// or what is strange about it, and a sentence on that.
+    /// Takes the number of a line (2 is the one after the settings), its answer, for instance `error BadLine`, or the
+    /// strange thing about it, and a sentence about that.
     fn hear(&self, line: u64, answer: &str, sentence: Sentence);
 }
 

@@ -1,6 +1,6 @@
 use sm_script::Form;
 
-/// What is said of a line.
+/// The sentence about a line.
 #[derive(Clone, Copy, Drop)]
 pub enum Sentence {
     /// This.

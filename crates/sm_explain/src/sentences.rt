@@ -1,7 +1,7 @@
 use crate::sentence::Sentence;
 use sm_script::{Form, Word, form_of};
 
-/// A name, and what is said of it.
+/// A name, and the sentence about it.
 type Entry = (&'static str, &'static str);
 
 /// Why a line is answered by these names.
@@ -154,16 +154,16 @@ const SETTINGS: [Entry; 14] = [
     ),
 ];
 
-/// What is said of a name of which no table has more.
+/// The sentence about a name that is in no table.
 const UNTOLD: &str = "docs/SCRIPT.md tells when";
 
-/// What the table says of this word.
+/// Returns the table's sentence about this word.
 fn entry(table: &'static [Entry], word: &[u8]) -> Option<&'static str> {
     let (_, said) = table.iter().find(|(name, _)| name.as_bytes() == word)?;
     Some(*said)
 }
 
-/// The name of a refusal, with `error` or `refused` before it, where the answer is one.
+/// Returns the name of a refusal, with `error` or `refused` before it, if the answer is one.
 pub(crate) fn refusal_of(answer: &[u8]) -> Option<&str> {
     if !answer.starts_with(b"error ") && !answer.starts_with(b"refused ") {
         return None;
@@ -174,7 +174,7 @@ pub(crate) fn refusal_of(answer: &[u8]) -> Option<&str> {
     }
 }
 
-/// Why a line was refused so.
+/// Returns why a line was refused so.
 pub(crate) fn sentence_of(refusal: &str, line: &[u8]) -> Sentence {
     match refusal.as_bytes().split(|byte| *byte == b' ').nth(1) {
         Some(b"BadLine") => match form_in(line) {
@@ -186,7 +186,7 @@ pub(crate) fn sentence_of(refusal: &str, line: &[u8]) -> Sentence {
     }
 }
 
-/// How this line is to be written: the request of a line of `at` or `client`, where it has one.
+/// Returns the right form of this line: of the request in a line of `at` or `client`, if it has one.
 fn form_in(line: &[u8]) -> Option<Form> {
     let mut words = line.split(|byte| *byte == b' ');
     let form = form_of(words.next()?)?;
@@ -201,7 +201,7 @@ fn form_in(line: &[u8]) -> Option<Form> {
     }
 }
 
-/// Why settings were refused by this name.
+/// Returns why settings were refused by this name.
 pub(crate) fn settings_sentence(name: &str) -> &'static str {
     entry(&SETTINGS, name.as_bytes()).unwrap_or(UNTOLD)
 }

@@ -13,7 +13,7 @@ some_none x is = search rules
 same_err : {X E : Type 0} (result : Result X E) (x y : E) → result ≡ Err x → result ≡ Err y → x ≡ y
 same_err result x y is also = search rules
 
--- a fault that was told is the first of the rows, or memory was refused
+-- a told fault is the first of the rows, or memory was refused
 pub told : (first : Option BooksFault) (result : Result BooksView BooksFault) (fault : BooksFault)
     → result ≡ Err fault → IfSome first (λ it. result ≡ Err it) → IfNone first (IsOkUnless result NoMemory)
     → (fault ≡ NoMemory) ⊎ (Some fault ≡ first)
@@ -28,7 +28,7 @@ pub no_books_fault : (settings : SettingsValues) → KeepsRules settings
 unfolding PassTests
 no_books_fault settings rules = let tests = rules.tests in rw (tests.0, tests.1, tests.2, tests.3) refl
 
--- a fault of rows that have none is want of memory
+-- a fault of rows without a fault is a lack of memory
 pub memory_alone : (first : Option BooksFault) (fault : BooksFault) → (fault ≡ NoMemory) ⊎ (Some fault ≡ first)
     → first ≡ None → fault ≡ NoMemory
 memory_alone first fault (inl memory) none = memory

@@ -28,7 +28,7 @@ abbrev pub desk_of_rows : List ServerRow → List GroupRow → List ShardRow →
 desk_of_rows servers groups shards domains ops =
     record { books = new_books servers groups shards domains; caps = record { ops = ops } }
 
--- the rows of servers 1 to so many, each in a domain of its own
+-- the rows of so many servers from 1 on, each in its own domain
 abbrev pub first_servers : ℕ → List ServerRow
 first_servers zero = []
 first_servers (suc n) = first_servers n ++ (record { id = suc n; domain = n; capacity = 4096 } ∷ [])
@@ -37,7 +37,7 @@ first_servers (suc n) = first_servers n ++ (record { id = suc n; domain = n; cap
 abbrev pub one_group : List GroupRow
 one_group = record { limit = 4096; down = 4096 } ∷ []
 
--- the rows of so many shards of load 1 and of the one group
+-- the rows of so many shards of load 1, in the one group
 abbrev pub equal_shards : ℕ → List ShardRow
 equal_shards count = replicate count (record { group = 0; load = 1; cap = 1 })
 
@@ -45,7 +45,7 @@ equal_shards count = replicate count (record { group = 0; load = 1; cap = 1 })
 abbrev pub own_domains : ℕ → List DomainRow
 own_domains servers = equal_domains MAX_DOMAIN_DOWN (first_servers servers)
 
--- the desk of these servers, and of so many shards, whose restarts this cap alone limits
+-- the desk of these servers, and of so many shards, whose restarts only this cap limits
 abbrev pub first_desk : ℕ → ℕ → ℕ → DeskView
 first_desk servers count ops =
     desk_of_rows (first_servers servers) one_group (equal_shards count) (own_domains servers) ops

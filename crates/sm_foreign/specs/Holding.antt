@@ -1,10 +1,11 @@
 -- Passes with the permits that they hold.
-use Rattle.std.specs.Prelude.{ℕ, ◌≡◌, ◌+◌, List, Option, Some, None}
+use Rattle.std.specs.Prelude.{ℕ, ◌≡◌, ◌≢◌, ◌+◌, List, Option, Some, None}
 use Rattle.std.specs.Option.{option_map}
 use Rattle.sm_ownership.specs.declared.entry.Ending.TheVariants.{Nothing}
 use Rattle.sm_ownership.specs.declared.entry.Kind.TheVariants.{Done}
 use Rattle.sm_ownership.specs.declared.mode.Mode.{Mode}
 use Rattle.sm_ownership.specs.declared.record.Record.{Record}
+use Rattle.sm_ownership.specs.History.{NoneBy}
 use Rattle.sm_rule.specs.declared.permit.Front.{Front}
 use Rattle.sm_rule.specs.declared.view.HeldShard.{HeldShard}
 use Rattle.sm_rule.specs.Admissions.{PassAdmitted, PermitValue}
@@ -12,6 +13,10 @@ use Rattle.sm_rule.specs.Boards.{BoardValue, limit_at}
 use Rattle.sm_rule.specs.Passes.{PassAdds, PassValue, record_of}
 use Rattle.sm_rule.specs.Views.{EndsWith}
 use Rattle.sm_foreign.specs.declared.foreign.Foreign.{Foreign}
+
+-- a pass has not acted: it holds nothing, isn't the control, and has no entry in its history
+abbrev pub HasNotActed : {Q : Type 0} → PassValue Q → Type 0
+HasNotActed pass = (pass.held ≡ None) × (pass.number ≢ 0) × NoneBy pass.number pass.seen
 
 -- the shard that a pass holds, with its record since the admission
 abbrev pub admission_of : {Q : Type 0} → Option (HeldShard Q) → Option (ℕ × Record)
@@ -21,11 +26,11 @@ admission_of held = option_map (λ it. (it.shard, it.state)) held
 abbrev pub generation_held : {Q : Type 0} → PassValue Q → Option ℕ
 generation_held pass = option_map (λ held. held.state.generation) pass.held
 
--- the fencing token of what a pass holds, if it holds anything, where tokens begin after this number
+-- the fencing token of the admission that a pass holds, if any, with tokens that begin after this number
 abbrev pub token_of : {Q : Type 0} → ℕ → PassValue Q → Option ℕ
 token_of after pass = option_map (λ generation. after + generation) (generation_held pass)
 
--- a pass on this board that holds this shard has this permit, whose body is the shard's and as it was
+-- a pass on this board that holds this shard has this permit, whose body is the shard's and unchanged
 abbrev pub IsPermitOf : {S Q : Type 0} → (S → ℕ → List Q → Type 0) → (S → ℕ) → BoardValue → Option (HeldShard Q)
     → Option (PermitValue S) → Type 0
 IsPermitOf keeps limit board held None = held ≡ None

@@ -10,7 +10,7 @@ use Rattle.sm_foreign.specs.declared.open_fault.OpenFault.{OpenFault}
 use Rattle.sm_foreign.specs.declared.open_fault.OpenFault.TheVariants.{Board, Bodies, Books, NoMemory, Restarts}
 use Rattle.sm_foreign.specs.declared.open_fault.OpenFault.TheVariants.{Servers}
 
--- why there is none of so many bodies and servers, under this cap of restarts and this ceiling
+-- why there is none with so many bodies and servers, under this cap of restarts and this ceiling
 abbrev pub OpensNothing : ℕ → ℕ → ℕ → ℕ → OpenFault → Type 0
 OpensNothing count servers ops ceiling Servers = 4095 < servers
 OpensNothing count servers ops ceiling Restarts = 4095 < ops
@@ -22,7 +22,7 @@ OpensNothing count servers ops ceiling (Books fault) =
     Some fault ≡ first_books_fault (first_servers servers) one_group (equal_shards count) (own_domains servers)
 OpensNothing count servers ops ceiling NoMemory = ⊤
 
--- why there is none of so many bodies as the settings say: the settings have another number of shards, or memory was
+-- why there is none with so many bodies by the settings: the settings have another number of shards, or memory was
 -- refused
 abbrev pub OpensNothingBy : ℕ → SettingsValues → OpenFault → Type 0
 OpensNothingBy count settings Bodies = length settings.shards ≢ count

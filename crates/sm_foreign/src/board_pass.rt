@@ -5,7 +5,7 @@ ghost use Rattle.sm_rule.specs.Admissions.{RefusedBy};
 ghost use Rattle.sm_rule.specs.Passes.{PassLooks, record_of};
 ghost use Rattle.sm_rule.specs.Views.{Begins, IsMet};
 ghost use Rattle.sm_rule.specs.Words.{IsWordOf};
-ghost use Rattle.sm_foreign.specs.Holding.{AdmitsPass, EndsPass, generation_held};
+ghost use Rattle.sm_foreign.specs.Holding.{AdmitsPass, EndsPass, HasNotActed, generation_held};
 
 use crate::foreign::Foreign;
 use sm_body::service::Service;
@@ -17,7 +17,7 @@ use std::alloc::AllocError;
 use std::marker::Model;
 use std::sync::Arc;
 
-/// A pass with the permit that it holds, if any, whose body is as it was, and its board. Contracts see the pass and the
+/// A pass with the permit that it holds, if any, whose body is unchanged, and its board. Contracts see the pass and the
 /// permit.
 pub struct BoardPass<S: Service> {
     board: Arc<Board<S>>,
@@ -42,10 +42,11 @@ impl<S: Service> Model for BoardPass<S> {
 }
 
 impl BoardPass<Foreign> {
-    /// A new pass on the board, admitted as this server, or never.
+    /// Returns a new pass on the board, admitted as this server, or never.
     pub fn new(board: Arc<Board<Foreign>>, server: Option<ServerId>) -> BoardPass<Foreign>
         ensures board { result.0.board ≡ arc_value board }
         ensures server { result.0.server ≡ server }
+        ensures new { HasNotActed result.0 }
         ensures free { result.1 ≡ None }
     {
         let pass = board.pass(server);
@@ -56,21 +57,21 @@ impl BoardPass<Foreign> {
         }
     }
 
-    /// The number of the board's shards.
+    /// Returns the number of the board's shards.
     pub fn count(&self) -> u32
         ensures { result ≡ self.now.0.board.limits.count }
     {
         self.board.count()
     }
 
-    /// Whether the pass holds no permit.
+    /// Returns whether the pass holds no permit.
     pub fn is_free(&self) -> bool
         ensures { result ≡ is_none self.now.1 }
     {
         self.permit.is_none()
     }
 
-    /// The generation of the shard that the pass holds, since the admission, if it holds one.
+    /// Returns the generation of the shard that the pass holds, since the admission, if it holds one.
     pub fn generation(&self) -> Option<u64>
         ensures generation { result ≡ generation_held self.now.0 }
         ensures counted { IfSome result (λ generation. 0 < generation) }
@@ -83,7 +84,7 @@ impl BoardPass<Foreign> {
         }
     }
 
-    /// The word of the shard's record after all that the pass then has seen.
+    /// Returns the word of the shard's record after all that the pass then has seen.
     pub fn look_word(&mut self, k: ShardId) -> u64
         requires { k < self.old.0.board.limits.count }
         ensures seen { PassLooks self.old.0 self.new.0 }
@@ -93,7 +94,8 @@ impl BoardPass<Foreign> {
         self.board.look_word(&mut self.pass, k)
     }
 
-    /// A new pass with the same server, which has seen all that this one has. It is refused for want of memory alone.
+    /// Returns a new pass with the same server, which has seen everything that this one has seen. It fails only if
+    /// memory is refused.
     pub fn split(&mut self) -> Result<BoardPass<Foreign>, AllocError>
         ensures unchanged { self.new ≡ self.old }
         ensures board { IfOk result (λ pass. pass.0.board ≡ self.old.0.board) }
@@ -110,8 +112,8 @@ impl BoardPass<Foreign> {
         })
     }
 
-    /// Tells the pass all that another one of its board had seen, which holds nothing and acts no more. It can't be
-    /// refused.
+    /// Tells the pass everything that another one of its board had seen. The other one must hold nothing, and acts no
+    /// more. It can't be refused.
     pub fn meet(&mut self, other: BoardPass<Foreign>)
         requires board { other.0.board ≡ self.old.0.board }
         requires free { other.1 ≡ None }
@@ -133,8 +135,8 @@ impl BoardPass<Foreign> {
         }
     }
 
-    /// Admits the pass, which holds nothing, to the shard for a request that came so: the number of the shard's body;
-    /// or says why not, and the pass has looked.
+    /// Admits the pass, which must hold nothing, to the shard for a request that came in this mode. Returns the number
+    /// of the shard's body; or why it isn't admitted, and then the pass has looked.
     #[inline(always)]
     pub fn admit(&mut self, k: ShardId, mode: Mode) -> Result<u64, ToldRefusal>
         requires shard { k < self.old.0.board.limits.count }
@@ -155,7 +157,8 @@ impl BoardPass<Foreign> {
         }
     }
 
-    /// Ends the admission, which changed nothing that the board knows of; or the pass holds nothing.
+    /// Ends the admission, which has changed nothing that the board knows of. Returns nothing if the pass holds
+    /// nothing.
     pub fn finish(&mut self) -> Option<Front>
         ensures ended { IfSome result (EndsPass self.old self.new) }
         ensures free { IfNone result (self.old.1 ≡ None) }

@@ -9,6 +9,7 @@ ghost use Rattle.sm_place.specs.Books.{first_books_fault};
 ghost use Rattle.sm_foreign.specs.Chiefs.{HasNoPass, HasServer, IsControlBy, PlansNothing};
 ghost use Rattle.sm_foreign.specs.Chiefs.{desk_of_rows, equal_shards, first_desk};
 ghost use Rattle.sm_foreign.specs.Chiefs.{first_servers, one_group, own_domains, planned_for};
+ghost use Rattle.sm_foreign.specs.Holding.{HasNotActed};
 ghost use Rattle.sm_foreign.specs.Refusals.{OpensNothingBy, OpensNothing};
 
 use crate::board_pass::BoardPass;
@@ -51,9 +52,9 @@ impl<S: Service> Model for Chief<S> {
 }
 
 impl<S: Service> Chief<S> {
-    /// The chief of a new board with these bodies, which have applied nothing yet, of servers 1 to this one (at most
-    /// 4,095), at most `ops` of which (at most 4,095) restart at once; generations stay at or below the ceiling (3 to
-    /// 2^36 - 1).
+    /// Makes the chief of a new board with these bodies, which must not have applied anything yet, and with so many
+    /// servers from 1 on (at most 4,095), at most `ops` of which (at most 4,095) restart at once. Generations stay at
+    /// or below the ceiling (3 to 2^36 - 1).
     pub fn make(
         alloc: Global,
         bodies: Vec<S>,
@@ -88,8 +89,8 @@ impl<S: Service> Chief<S> {
         Chief::of_parts(alloc, board, chair, desk)
     }
 
-    /// The chief of a new board with these bodies, which have applied nothing yet, as the settings say: a body for each
-    /// of their shards, the rows of servers, groups, shards and domains, the cap of restarts and the ceiling.
+    /// Returns the chief of a new board with these bodies, which have applied nothing yet, as the settings say: a body
+    /// for each of their shards, the rows of servers, groups, shards and domains, the cap of restarts and the ceiling.
     pub fn by_settings(
         alloc: Global,
         bodies: Vec<S>,
@@ -149,10 +150,11 @@ impl<S: Service> Chief<S> {
         }
     }
 
-    /// A new pass on the board, admitted as this server, which the board has, or never.
+    /// Returns a new pass on the board, admitted as this server, which the board has, or never.
     pub fn pass(&self, server: Option<ServerId>) -> Result<FreePass<S>, PassFault>
         ensures board { IfOk result (λ free. free.board ≡ self.now.chair.board) }
         ensures server { IfOk result (λ free. free.server ≡ server) }
+        ensures new { IfOk result HasNotActed }
         ensures known { IfOk result (λ free. HasServer self.now.desk.books server) }
         ensures refused { IfErr result (HasNoPass self.now.desk.books server) }
     {
@@ -161,7 +163,7 @@ impl<S: Service> Chief<S> {
         Ok(FreePass::new(board, server))
     }
 
-    // The server, or none where none is named, if the board has it.
+    // Returns the server, if the board has it. If no server is named, returns none.
     fn known(&self, server: Option<ServerId>) -> Result<Option<ServerId>, PassFault>
         ensures same { IfOk result (λ it. it ≡ server) }
         ensures known { IfOk result (λ it. HasServer self.now.desk.books server) }
@@ -177,8 +179,8 @@ impl<S: Service> Chief<S> {
         }
     }
 
-    /// Where the control would have the shards of the server go, or without one the vacant shards; or the first fault
-    /// that applies.
+    /// Returns the control's plan for the shards of the server, or, without a server, for the vacant shards; or the
+    /// first fault that applies.
     pub fn plan(&self, alloc: Global, from: Option<ServerId>) -> Result<Plan, DrainFault>
         ensures plan { IfOk result (λ plan. plan ≡ planned_for self.now.desk.books from) }
         ensures refused { IfErr result (PlansNothing self.now.desk.books from) }
@@ -202,10 +204,11 @@ impl<S: Service> Chief<S> {
 }
 
 impl Chief<Foreign> {
-    /// A new pass to foreign bodies, admitted as this server, which the board has, or never.
+    /// Returns a new pass to foreign bodies, admitted as this server, which the board has, or never.
     pub fn foreign_pass(&self, server: Option<ServerId>) -> Result<BoardPass<Foreign>, PassFault>
         ensures board { IfOk result (λ pass. pass.0.board ≡ self.now.chair.board) }
         ensures server { IfOk result (λ pass. pass.0.server ≡ server) }
+        ensures new { IfOk result (λ pass. HasNotActed pass.0) }
         ensures known { IfOk result (λ pass. HasServer self.now.desk.books server) }
         ensures free { IfOk result (λ pass. pass.1 ≡ None) }
         ensures refused { IfErr result (HasNoPass self.now.desk.books server) }
@@ -232,7 +235,7 @@ fn rows_of(alloc: Global, last: u16) -> Result<Vec<ServerRow>, AllocError>
     Ok(rows)
 }
 
-// The desk of so many servers, and of so many shards of load 1, all vacant and of one group.
+// Makes the desk of so many servers, and of so many shards of load 1, all vacant and in one group.
 fn desk_of(alloc: Global, servers: u16, count: usize, ops: u16) -> Result<Desk, BooksFault>
     requires servers { servers ≤ 4095 }
     requires ops { ops ≤ 4095 }

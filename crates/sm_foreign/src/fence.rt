@@ -14,14 +14,14 @@ pub struct Fence {
 }
 
 impl Fence {
-    /// The fence of a board that no other came before.
+    /// Returns the fence of a board that no other came before.
     pub fn first() -> Fence
         ensures { result.after ≡ 0 }
     {
         Fence { after: 0 }
     }
 
-    /// The fence after this number, if there is room for tokens above it.
+    /// Returns the fence after this number, if there is room for tokens above it.
     pub fn new(after: u64) -> Option<Fence>
         ensures some { IfSome result (λ fence. fence.after ≡ after) }
         ensures none { IfNone result (MAX_AFTER < after) }
@@ -32,7 +32,7 @@ impl Fence {
         Some(Fence { after })
     }
 
-    /// The fencing token of this generation.
+    /// Returns the fencing token of this generation.
     pub fn token(&self, generation: u64) -> u64
         requires { generation ≤ MAX_GENERATION }
         ensures { result ≡ self.now.after + generation }

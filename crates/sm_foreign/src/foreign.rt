@@ -13,7 +13,7 @@ pub struct Foreign {
 }
 
 impl Foreign {
-    /// The bodies of these numbers. They are refused for want of memory alone.
+    /// Returns the bodies with these numbers. It fails only if memory is refused.
     pub fn all(alloc: Global, numbers: &[u64]) -> Result<Vec<Foreign>, AllocError>
         ensures { IfOk result (λ bodies. bodies.items ≡ foreign_of numbers.now) }
     {

@@ -1,5 +1,6 @@
 ghost use Rattle.std.specs.Prelude.{◌≡◌, IfErr, IfOk, None};
 ghost use Rattle.sm_foreign.specs.Chiefs.{HasNoPass, HasServer};
+ghost use Rattle.sm_foreign.specs.Holding.{HasNotActed};
 
 use crate::chief::Chief;
 use crate::fence::Fence;
@@ -16,10 +17,11 @@ pub struct ForeignChief {
 }
 
 impl ForeignChief {
-    /// A new pass to foreign bodies, admitted as this server, which the board has, or never.
+    /// Returns a new pass to foreign bodies, admitted as this server, which the board has, or never.
     pub fn pass(&self, server: Option<ServerId>) -> Result<ForeignPass, PassFault>
         ensures board { IfOk result (λ pass. pass.held.0.board ≡ self.now.held.value.chair.board) }
         ensures server { IfOk result (λ pass. pass.held.0.server ≡ server) }
+        ensures new { IfOk result (λ pass. HasNotActed pass.held.0) }
         ensures known { IfOk result (λ pass. HasServer self.now.held.value.desk.books server) }
         ensures free { IfOk result (λ pass. pass.held.1 ≡ None) }
         ensures fence { IfOk result (λ pass. pass.fence.after ≡ self.now.fence.after) }

@@ -8,14 +8,14 @@ use crate::fence::Fence;
 use crate::foreign::Foreign;
 use std::alloc::AllocError;
 
-/// A pass to foreign bodies, whose admission ends where it is let go, and the fence of its board.
+/// A pass to foreign bodies, and the fence of its board. Dropping the pass ends its admission.
 pub struct ForeignPass {
     pub held: BoardPass<Foreign>,
     pub fence: Fence,
 }
 
 impl ForeignPass {
-    /// The pass.
+    /// Returns the pass.
     pub fn into_held(self) -> BoardPass<Foreign>
         ensures { result ≡ self.held }
     {
@@ -23,8 +23,8 @@ impl ForeignPass {
         held
     }
 
-    /// The fencing token of the admission that the pass holds, if any. It is above the fence of the board, and so above
-    /// each token of the boards before that.
+    /// Returns the fencing token of the admission that the pass holds, if any. It is above the fence of the board, and
+    /// so above each token of earlier boards.
     pub fn token(&self) -> Option<u64>
         ensures token { result ≡ token_of self.now.fence.after self.now.held.0 }
         ensures above { IfSome result (λ token. self.now.fence.after < token) }
@@ -37,7 +37,8 @@ impl ForeignPass {
         }
     }
 
-    /// A new pass with the same server, which has seen all that this one has. It is refused for want of memory alone.
+    /// Returns a new pass with the same server, which has seen everything that this one has seen. It fails only if
+    /// memory is refused.
     pub fn split(&mut self) -> Result<ForeignPass, AllocError>
         ensures unchanged { self.new ≡ self.old }
         ensures board { IfOk result (λ pass. pass.held.0.board ≡ self.old.held.0.board) }

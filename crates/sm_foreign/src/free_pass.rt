@@ -3,6 +3,7 @@ ghost use Rattle.std.specs.Arc.{arc_value};
 ghost use Rattle.sm_rule.specs.Passes.{PassLooks, record_of};
 ghost use Rattle.sm_rule.specs.Views.{Begins, IsMet};
 ghost use Rattle.sm_rule.specs.Words.{IsWordOf};
+ghost use Rattle.sm_foreign.specs.Holding.{HasNotActed};
 
 use sm_body::service::Service;
 use sm_ranges::server_id::ServerId;
@@ -32,23 +33,24 @@ impl<S: Service> Model for FreePass<S> {
 }
 
 impl<S: Service> FreePass<S> {
-    /// A new pass on the board, admitted as this server, or never.
+    /// Returns a new pass on the board, admitted as this server, or never.
     pub fn new(board: Arc<Board<S>>, server: Option<ServerId>) -> FreePass<S>
         ensures board { result.board ≡ arc_value board }
         ensures server { result.server ≡ server }
+        ensures new { HasNotActed result }
     {
         let pass = board.pass(server);
         FreePass { board, pass }
     }
 
-    /// The number of the board's shards.
+    /// Returns the number of the board's shards.
     pub fn count(&self) -> u32
         ensures { result ≡ self.now.board.limits.count }
     {
         self.board.count()
     }
 
-    /// The word of the shard's record after all that the pass then has seen.
+    /// Returns the word of the shard's record after all that the pass then has seen.
     pub fn look_word(&mut self, k: ShardId) -> u64
         requires { k < self.old.board.limits.count }
         ensures seen { PassLooks self.old self.new }
@@ -57,7 +59,8 @@ impl<S: Service> FreePass<S> {
         self.board.look_word(&mut self.pass, k)
     }
 
-    /// A new pass with the same server, which has seen all that this one has. It is refused for want of memory alone.
+    /// Returns a new pass with the same server, which has seen everything that this one has seen. It fails only if
+    /// memory is refused.
     pub fn split(&mut self) -> Result<FreePass<S>, AllocError>
         ensures unchanged { self.new ≡ self.old }
         ensures board { IfOk result (λ free. free.board ≡ self.old.board) }
@@ -69,7 +72,8 @@ impl<S: Service> FreePass<S> {
         Ok(FreePass { board, pass })
     }
 
-    /// Tells the pass all that another one of its board had seen, which acts no more. It can't be refused.
+    /// Tells the pass everything that another one of its board had seen. The other one acts no more. It can't be
+    /// refused.
     pub fn meet(&mut self, other: FreePass<S>)
         requires { other.board ≡ self.old.board }
         ensures looks { PassLooks self.old self.new }

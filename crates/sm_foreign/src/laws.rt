@@ -1,4 +1,4 @@
-//! Laws of the definitions: what holds of each board.
+//! Laws of the definitions, which hold for each board.
 ghost use Rattle.std.specs.Prelude.{◌<◌, ◌+◌, ◌++◌, ℕ, List, [], ◌∷◌};
 ghost use Rattle.sm_ownership.specs.declared.entry.Entry.{Entry};
 ghost use Rattle.sm_ownership.specs.declared.entry.Kind.TheVariants.{Admit};

@@ -17,14 +17,14 @@ use sm_rule::note::Note;
 use sm_server::{Answer, CheckpointFault, Outcome, checkpoint, serve};
 
 impl<S: Service> FreePass<S> {
-    /// The server that the pass acts as, if any.
+    /// Returns the server that the pass acts as, if any.
     pub fn server(&self) -> Option<ServerId>
         ensures { result ≡ self.now.server }
     {
         self.pass.server()
     }
 
-    /// A note of all that the pass has seen.
+    /// Returns a note of all that the pass has seen.
     pub fn note(&mut self) -> Note<S>
         ensures unchanged { self.new ≡ self.old }
         ensures board { result.board ≡ self.old.board }
@@ -33,7 +33,7 @@ impl<S: Service> FreePass<S> {
         self.board.split(&mut self.pass).into_note()
     }
 
-    /// Tells the pass what a note of its board tells. It can't be refused.
+    /// Makes the pass meet a note of its board. It can't be refused.
     pub fn hear(&mut self, note: Note<S>)
         requires { note.board ≡ self.old.board }
         ensures looks { PassLooks self.old self.new }
@@ -42,9 +42,8 @@ impl<S: Service> FreePass<S> {
         self.board.meet(&mut self.pass, note);
     }
 
-    /// What the pass's server makes of an envelope that came to it: the answer, where it executed the request; the
-    /// envelope with one hop more, and the server that it goes to; or the envelope with the first reason why it is
-    /// refused.
+    /// Serves an envelope as the pass's server. Returns the answer, if the server executed the request; the envelope
+    /// with one hop more, and the next server; or the envelope with the first reason for which it is refused.
     pub fn serve(
         &mut self,
         layout: &Layout,

@@ -1,4 +1,4 @@
--- What clients learn, one call after another and one client beside another.
+-- The answers that clients learn, one call after another and one client beside another.
 use Rattle.std.proofs.Common.{◌≡◌, ◌+◌, ℕ, zero, suc, Bool, true, false, add-one, arith, refl, sym, ◌∙◌, subst}
 use Rattle.std.specs.Prelude.{ℤ, MatchBool, Option, Some, None}
 use Rattle.std.specs.Option.{is_some}
@@ -13,7 +13,7 @@ use Rattle.sm_calls.specs.lemmas.Since.{since_since}
 use Rattle.sm_load.specs.Loads.{HasLearned, HasLearnedCount, HasLearnedCounts, HasLearnedReply}
 
 module _ {Q R : Type 0} (service : Meaning Q R) (request : Q) where
-  -- what was learned stays so
+  -- an answer that was learned stays learned
   pub learned_later : (a b c : ClientValue Q) (answer : AnswerValue Q R) → IsClientSince b c
       → HasLearned service request a b answer → HasLearned service request a c answer
   learned_later a b c answer since was = record {
@@ -22,7 +22,7 @@ module _ {Q R : Type 0} (service : Meaning Q R) (request : Q) where
     learned = begins_begins answer.note.seen b.pass.seen c.pass.seen was.learned since.seen;
   }
 
-  -- an answer for a client is one for what it was before
+  -- an answer for a client is one for its earlier state
   pub gives_before : (a b : ClientValue Q) (number : ℕ) (answer : AnswerValue Q R) → IsClientSince a b
       → Gives service b number request answer → Gives service a number request answer
   gives_before a b number answer since gives = record {
@@ -49,7 +49,7 @@ module _ {Q R : Type 0} (service : Meaning Q R) (request : Q) where
   reply_before a b c reply since was = (was.0, learned_before a b c was.0 since was.1, was.2)
 
 module _ {Q R : Type 0} (service : Meaning Q R) (count : R → Option ℤ) (request : Q) where
-  -- an answer that tells a count, where the client has seen more since
+  -- an answer with a count, if the client has seen more since
   counted_later : (a b c : ClientValue Q) → IsClientSince b c → HasLearnedCount service count request a b
       → HasLearnedCount service count request a c
   counted_later a b c since was = record {
@@ -65,12 +65,12 @@ module _ {Q R : Type 0} (service : Meaning Q R) (count : R → Option ℤ) (requ
   counts_later a b c zero since was = since_since a b c was since
   counts_later a b c (suc n) since was = (was.0, was.1, counted_later was.0 b c since was.2)
 
-  -- who has learned counts has seen no less
+  -- a client that has learned counts has seen no less
   pub counts_since : (a b : ClientValue Q) (n : ℕ) → HasLearnedCounts service count request a n b → IsClientSince a b
   counts_since a b zero was = was
   counts_since a b (suc n) was = since_since a was.0 b (counts_since a was.0 n was.1) was.2.since
 
-  -- one more addition, which was answered by a count or not
+  -- one more addition, which was answered with a count or not
   pub one_more : (a b c : ClientValue Q) (acked refused number acked' refused' : ℕ) (is_acked : Bool)
       → MatchBool is_acked (HasLearnedCount service count request b c) (IsClientSince b c)
       → MatchBool is_acked ((acked' ≡ acked + 1) × (refused' ≡ refused)) ((acked' ≡ acked) × (refused' ≡ refused + 1))
@@ -87,7 +87,7 @@ module _ {Q R : Type 0} (service : Meaning Q R) (count : R → Option ℤ) (requ
         (n : ℕ). HasLearnedCounts service count request a n c) (sym now.0) (counts_later a b c acked did was),
   )
 
--- what follows of a count that is told, and of none
+-- the consequence of a count that is told, and of none
 pub told_or_not : (is_told : Bool) (count : Option ℤ) (A B : Type 0) → is_told ≡ is_some count
     → ((told : ℤ) → count ≡ Some told → A) → B → MatchBool is_told A B
 told_or_not is_told (Some told) A B is some none = subst (λ (b : Bool). MatchBool b A B) (sym is) (some told refl)

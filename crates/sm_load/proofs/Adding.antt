@@ -1,4 +1,4 @@
--- What the changes of a list's items add up to.
+-- The sums of the changes of a list's items.
 use Rattle.std.proofs.Common.{◌≡◌, ◌+◌, ◌*◌, ◌<◌, ◌^◌, ℕ, zero, suc, List, [], ◌∷◌, ◌++◌, length, refl, sym, ap, subst}
 use Rattle.std.proofs.Common.{arith}
 use Rattle.std.specs.Prelude.{slice_index_or}
@@ -17,7 +17,7 @@ module _ {C : Type 0} (changed : C → ℕ → ℕ → C → Type 0) where
   as_many (b ∷ bs) acked refused (a ∷ rest) (mine, others, mine_not, others_not, sum, sum_not, did, tail) =
       ap suc (as_many bs others others_not rest tail)
 
-  -- what holds of each change holds at each place
+  -- a property of each change is a property at each place
   pub at_each : (since : C → C → Type 0) → ((b : C) (n m : ℕ) (a : C) → changed b n m a → since b a)
       → (before : List C) (acked refused : ℕ) (after : List C)
       → AddUp changed before acked refused after → (at : ℕ) (d : C) → at < length before
@@ -63,7 +63,7 @@ module _ {C : Type 0} (changed : C → ℕ → ℕ → C → Type 0) where
       )
   one_of all first (x ∷ xs) acked refused after is short did = absurd (omega (arith, is.1, short))
 
-  -- where each item counted the same number, all counted the product
+  -- if each item counted the same number, all counted the product
   pub sums_up : (n : ℕ) → ((b : C) (m r : ℕ) (a : C) → changed b m r a → m + r ≡ n)
       → (before : List C) (acked refused : ℕ) (after : List C)
       → AddUp changed before acked refused after → acked + refused ≡ length before * n
@@ -76,7 +76,7 @@ module _ {C : Type 0} (changed : C → ℕ → ℕ → C → Type 0) where
       let times : length (b ∷ bs) * n ≡ length bs * n + n = suc-mul (length bs) n in
       omega (arith, ih, one, times, sum, sum_not)
 
-  -- what two lists counted fits
+  -- the counts of two lists fit
   pub sums_fit : (n : ℕ) → ((b : C) (m r : ℕ) (a : C) → changed b m r a → m + r ≡ n)
       → (before : List C) (acked refused : ℕ) (after before' : List C) (acked' refused' : ℕ) (after' : List C)
       → n < 2 ^ 32 → length before + length before' < 2 ^ 32 → AddUp changed before acked refused after

@@ -1,11 +1,11 @@
--- What a closure counts of the items that it is called at.
+-- The counts of a closure for the items at which it is called.
 use Rattle.std.specs.Prelude.{ℕ, ◌≡◌, ◌+◌}
 use denote.Ref.{MutBor}
 use denote.Param.Members.{Shared}
 use Rattle.sm_load.specs.declared.inc_counts.IncCounts.{IncCounts}
 
 module _ {F T : Type 0} (calls : Shared F (MutBor T × Unit {0}) (IncCounts × (MutBor T × Unit {0}))) (f : F) where
-  -- a call of f at a `&mut` to the item may count so much, and leave the item so
+  -- a call of f at a `&mut` to the item may count so much, and change the item like this
   pub record MayCount (before : T) (acked refused : ℕ) (after : T) : Type 0 where
     pub argument : MutBor T
     pub argument_is : argument.now ≡ before

@@ -1,4 +1,4 @@
--- What a load tells of the calls that its clients made.
+-- The result of a load from its clients' calls.
 use Rattle.std.specs.Prelude.{ℕ, zero, suc, ℤ, pos, ◌≡◌, ◌+◌, ◌<◌, IfSome, List, [], ◌∷◌, Option, Some, length}
 use Rattle.std.specs.Prelude.{slice_index_or, unwrap_or}
 use Rattle.sm_body.specs.Service.{Meaning}
@@ -27,13 +27,13 @@ abbrev pub HasLearnedReply : {Q R : Type 0} → Meaning Q R → Q → ClientValu
 HasLearnedReply {Q} {R} service request before after reply =
     (answer : AnswerValue Q R) × HasLearned service request before after answer × (answer.reply ≡ reply)
 
--- the count that the client learned, 0 where the answer tells none
+-- the count that the client learned, or 0 if the answer has none
 abbrev pub WasTold : {Q R : Type 0} → Meaning Q R → (R → Option ℤ) → Q → ClientValue Q → ClientValue Q → ℤ → Type 0
 WasTold {Q} {R} service count request before after told =
     (reply : R) × HasLearnedReply service request before after reply × (told ≡ unwrap_or (count reply) (pos 0))
 
--- the client was told the count twice, and had learned the first one when it asked for the second. Where there is none,
--- it wasn't told
+-- the client was told the count twice, and had learned the first one when it asked for the second; if there is none, it
+-- wasn't told
 abbrev pub WasToldTwice : {Q R : Type 0} → Meaning Q R → (R → Option ℤ) → Q → ClientValue Q → Option ℤ → Option ℤ
     → ClientValue Q → Type 0
 WasToldTwice {Q} service count request before first second after =
@@ -41,7 +41,7 @@ WasToldTwice {Q} service count request before first second after =
     × IfSome first (WasTold service count request before between)
     × IfSome second (WasTold service count request between after)
 
--- the client has since learned an answer to the request that tells a count
+-- the client has since learned an answer to the request with a count
 pub record HasLearnedCount {Q R : Type 0} (service : Meaning Q R) (count : R → Option ℤ) (request : Q)
     (before after : ClientValue Q) : Type 0 where
   pub reply : R
@@ -58,14 +58,13 @@ HasLearnedCounts {Q} service count request before (suc n) after =
     (between : ClientValue Q) × HasLearnedCounts service count request before n between
     × HasLearnedCount service count request between after
 
--- the client made so many additions, of which it has learned so many answers that tell a count, and the others were
--- refused
+-- the client made so many additions; it has learned so many answers with counts, and the others were refused
 pub record HasAdded {Q R : Type 0} (service : Meaning Q R) (count : R → Option ℤ) (request : Q) (each : ℕ)
     (before : ClientValue Q) (acked refused : ℕ) (after : ClientValue Q) : Type 0 where
   pub all : acked + refused ≡ each
   pub learned : HasLearnedCounts service count request before acked after
 
--- each item has changed in this way, and what they counted adds up to these two
+-- each item has changed in this way, and their counts add up to these two
 abbrev pub AddUp : {C : Type 0} → (C → ℕ → ℕ → C → Type 0) → List C → ℕ → ℕ → List C → Type 0
 AddUp changed [] acked refused [] = (acked ≡ 0) × (refused ≡ 0)
 AddUp changed (before ∷ befores) acked refused (after ∷ afters) =
@@ -80,7 +79,7 @@ abbrev pub HaveAdded : {Q R : Type 0} → Meaning Q R → (R → Option ℤ) →
 HaveAdded service count request each before acked refused after =
     AddUp (HasAdded service count request each) before acked refused after
 
--- the first of the clients was told the count twice, and the others made so many additions each. The report says which
+-- the first of the clients was told the count twice, and the others made so many additions each; the report has the
 -- counts, and how many additions were answered and refused
 abbrev pub HaveLoaded : {Q R : Type 0} → Meaning Q R → (R → Option ℤ) → Q → Q → ℕ → List (ClientValue Q) → LoadReport
     → List (ClientValue Q) → Type 0

@@ -10,18 +10,18 @@ pub trait Counting<Q, R> {
     /// The request that adds one to the count, and is answered by it.
     ghost adds: { Self → Q };
 
-    /// The count that a reply tells, if it tells one.
+    /// The count in a reply, if it has one.
     ghost tells: { Self → R → Option ℤ };
 
-    /// A request that is answered by the count.
+    /// Returns a request that is answered by the count.
     fn get(&self) -> Result<Q, AllocError>
         ensures { IfOk result (λ request. request ≡ asks self.now) };
 
-    /// A request that adds one to the count, and is answered by it.
+    /// Returns a request that adds one to the count, and is answered by it.
     fn inc(&self) -> Result<Q, AllocError>
         ensures { IfOk result (λ request. request ≡ adds self.now) };
 
-    /// The count that a reply tells, if it tells one.
+    /// Returns the count in a reply, if it has one.
     fn count(&self, reply: &R) -> Option<i64>
         ensures { result ≡ tells self.now reply.now };
 }

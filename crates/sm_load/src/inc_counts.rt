@@ -1,4 +1,4 @@
-//! What clients count that call at once.
+//! The counts of clients that call at the same time.
 ghost use Rattle.std.specs.Prelude.{◌≡◌, ◌+◌, ◌<◌, ◌^◌, MatchBool, length};
 ghost use Rattle.std.specs.Thread.{IsSend, IsSync};
 ghost use Rattle.sm_load.specs.IncCounts.{CountsAll, MayCount};
@@ -6,7 +6,7 @@ ghost use Rattle.sm_load.specs.Loads.{AddUp};
 
 use std::thread::{Threads, join_mut};
 
-/// What came of the incs of one client, or of several.
+/// The outcomes of the incs of one client, or of several.
 #[derive(Clone, Copy, Drop)]
 pub(crate) struct IncCounts {
     /// How many were answered by a count.
@@ -16,7 +16,7 @@ pub(crate) struct IncCounts {
 }
 
 impl IncCounts {
-    /// The counts with one inc more.
+    /// Returns the counts with one inc more.
     pub(crate) fn with(self, is_acked: bool) -> IncCounts
         requires { self.acked + self.refused < 2 ^ 32 }
         ensures { MatchBool is_acked
@@ -37,9 +37,9 @@ impl IncCounts {
     }
 }
 
-/// Calls `f` at each item, in so many threads at most, and adds up what the calls count.
+/// Calls `f` at each item, in at most so many threads, and adds up the counts of the calls.
 ///
-/// The list is halved, and the halves go to threads, so what a call counts comes back as its result, and no counter is
+/// The list is halved, and the halves go to threads. So the count of a call comes back as its result, and no counter is
 /// shared.
 #[cycle(halves)]
 pub(crate) fn count_all<R: Threads + Sync, T: Send, F: Fn(&mut T) -> IncCounts + Sync>(
@@ -67,7 +67,7 @@ pub(crate) fn count_all<R: Threads + Sync, T: Send, F: Fn(&mut T) -> IncCounts +
     added_up(one, two)
 }
 
-// Calls it at each item of two lists, of which one goes to a new thread where there can be one.
+// Calls it at each item of two lists. One of them goes to a new thread, if there can be one.
 #[cycle(halves)]
 fn count_halves<R: Threads + Sync, T: Send, F: Fn(&mut T) -> IncCounts + Sync>(
     rt: &R,
@@ -110,7 +110,7 @@ fn added_up(one: IncCounts, two: IncCounts) -> IncCounts
     }
 }
 
-// Calls it at the item, where there is one.
+// Calls it at the item, if there is one.
 fn count_at_most_one<T, F: Fn(&mut T) -> IncCounts>(f: &F, items: &mut [T]) -> IncCounts
     requires short { length items.old < 2 }
     requires callable { F.IsAlwaysCallable f.now }

@@ -1,6 +1,6 @@
-//! What drives load: many clients of a cluster call at once, and what they were answered is added up.
+//! Drives load: many clients of a cluster call at the same time, and their answers are added up.
 //!
-//! Four clients add one to a count, 25 times each, and the first says what it was before and after:
+//! Four clients add one to a count, 25 times each, and the first one returns the count before and after:
 //!
 //! ```rust
 //! let increments = Increments { alloc, key };

@@ -20,25 +20,25 @@ use std::thread::Threads;
 // How many threads a load starts at most.
 const MOST_THREADS: usize = 64;
 
-// How often an inc is made anew where its shard was admitted for another request.
+// How often an inc is made again if its shard was admitted for another request.
 const MOST_RETRIES: u32 = 1_000;
 
-/// What came of a load.
+/// The outcome of a load.
 #[derive(Clone, Copy, PartialEq, Eq, Drop)]
 pub struct LoadReport {
     /// How many incs were answered by a count.
     pub acked: u64,
     /// How many were not.
     pub refused: u64,
-    /// The count before all incs, 0 where the reply was none; nothing where the call for it was refused.
+    /// The count before all incs, or 0 if the reply had none; nothing if its call was refused.
     pub before: Option<i64>,
     /// The count after all incs, likewise.
     pub after: Option<i64>,
 }
 
-/// The first client asks for the count, each of the others makes so many incs, in a thread of its own where one can be
-/// had, and the first asks again. An inc that finds its shard admitted for another request is made anew, at most 1,000
-/// times. Each client learns what it is answered, and counts which of its incs were answered by a count and which were
+/// Makes the first client ask for the count. Then each of the others makes so many incs, in its own thread if there can
+/// be one, and the first asks again. If an inc finds its shard admitted for another request, it is made again, at most
+/// 1,000 times. Each client learns its answers, and counts which of its incs were answered with a count and which were
 /// not.
 pub fn load<S: Service, C: Counting<S::Request, S::Reply> + Sync, R: Threads + Wait + Sync>(
     rt: &R,
@@ -88,7 +88,7 @@ fn load_by<S: Service, C: Counting<S::Request, S::Reply> + Sync, R: Threads + Wa
     }
 }
 
-// Has each client make so many incs, and adds up what came of them.
+// Makes each client make so many incs, and adds up their outcomes.
 fn inc_all<S: Service, C: Counting<S::Request, S::Reply> + Sync, R: Threads + Wait + Sync>(
     rt: &R,
     alloc: Global,
@@ -107,7 +107,7 @@ fn inc_all<S: Service, C: Counting<S::Request, S::Reply> + Sync, R: Threads + Wa
     count_all(rt, &run, each, MOST_THREADS, clients)
 }
 
-// Makes so many incs, and counts those that were answered by a count, and the others.
+// Makes so many incs, and counts those that were answered with a count, and the others.
 fn inc_each<S: Service, C: Counting<S::Request, S::Reply>, R: Wait>(
     rt: &R,
     alloc: Global,
@@ -152,7 +152,7 @@ fn inc<S: Service, C: Counting<S::Request, S::Reply>, R: Wait>(
     }
 }
 
-// The count that a call gives, 0 where it gives none; or nothing where it is refused.
+// Returns the count in a call's answer, or 0 if there is none; or nothing if the call is refused.
 #[tactic(auto, using(sm_calls::specs::lemmas::Since::since_same, sm_calls::specs::lemmas::Since::since_since))]
 fn count<S: Service, C: Counting<S::Request, S::Reply>, R: Wait>(
     rt: &R,
@@ -174,8 +174,8 @@ fn count<S: Service, C: Counting<S::Request, S::Reply>, R: Wait>(
     }
 }
 
-// The reply to the request, which is made anew where its shard was admitted for another one; or nothing where it is
-// refused.
+// Returns the reply to the request, or nothing if it is refused. The request is made again if its shard was admitted
+// for another one.
 #[tactic(auto, using(sm_calls::specs::lemmas::Since::since_same, sm_calls::specs::lemmas::Since::since_since))]
 fn ask<S: Service, R: Wait>(
     rt: &R,
@@ -203,7 +203,7 @@ fn ask<S: Service, R: Wait>(
     None
 }
 
-// The reply to the request, which the client has then learned, or why there is none.
+// Returns the reply to the request, which the client has then learned, or why there is none.
 fn learn<S: Service, R: Wait>(
     rt: &R,
     alloc: Global,

@@ -1,4 +1,4 @@
--- What the step that ends a call, and the call's answer, say of each other.
+-- How the step that ends a call and the call's answer follow from each other.
 use Rattle.std.proofs.Common.{◌≡◌, true, ap, sym, ◌∙◌, subst, refl, Ok, Err, Result, Some, is_some, IfOk}
 use Rattle.std.specs.declared.alloc.AllocError.{AllocError}
 use Rattle.sm_envelope.specs.declared.refusal.Refusal.TheVariants as refusal
@@ -53,7 +53,7 @@ pub follows_plain : (view : WorldView Request) (w : WorldState Request) (step : 
 follows_plain view w step result plain =
     subst (λ (mark : Mark). Follows view result (outcome counter_text w mark step)) plain
 
--- the session was at a world, where the call ended with an answer, but for want of memory
+-- if the session was at a world, the call ended there with an answer, unless memory was refused
 pub has_answer : (before after : WorldView Request) (call : Call) (ended : Result (WorldAnswer Reply) WorldFault)
     → IsIdle before → Ends before call ended after → HasAnswer ended
 has_answer before after call ended idle ends = λ plain. ((ends idle.0 idle.1).1 plain).answers

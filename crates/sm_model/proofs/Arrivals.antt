@@ -11,7 +11,8 @@ use Rattle.sm_table.specs.World.{WorldState}
 use Rattle.sm_model.specs.Calls.{Stepped, after_hops, is_forwarded, stepped}
 use Rattle.sm_model.specs.Sessions.{Arrives, Steps}
 
--- after so many hops the envelope has yet to arrive, as at the world in the beginning
+-- after this many hops the envelope hasn't arrived yet: it must still arrive as it would from the world in the
+-- beginning
 abbrev pub IsOnItsWay : WorldView Request → ℕ → WorldView Request → Type 0
 IsOnItsWay first hops now =
     (w : WorldState Request) → StandsFor first w
@@ -60,6 +61,6 @@ on_its_way first before after hops result way some delivers goes = λ w stands.
       here.2 ∙ ap (λ n. after_hops n v) fewer ∙ goes_on (MOST_HOPS - (hops + 1)) v there,
     )
 
--- at first
+-- at first, the envelope is on its way
 pub at_first : (first : WorldView Request) → IsOnItsWay first 0 first
 at_first first = λ w stands. (w, stands, refl)

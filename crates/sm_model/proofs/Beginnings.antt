@@ -19,7 +19,7 @@ limits_of : (count limit : ℕ)
 limits_of zero limit = refl
 limits_of (suc count) limit = ap (λ (rest : List ℕ). limit ∷ rest) (limits_of count limit)
 
--- a world made of the settings' parts stands for the empty one
+-- a world made from the settings' parts stands for the empty world
 pub is_at_begin : (settings : SettingsValues) (layout : List (List ℕ)) (desk : DeskView) (bodies : List TextLog)
     (count : ℕ) (world : WorldView Request)
     → layout ≡ settings.bounds → desk ≡ settings_desk settings → bodies ≡ replicate count (empty_body settings.kept)

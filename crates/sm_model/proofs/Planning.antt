@@ -21,7 +21,7 @@ use Rattle.sm_model.specs.Calls.{route_for, shard_for}
 use Rattle.sm_model.proofs.Ways.{requested_by, unless_route}
 use Rattle.sm_model.specs.Sessions.{GivesAnswer, IsAt}
 
--- a call that ends in a step has the answer to that
+-- a call that ends in a step has the answer to that step
 pub answered-steps : (w : WorldState Request) (asked : Call) → ends_in_step asked ≡ true
     → answered w asked ≡ answer_of (called w asked).0
 answered-steps w (call.Control command) steps = refl
@@ -42,7 +42,7 @@ some_or : {X : Type 0} (first second : Option X) → is_some second ≡ true →
 some_or None second some = some
 some_or (Some x) second some = refl
 
--- where its last step has an answer, a call has one
+-- if its last step has an answer, a call has one
 pub answered-some : (w : WorldState Request) (asked : Call) → is_some (answer_of (called w asked).0) ≡ true
     → is_some (answered w asked) ≡ true
 answered-some w asked some = some_or (answer_without_steps w asked) (answer_of (called w asked).0) some
@@ -64,13 +64,13 @@ route_is view w request shard route stands within is read =
     ∙ ap (routes_of w.publications) shard_is
     )
 
--- what a client's request comes to by a route
+-- the result of a client's request by a route
 abbrev GivesBy : WorldState Request → Request → LineAnswer → WorldView Request → Option Route → Type 0
 GivesBy w request answer after route =
     let went = requested_by w request (shard_for w request) route in
     (option_or (unless_route route) (answer_of went.0) ≡ Some answer) × IsAt after went.1
 
--- there is none
+-- there is no route
 pub gives_no_route : (read before : WorldView Request) → read ≡ before
     → (request : Request) (shard : ℕ) (route : Option Route)
     → shard < length read.bounds → shard ≡ shard_of read.bounds (key_of_request request)
@@ -81,7 +81,7 @@ gives_no_route read before same request shard route within is found none = λ w 
     subst (GivesBy w request (IsRefused refused.NoRoute) before)
     (sym (route_is read w request shard route stands within is found ∙ none)) (refl, at)
 
--- there is one: the request goes to its server
+-- there is a route: the request goes to its server
 pub gives_by_route : (read before after : WorldView Request) → read ≡ before
     → (request : Request) (shard : ℕ) (found : Option Route) (route : Route) (result : Result LineAnswer AllocError)
     → shard < length read.bounds → shard ≡ shard_of read.bounds (key_of_request request)

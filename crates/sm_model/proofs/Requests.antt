@@ -1,4 +1,4 @@
--- How a call ends, from what each of its steps came to.
+-- How a call ends, by the results of its steps.
 use Rattle.std.proofs.Common.{◌≡◌, ℕ, Bool, true, false, List, [], if◌then◌else◌, ap, sym, ◌∙◌, subst, refl, Option}
 use Rattle.std.proofs.Common.{Some, None, Ok, Err, Result, is_some, nat_lt, length, slice_index_or}
 use Rattle.std.proofs.lemmas.Bool.{true≢false}
@@ -38,7 +38,7 @@ use Rattle.sm_model.proofs.Answering.{follows_plain}
 use Rattle.sm_model.proofs.Settling.{Settles, settles}
 use Rattle.sm_table.specs.lemmas.Steps.{made_unless, served, worked}
 
--- a call whose steps come to this one ends with it
+-- a call whose steps have this result ends with it
 ends_with : (after : WorldView Request) (w : WorldState Request) (result : Result (WorldAnswer Reply) WorldFault)
     (whole went : Stepped)
     → whole ≡ went → Follows after result went → Settles whole → EndsAt after result whole
@@ -52,7 +52,7 @@ ends_with after w result whole went is follows settled =
           record { world = subst (λ (s : Stepped). StandsFor after s.1) (sym is) follows.stands; rest = settled.rest };
     }
 
--- what a call came to, where it ended: the session is at the world that it leaves
+-- the result of a call, if the call ended: the session is at the world that it leaves
 abbrev pub Outcome : WorldView Request → WorldState Request → Call → Result (WorldAnswer Reply) WorldFault → Type 0
 Outcome after w call result = IsIdle after × (mark_of result ≡ Plain → EndsAt after result (called w call))
 
@@ -71,7 +71,7 @@ ends_step before after call step result one steps = λ w at.
 
 -- ---- the owner of the request's shard
 
--- the shard that a world's parts give is that of the definitions
+-- the shard by a world's parts is the shard of the definitions
 pub shard_is : (view : WorldView Request) (w : WorldState Request) (request : Request) (shard : ℕ)
     → StandsFor view w → shard ≡ shard_of view.bounds (key_of_request request) → shard ≡ shard_for w request
 shard_is view w request shard stands is =
@@ -88,7 +88,7 @@ owner_is view w request shard state owner stands is shown owned =
     ∙ ap (world_record w) (shard_is view w request shard stands is) in
     sym (owned ∙ ap (λ (r : Record). owner_of r.stand) read)
 
--- there is none: the request is refused
+-- there is no owner: the request is refused
 pub ends_vacant : (view : WorldView Request) (request : Request) (shard : ℕ) (state : Record) (owner : Option ℕ)
     → shard ≡ shard_of view.bounds (key_of_request request) → state ≡ record_at view.records shard
     → owner ≡ owner_of state.stand → owner ≡ None
@@ -102,7 +102,7 @@ ends_vacant view request shard state owner is shown owned none = λ w at.
     (record { answered = refl; stands = at.world })
     (settles w (call.Request request) at.world.sound at.rest))
 
--- there is one: the request goes to it
+-- there is an owner: the request goes to it
 pub ends_at_owner : (before after : WorldView Request) (request : Request) (shard server : ℕ) (state : Record)
     (owner : Option ℕ) (result : Result (WorldAnswer Reply) WorldFault)
     → shard ≡ shard_of before.bounds (key_of_request request) → state ≡ record_at before.records shard
@@ -146,7 +146,7 @@ unknown_unsent true true sent w unsent = absurd cc
 unknown_unsent true false sent w unsent = refl
 unknown_unsent false reached sent w unsent = refl
 
--- where nothing was sent, the world is as it was
+-- if nothing was sent, the world is unchanged
 unsent_same : (w : WorldState Request) (mark : Mark) (server : ℕ) (request : Request)
     → is_sent (outcome counter_text w mark (Send server 0 request)).0 ≡ false
     → (outcome counter_text w mark (Send server 0 request)).1 ≡ w
@@ -205,7 +205,7 @@ begun_is (Err reason) is = absurd cc
 abbrev arrived_by : WorldState Request → Request → ℕ → Stepped
 arrived_by w request server = after_hops MOST_HOPS (sent_to w request server).1
 
--- the call comes to what its arrival comes to
+-- the result of the call is the result of its arrival
 record HasArrived (after : WorldView Request) (w : WorldState Request) (request : Request) (server : ℕ)
     (reached : Result (WorldAnswer Reply) WorldFault) : Type 0 where
   follows : Follows after reached (arrived_by w request server)
@@ -271,7 +271,7 @@ served_keeps : (w : WorldState Request) (mark : Mark) (shard : ℕ) (hand : Opti
 served_keeps w mark shard None = refl
 served_keeps w mark shard (Some hand) = worked_keeps w mark shard hand.server hand.work
 
--- what is in flight stays so
+-- the envelopes in flight stay the same
 finish_keeps : (w : WorldState Request) (mark : Mark) (shard : ℕ)
     → (outcome counter_text w mark (Finish shard)).1.in_flight ≡ w.in_flight
 finish_keeps w Unmade shard = refl

@@ -1,4 +1,4 @@
--- What a session of the model writes is the script of what it reads.
+-- A session of the model writes the script of the bytes that it reads.
 use Rattle.std.proofs.Common.{◌≡◌, true, false, ◌++◌, ◌∷◌, [], ℕ, List, drop, ap, sym, ◌∙◌, subst, inl, inr, Option}
 use Rattle.std.proofs.Common.{Some, None, Result, Ok, Err, IsErr, IsOk, OnOk, refl, append-nil}
 use Rattle.std.proofs.lemmas.Bool.{false≢true}
@@ -36,7 +36,7 @@ use Rattle.sm_lines.specs.Openings.{settings_in}
 use Rattle.sm_lines.specs.Runs.{RanScript, Unbegun, WritesFor}
 use Rattle.sm_model.specs.Script.{line_response, responded, responses, script, script_with}
 
--- what a session of the model gives to a line, within the limit or beyond it
+-- the answer of a session of the model to a line, within the limit or beyond it
 abbrev pub Gives : WorldView Request → List ℕ → List ℕ → WorldView Request → Type 0
 Gives = AnswersLine (Responds GivesAnswer) (λ _ start text. RespondsLong start text) MAX_LINE
 
@@ -44,7 +44,7 @@ pub record IsResponse (w : WorldState Request) (line text : List ℕ) (after : W
   pub text_is : text ≡ (line_response w line).0
   pub stands : IsAt after (line_response w line).1
 
--- a line that was read so has the response of the definitions
+-- a line that was read in this way has the response of the definitions
 read_response : (before : WorldView Request) (w : WorldState Request) (read : Result (Option Call) LineFault)
     (text : List ℕ) (after : WorldView Request)
     → IsAt before w → RespondsTo GivesAnswer before read text after
@@ -90,20 +90,20 @@ script_is bytes first lines settings are accepted =
     sym (ap (λ (all : List (List ℕ)). script_with (settings_in all) (drop 1 all)) are
     ∙ ap (λ read. script_with read lines) accepted)
 
--- the lines of known bytes of which the run read all
+-- if the run read all of the known bytes, these are their lines
 all_lines : (was now : Reading) (lines : List (List ℕ)) (bytes : List ℕ) → to_come was ≡ Some bytes
     → TookLines was now lines → now.ended ≡ true → lines_of bytes ≡ lines
 all_lines was now lines bytes known took ended =
     let ahead = lines_ahead was now lines bytes known took in
     ahead.1 ∙ ap (λ (rest : List (List ℕ)). lines ++ rest) (ahead.2 ended) ∙ append-nil lines
 
--- the model refuses a line by its fault alone
+-- the model refuses a line only because of its fault
 own_fault : (read : Result SettingsValues SettingsFault) (fault : SettingsFault)
     → RefusesRead HasNone read (begin.Settings fault) → read ≡ Err fault
 own_fault (Err found) fault is = let same : fault ≡ found = cc in ap Err (sym same)
 own_fault (Ok settings) fault is = absurd is
 
--- what the model refuses is the settings in front of known bytes
+-- if the model refuses, it refuses the settings in front of known bytes
 refused_in : (was now : Reading) (fault : SettingsFault) (bytes : List ℕ) → to_come was ≡ Some bytes
     → IsRefused (RefusesLine HasNone) fault was now → settings_in (lines_of bytes) ≡ Err fault
 refused_in was now fault bytes known (inl (took, ended, is)) =
@@ -132,7 +132,7 @@ ran_script was now ran = by_known (to_come was.reading) refl
         let P : List ℕ → Type 0 = λ t. Wrote was.writing now.writing t in
         subst P (is ∙ script_is bytes ran.first ran.lines b.0 are b.1) ran.wrote
 
--- its settings were accepted
+-- the settings of a run that went through were accepted
 pub accepted_settings : (was now : Transcript) → RanScript WritesLines was now → AcceptsSettings was
 accepted_settings was now ran = by_known (to_come was.reading) refl
   where
@@ -144,7 +144,7 @@ accepted_settings was now ran = by_known (to_come was.reading) refl
         let P : Result SettingsValues SettingsFault → Type 0 = IsOk in
         subst P (sym (ap settings_in are ∙ ran.whole.2.1)) refl
 
--- and so does one whose settings are refused
+-- a run whose settings are refused writes the script too
 pub refused_script : (was now : Transcript) → RefusedScript (RefusesLine HasNone) Wrote was now → WroteScript was now
 refused_script was now run = by_known (to_come was.reading) refl
   where
@@ -175,7 +175,7 @@ begins_any (Ok settings) is = is
 pub begins_alone : (was now : Transcript) → Unbegun (RefusesLine HasNone) was now → ⊥
 begins_alone was now unbegun = begins_any (settings_of unbegun.0) unbegun.2
 
--- so does every run that ends
+-- every run that ends writes the script
 pub wrote_script : (was now : Transcript) (result : Result Status RunFault)
     → (result ≡ Ok Ran → RanScript WritesLines was now)
     → (result ≡ Ok BadSettings → RefusedScript (RefusesLine HasNone) Wrote was now) → OnOk result (WroteScript was now)
@@ -183,7 +183,7 @@ wrote_script was now (Ok Ran) ran bad = ran_script was now (ran refl)
 wrote_script was now (Ok BadSettings) ran bad = refused_script was now (bad refl)
 wrote_script was now (Err fault) ran bad = tt
 
--- what a run of the model has to write before it comes to a line is the script of the lines before that
+-- before a run of the model comes to a line, it must write the script of the lines before that one
 pub writes_script : (before : List (List ℕ)) (text : List ℕ) → WritesLines before text → WritesScript before text
 writes_script [] text none = none
 writes_script (first ∷ lines) text (begun, ended, (settings, accepted, new), all) =

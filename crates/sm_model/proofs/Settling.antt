@@ -1,4 +1,4 @@
--- A call that is made at a world where no request is under way ends in a step that answers the script, and leaves no
+-- A call that is made at a world with no request under way ends in a step that answers the script, and leaves no
 -- request under way.
 use Rattle.std.proofs.Common.{◌≡◌, zero, suc, ◌+◌, arith, ◌<◌, ◌++◌, ◌∷◌, [], Bool, true, false, ℕ, List, length, sym}
 use Rattle.std.proofs.Common.{subst, refl, Option, Some, None, Result, Ok, Err, is_some, nat_lt, if◌then◌else◌}
@@ -83,7 +83,7 @@ begun_settles w to envelope within rest =
     subst P (sym (get_or-set_same w.in_hand envelope.shard (Some (hand_of to envelope)) None within))
     (worked_settles after envelope.shard to (record { number = envelope.number; request = envelope.request }) rest)
 
--- what becomes of an envelope after its first delivery, where so many hops are left
+-- how an envelope goes on after its first delivery, with this many hops left
 abbrev continued : ℕ → Stepped → Stepped
 continued zero went = went
 continued (suc hops) went = if is_forwarded went.0 then after_hops hops went.1 else went
@@ -92,16 +92,16 @@ after_hops_there : (left : ℕ) (went : Stepped) → is_forwarded went.0 ≡ fal
 after_hops_there zero went stays = refl
 after_hops_there (suc left) went stays = rw stays refl
 
--- the world with this envelope alone in flight
+-- the world with only this envelope in flight
 abbrev with_flight : WorldState Request → Flight Request → WorldState Request
 with_flight w flight = record w { in_flight = flight ∷ [] }
 
--- the steps of a request whose envelope is in flight, where so many hops are left
+-- the steps of a request whose envelope is in flight, with this many hops left
 abbrev arrives : ℕ → WorldState Request → Flight Request → Stepped
 arrives left w flight = let went = after_hops left (with_flight w flight) in
     after_arrival flight.envelope.shard went.0 went.1
 
--- the same after the first delivery
+-- the same steps after the first delivery
 abbrev continues : ℕ → ℕ → Stepped → Stepped
 continues left shard went = let whole = continued left went in after_arrival shard whole.0 whole.1
 
@@ -118,7 +118,7 @@ reached_settles left w to envelope (Some fault) within rest =
 reached_settles left w to envelope None within rest =
     stays_settles left envelope.shard (reached w to envelope None) refl (begun_settles w to envelope within rest)
 
--- a forwarded envelope is in flight again where a hop is left
+-- a forwarded envelope is in flight again if a hop is left
 hop_settles : (left : ℕ) (w : WorldState Request) (flight : Flight Request) (to : ℕ)
     → flight.envelope.hops + left ≡ MOST_HOPS
     → ((fewer : ℕ) → left ≡ suc fewer
@@ -178,7 +178,7 @@ flight_of w request to = record {
   };
 }
 
--- a request is refused where the server is unknown or isn't reached, and else sent, and arrives
+-- a request is refused if the server is unknown or isn't reached; otherwise it is sent, and arrives
 sent_settles : (w : WorldState Request) (in_flight : List (Flight Request)) (request : Request) (server : ℕ)
     (known reached : Bool) → in_flight ≡ [] → shard_for w request < length w.in_hand
     → Settles (let went : Stepped = if known then (if reached
@@ -206,7 +206,7 @@ requested_settles : (w : WorldState Request) (request : Request) (owner : Option
 requested_settles w request None within rest = record { answers = refl; rest = rest }
 requested_settles w request (Some owner) within rest = requested_at_settles w request owner within rest
 
--- an admission without a request, which leaves what is in flight
+-- an admission without a request, which doesn't change the envelopes in flight
 admission_settles : (w made : WorldState Request) (there known : Bool) (fault : Option AdmitFault)
     → w.in_flight ≡ [] → made.in_flight ≡ []
     → Settles
@@ -256,7 +256,7 @@ has_place w request sound =
     let Within : ℕ → Type 0 = λ n. shard_for w request < n in
     subst Within (sym sound.hands) (shard_within w.frame.bounds (key_of_request request) sound.frame.layout)
 
--- so does each call
+-- each call settles
 pub settles : (w : WorldState Request) (call : Call) → IsSound w → w.in_flight ≡ [] → Settles (called w call)
 settles w (call.Control command) sound rest = control_settles w command _ rest
 settles w call.Place sound rest = record { answers = refl; rest = rest }
@@ -279,7 +279,7 @@ settles w (call.RequestAt server request) sound rest =
 settles w (call.RequestByRoute request) sound rest =
     requested_by_settles w request (routes_of w.publications (shard_for w request)) (has_place w request sound) rest
 
--- ---- whatever calls were made before
+-- ---- after any earlier calls
 
 one_of_sound : (first : Bool) (one other : Stepped) → IsSound one.1 → IsSound other.1
     → IsSound (if first then one else other).1

@@ -21,21 +21,21 @@ use Rattle.sm_table.specs.World.{WorldState}
 abbrev pub after_arrival : ℕ → Result (WorldAnswer Reply) WorldFault → WorldState Request → Stepped
 after_arrival shard result w = if is_begun result then stepped w (Finish shard) else (result, w)
 
--- a request that was sent arrives, and is finished where a server began it
+-- a request that was sent arrives, and is finished if a server began it
 abbrev pub after_sending : ℕ → Result (WorldAnswer Reply) WorldFault → WorldState Request → Stepped
 after_sending shard result w = if is_sent result
     then (let reached = after_hops MOST_HOPS w in after_arrival shard reached.0 reached.1) else (result, w)
 
--- a request goes to the shard's owner, where there is one
+-- a request goes to the shard's owner, if there is one
 abbrev pub requested : WorldState Request → Request → ℕ → Option ℕ → Stepped
 requested w request shard owner =
     option_map_or (requested_at w request shard) owner (Ok (Refused (refusal.Admit admit.Vacant)), w)
 
--- a client's request goes by the shard's route, where there is one
+-- a client's request goes by the shard's route, if there is one
 abbrev pub requested_by : WorldState Request → Request → ℕ → Option Route → Stepped
 requested_by w request shard route =
     option_map_or (λ (one : Route). requested_at w request shard one.server) route (Ok Made, w)
 
--- a client's request is refused where there is no route
+-- a client's request is refused if there is no route
 abbrev pub unless_route : Option Route → Option LineAnswer
 unless_route route = option_map_or (λ (one : Route). None) route (Some (IsRefused refused.NoRoute))

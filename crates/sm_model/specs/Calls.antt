@@ -1,4 +1,4 @@
--- What each call of a script answers on a world, and the world that it leaves.
+-- The answer to each call of a script at a world, and the world that the call leaves.
 use Rattle.std.specs.Prelude.{ℕ, zero, suc, Bool, true, false, Option, Some, None, Result, Ok, Err, if◌then◌else◌, List}
 use Rattle.std.specs.Prelude.{[], ◌∷◌, length, replicate}
 use Rattle.std.specs.Option.{option_map_or, option_or}
@@ -43,7 +43,8 @@ settings_frame settings = record {
   limits = replicate (length settings.bounds) settings.kept;
 }
 
--- the answer to a call that ended in this step; its last step has one, but for want of memory, which ends the run
+-- the answer to a call that ended in this step; its last step has an answer unless memory was refused, and that ends
+-- the run
 abbrev pub answer_of : Result (WorldAnswer Reply) WorldFault → Option LineAnswer
 answer_of (Ok Made) = Some IsMade
 answer_of (Ok (Seen state)) = Some (IsSeen state)
@@ -63,11 +64,11 @@ answer_of (Err fault.OldRoute) = Some (IsRefused refused.OldRoute)
 answer_of (Err fault.WrongPhase) = Some (IsRefused refused.WrongPhase)
 answer_of _ = None
 
--- a step with ample memory: what it answers, and the world that it leaves
+-- a step with ample memory: its answer, and the world that it leaves
 abbrev pub Stepped : Type 0
 Stepped = Result (WorldAnswer Reply) WorldFault × WorldState Request
 
--- what a step of the world answers and leaves, no memory refused
+-- the answer to a step of the world and the world that it leaves, if no memory is refused
 abbrev pub stepped : WorldState Request → Step Request → Stepped
 stepped w step = outcome counter_text w Plain step
 
@@ -86,14 +87,14 @@ abbrev pub is_forwarded : Result (WorldAnswer Reply) WorldFault → Bool
 is_forwarded (Ok (Forwarded server)) = true
 is_forwarded _ = false
 
--- one request at a time is under way, so its envelope is the first in flight: it is delivered, and again after each of
--- so many hops
+-- only one request at a time is under way, so its envelope is the first in flight: it is delivered, and again after
+-- each of this many hops
 abbrev pub after_hops : ℕ → WorldState Request → Stepped
 after_hops zero w = stepped w (Deliver 0)
 after_hops (suc hops) w = let reached = stepped w (Deliver 0) in
     if is_forwarded reached.0 then after_hops hops reached.1 else reached
 
--- a request is sent to this server, arrives, and is finished where a server began it
+-- a request is sent to this server, arrives, and is finished if a server began it
 abbrev pub requested_at : WorldState Request → Request → ℕ → ℕ → Stepped
 requested_at w request shard server = let sent = stepped w (Send server 0 request) in
     if is_sent sent.0 then (let reached = after_hops MOST_HOPS sent.1 in
@@ -103,7 +104,7 @@ requested_at w request shard server = let sent = stepped w (Send server 0 reques
 abbrev pub shard_for : WorldState Request → Request → ℕ
 shard_for w request = shard_of w.frame.bounds (key_of_request request)
 
--- whether the call makes steps at every world, and is answered as the last of them
+-- the call makes steps at every world, and its answer is the answer to the last of them
 abbrev pub ends_in_step : Call → Bool
 ends_in_step call.Place = false
 ends_in_step (call.Drain server) = false
@@ -115,8 +116,8 @@ ends_in_step asked = true
 abbrev pub route_for : WorldState Request → Request → Option Route
 route_for w request = routes_of w.publications (shard_for w request)
 
--- the answer to a call that makes no step here: a plan by the books of the world, that a client has no route, or that
--- clients at the same time don't run here
+-- the answer to a call that makes no step here: a plan by the books of the world, or the fault that a client has no
+-- route, or that clients at the same time don't run here
 abbrev pub answer_without_steps : WorldState Request → Call → Option LineAnswer
 answer_without_steps w call.Place = Some (Planned (assign_plan w.desk.books))
 answer_without_steps w (call.Drain server) =
@@ -126,8 +127,8 @@ answer_without_steps w (call.RequestByRoute request) =
 answer_without_steps w (call.Load key clients each) = Some (IsError NotHere)
 answer_without_steps w asked = None
 
--- the steps of a call, where it makes any: a request goes to the shard's owner, and is refused where there is none; a
--- client's goes by the published route
+-- the steps of a call, if it makes any: a request goes to the shard's owner, and is refused if there is no owner; a
+-- client's request goes by the published route
 abbrev pub called : WorldState Request → Call → Stepped
 called w (call.Control command) = stepped w (Control command)
 called w (call.Hold shard server) = stepped w (Hold shard server)
@@ -143,7 +144,7 @@ called w (call.RequestByRoute request) = option_map_or
     (λ route. requested_at w request (shard_for w request) route.server) (route_for w request) (Ok Made, w)
 called w asked = (Ok Made, w)
 
--- the answer to a call: that of a call that makes no step, or that to its last step
+-- the answer to a call: the answer to its last step, or the answer to a call without steps
 abbrev pub answered : WorldState Request → Call → Option LineAnswer
 answered w asked = option_or (answer_without_steps w asked) (answer_of (called w asked).0)
 

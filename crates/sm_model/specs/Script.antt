@@ -1,4 +1,4 @@
--- What the program writes for what it reads.
+-- The bytes that the program writes for the bytes that it reads.
 use Rattle.std.specs.Prelude.{ℕ, Option, Some, None, Result, Ok, Err, List, [], ◌∷◌, ◌++◌, drop, unwrap_or}
 use Rattle.std.specs.Option.{option_map}
 use Rattle.sm_lines.specs.Lines.{lines_of}
@@ -14,33 +14,33 @@ use Rattle.sm_settings.specs.declared.settings_fault.SettingsFault.{SettingsFaul
 use Rattle.sm_table.specs.World.{WorldState, empty_world}
 use Rattle.sm_model.specs.Calls.{answered, called, settings_frame}
 
--- what is written for a line that was read so, and the world that it leaves. Each call has an answer, as the law
--- `every_call_answered` says
+-- the bytes for a line that was read in this way, and the world that it leaves. Each call has an answer, because of the
+-- law `every_call_answered`
 abbrev pub responded : WorldState Request → Result (Option Call) LineFault → List ℕ × WorldState Request
 responded w (Err fault) = (answer_line (Error fault), w)
 responded w (Ok None) = ([], w)
 responded w (Ok (Some call)) = (unwrap_or (option_map answer_line (answered w call)) [], (called w call).1)
 
--- what is written for a line of a script, and the world that it leaves
+-- the bytes for a line of a script, and the world that it leaves
 abbrev pub line_response : WorldState Request → List ℕ → List ℕ × WorldState Request
 line_response w line = responded w (call_of_line line)
 
--- what is written for all lines, one after another
+-- the bytes for all lines, one after another
 abbrev pub responses : WorldState Request → List (List ℕ) → List ℕ
 responses w [] = []
 responses w (line ∷ lines) = let first = line_response w line in first.0 ++ responses first.1 lines
 
--- what is written where the settings in front were read so: their fault, or the answers to the other lines on the world
--- that they ask for
+-- the bytes for a script whose settings were read in this way: the fault of the settings, or the answers to the other
+-- lines at the world that the settings ask for
 abbrev pub script_with : Result SettingsValues SettingsFault → List (List ℕ) → List ℕ
 script_with (Err fault) lines = settings_line fault
 script_with (Ok settings) lines = responses (empty_world (settings_frame settings)) lines
 
--- what the program writes for the bytes that it reads
+-- the bytes that the program writes for the bytes that it reads
 abbrev pub script : List ℕ → List ℕ
 script bytes = script_with (settings_in (lines_of bytes)) (drop 1 (lines_of bytes))
 
--- the script of the lines before one: nothing before the first
+-- the script of the lines before one: nothing before the first line
 abbrev pub script_before : List (List ℕ) → List ℕ
 script_before [] = []
 script_before (first ∷ lines) = script_with (settings_of first) lines

@@ -1,4 +1,4 @@
--- When a world's backend stands at a world of the definitions, and what it answers there.
+-- When a world's backend is at a world of the definitions, and its answers there.
 use Rattle.std.specs.Prelude.{◌≡◌, [], Some, Result, true, is_some}
 use Rattle.sm_envelope.specs.declared.envelope.TheConstants.{MOST_HOPS}
 use Rattle.sm_model.specs.Calls.{Stepped, after_hops, answer_of, answered, called, settings_frame, stepped}
@@ -18,24 +18,24 @@ pub record IsAt (view : WorldView Request) (w : WorldState Request) : Type 0 whe
   pub world : StandsFor view w
   pub rest : w.in_flight ≡ []
 
--- it is at a world of the definitions
+-- the session is at a world of the definitions
 abbrev pub IsIdle : WorldView Request → Type 0
 IsIdle view = (w : WorldState Request) × IsAt view w
 
--- the session that settings begin: nothing has happened in its world
+-- the session that settings begin: nothing has happened in its world yet
 abbrev pub IsNew : SettingsValues → WorldView Request → Type 0
 IsNew settings view = IsAt view (empty_world (settings_frame settings))
 
 -- ---- a call
 
--- at every world the call has this answer, and leaves the world that it should
+-- at every world the call has this answer, and leaves the world that it must leave
 abbrev pub GivesAnswer : WorldView Request → Call → LineAnswer → WorldView Request → Type 0
 GivesAnswer before call answer after =
     (w : WorldState Request) → IsAt before w → (answered w call ≡ Some answer) × IsAt after (called w call).1
 
 -- ---- the steps of a call
 
--- unless memory was refused, the script has an answer to a call that ended so
+-- unless memory was refused, the script has an answer to a call that ended in this way
 abbrev pub HasAnswer : Result (WorldAnswer Reply) WorldFault → Type 0
 HasAnswer ended = mark_of ended ≡ Plain → is_some (answer_of ended) ≡ true
 

@@ -24,7 +24,7 @@ use sm_table::world_answer::WorldAnswer;
 use sm_table::world_fault::WorldFault;
 use std::alloc::AllocError;
 
-/// Carries out the call to the step that ends it.
+/// Makes the steps of the call, up to the step that ends it.
 pub(crate) fn carry_out(
     world: &mut World<CounterText>,
     call: Call,
@@ -63,7 +63,7 @@ fn make(
     world.step(step)
 }
 
-/// Has the server make the shard's present state its base.
+/// Makes the shard's present state its base, at the server.
 fn make_checkpoint(
     world: &mut World<CounterText>,
     shard: ShardId,
@@ -74,7 +74,7 @@ fn make_checkpoint(
     world.step(Step::Checkpoint(shard, server))
 }
 
-/// Has the request executed by the owner of its key's shard.
+/// Executes the request at the owner of its key's shard.
 fn run_request(
     world: &mut World<CounterText>,
     request: Request,
@@ -88,7 +88,7 @@ fn run_request(
     }
 }
 
-/// Sends the request of this shard to the server, has it delivered, and finishes it where it began.
+/// Sends the request for this shard to the server, delivers it, and finishes it at the server that began it.
 pub(crate) fn run_request_at(
     world: &mut World<CounterText>,
     shard: ShardId,
@@ -110,7 +110,7 @@ pub(crate) fn run_request_at(
     world.step(Step::Finish(shard))
 }
 
-/// Has the envelope in flight delivered, and again after each hop, until a server begins its request or refuses it.
+/// Delivers the envelope in flight, and again after each hop, until a server begins its request or refuses it.
 fn arrive(world: &mut World<CounterText>) -> Result<WorldAnswer<Reply>, WorldFault>
     ensures { Arrives world.old result world.new }
 {
@@ -123,28 +123,28 @@ fn arrive(world: &mut World<CounterText>) -> Result<WorldAnswer<Reply>, WorldFau
     make(world, Step::Deliver(0))
 }
 
-/// Whether the step put a request in flight.
+/// Returns whether the step put a request in flight.
 fn is_sent(answer: &Result<WorldAnswer<Reply>, WorldFault>) -> bool
     ensures { result ≡ is_sent answer.now }
 {
     matches!(answer, Ok(WorldAnswer::Sent))
 }
 
-/// Whether the step had a server begin a request.
+/// Returns whether a server began a request in this step.
 fn is_begun(answer: &Result<WorldAnswer<Reply>, WorldFault>) -> bool
     ensures { result ≡ is_begun answer.now }
 {
     matches!(answer, Ok(WorldAnswer::Began(_)))
 }
 
-/// Whether the step had a server forward a request.
+/// Returns whether a server forwarded a request in this step.
 fn is_forwarded(answer: &Result<WorldAnswer<Reply>, WorldFault>) -> bool
     ensures { result ≡ is_forwarded answer.now }
 {
     matches!(answer, Ok(WorldAnswer::Forwarded(_)))
 }
 
-/// The answer to a call that ended in this step; an error is want of memory.
+/// Returns the answer to a call that ended in this step. Returns an error only if memory is refused.
 pub(crate) fn answer_of(
     ended: Result<WorldAnswer<Reply>, WorldFault>,
 ) -> Result<LineAnswer, AllocError>
@@ -158,7 +158,7 @@ pub(crate) fn answer_of(
     }
 }
 
-/// The answer to a call whose last step was made; an error is want of memory.
+/// Returns the answer to a call whose last step was made. Returns an error only if memory is refused.
 fn answer_of_made(made: WorldAnswer<Reply>) -> Result<LineAnswer, AllocError>
     requires { HasAnswer (Ok made) }
     ensures ok { IfOk result (λ answer. answer_of (Ok made) ≡ Some answer) }
@@ -183,7 +183,7 @@ fn answer_of_made(made: WorldAnswer<Reply>) -> Result<LineAnswer, AllocError>
     }
 }
 
-/// The answer to a request that was refused; an error is want of memory.
+/// Returns the answer to a request that was refused. Returns an error only if memory is refused.
 fn answer_of_refusal(refusal: Refusal) -> Result<LineAnswer, AllocError>
     ensures ok { IfOk result (λ answer. answer_of (Ok (AnyRefused refusal)) ≡ Some answer) }
     ensures err { OnErr result (refusal ≡ Refusal.NoMemory) }
@@ -197,7 +197,7 @@ fn answer_of_refusal(refusal: Refusal) -> Result<LineAnswer, AllocError>
     }
 }
 
-/// The answer to a call whose last step was refused; an error is want of memory.
+/// Returns the answer to a call whose last step was refused. Returns an error only if memory is refused.
 fn answer_of_fault(fault: WorldFault) -> Result<LineAnswer, AllocError>
     requires { HasAnswer (Err fault) }
     ensures ok { IfOk result (λ answer. answer_of (Err fault) ≡ Some answer) }

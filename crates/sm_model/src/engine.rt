@@ -5,6 +5,7 @@ ghost use Rattle.sm_lines.specs.Openings.{HasNone, RefusesLine};
 ghost use Rattle.sm_model.specs.Runs.{AcceptsSettings, RefusesSettings, WritesScript, WroteScript};
 
 use crate::world_backend::WorldBackend;
+use sm_explain::{Explained, Listener};
 use sm_lines::{BeginFault, Dialogue, Engine, RunFault, Status, read_settings, run};
 use sm_session::Session;
 use std::alloc::Global;
@@ -17,7 +18,7 @@ pub struct ModelEngine {
 }
 
 impl ModelEngine {
-    /// An engine that takes its memory from this allocator.
+    /// Returns an engine that takes its memory from this allocator.
     pub fn new(alloc: Global) -> ModelEngine {
         ModelEngine { alloc }
     }
@@ -49,27 +50,44 @@ impl Engine for ModelEngine {
     fn end(&mut self, _session: Session<WorldBackend>) {}
 }
 
-/// Runs the script of the dialogue's reader on the model, and writes its answers. What is said of bytes holds of a
-/// reader and a writer that tell theirs.
+/// Runs the script of the dialogue's reader on the model, and writes its answers. Statements about bytes hold for a
+/// reader and a writer whose bytes are known.
 ///
-/// `Read` comes only where the reader failed, or 2^32 of its calls or lines were counted; `Write` only where the writer
-/// failed; `NoMemory` only where neither failed. The answers to all lines before the one at which a fault came were
-/// written, and nothing else, but for a front of that line's answer where writing failed. Where memory was refused, all
-/// lines before that one were taken off the reader, and beyond it at most a piece was read.
+/// Returns `Read` only if the reader failed, or 2^32 of its calls or lines were counted; `Write` only if the writer
+/// failed; `NoMemory` only if neither failed. The answers to all lines before the one at which a fault came were
+/// written, and nothing else, but for the first part of that line's answer if writing failed. If memory was refused,
+/// all lines before that one were taken off the reader, and at most a piece was read beyond it.
 pub fn run_model<R: Read + Drop, W: Write + Drop>(
     alloc: Global,
     dialogue: &mut Dialogue<R, W>,
 ) -> Result<Status, RunFault>
-    // What was written is the script of what was read, and nothing else.
+    // Exactly the script of the input was written.
     ensures wrote { OnOk result (WroteScript dialogue.old dialogue.new) }
     ensures ran { result ≡ Ok Status.Ran → AcceptsSettings dialogue.old }
     ensures bad_settings { result ≡ Ok Status.BadSettings → RefusesSettings dialogue.old }
 
-    // Exactly the script of all lines before the one at which a fault came was written, but for a front of that
+    // Exactly the script of all lines before the one at which a fault came was written, but for the first part of that
     // line's answer.
     ensures stopped { StoppedEarly (RefusesLine HasNone) WritesScript result dialogue.old dialogue.new }
     ensures no_thread { result ≢ Err RunFault.NoThread }
     ensures watched { KeepsWatch result dialogue.old dialogue.new }
 {
     run(alloc, dialogue, &mut ModelEngine::new(alloc))
+}
+
+/// The same, and tells the listener why lines were refused.
+pub fn run_model_explained<R: Read + Drop, W: Write + Drop, L: Listener + Copy + Drop>(
+    alloc: Global,
+    dialogue: &mut Dialogue<R, W>,
+    listener: L,
+) -> Result<Status, RunFault>
+    ensures wrote { OnOk result (WroteScript dialogue.old dialogue.new) }
+    ensures ran { result ≡ Ok Status.Ran → AcceptsSettings dialogue.old }
+    ensures bad_settings { result ≡ Ok Status.BadSettings → RefusesSettings dialogue.old }
+    ensures stopped { StoppedEarly (RefusesLine HasNone) WritesScript result dialogue.old dialogue.new }
+    ensures no_thread { result ≢ Err RunFault.NoThread }
+    ensures watched { KeepsWatch result dialogue.old dialogue.new }
+{
+    let mut engine = Explained::new(ModelEngine::new(alloc), listener);
+    run(alloc, dialogue, &mut engine)
 }

@@ -6,8 +6,8 @@ ghost use Rattle.sm_table.specs.Standing.{IsFrame};
 ghost use Rattle.sm_table.specs.World.{Frame, empty_world};
 ghost use Rattle.sm_model.specs.Calls.{answered, called, world_after_calls};
 
-/// As long as no memory is refused: whatever calls a script has made, its next call has an answer, and leaves no
-/// request under way.
+/// If no memory is refused, then after any calls of a script its next call has an answer, and leaves no request under
+/// way.
 pub fn every_call_answered()
     ensures { (frame : Frame) (calls : List Call) (call : Call) → IsFrame frame
         → let w = world_after_calls (empty_world frame) calls in

@@ -13,5 +13,5 @@ pub mod engine;
 pub mod laws;
 mod world_backend;
 
-pub use engine::{ModelEngine, run_model};
+pub use engine::{ModelEngine, run_model, run_model_explained};
 pub use world_backend::WorldBackend;

@@ -42,7 +42,7 @@ impl Model for WorldBackend {
 }
 
 impl WorldBackend {
-    /// The world with these settings in which nothing has happened.
+    /// Returns a world with these settings, in which nothing has happened yet.
     pub fn new(alloc: Global, settings: Settings) -> Result<WorldBackend, AllocError>
         requires { KeepsRules (values_of settings) }
         ensures { IfOk result (IsNew (values_of settings)) }
@@ -59,7 +59,7 @@ impl WorldBackend {
         Ok(WorldBackend { alloc, world })
     }
 
-    /// Makes the steps of the call; an error is want of memory.
+    /// Makes the steps of the call. Returns an error only if memory is refused.
     fn make(&mut self, call: Call) -> Result<LineAnswer, AllocError>
         requires { ends_in_step call ≡ true }
         ensures { IfOk result (λ answer. GivesAnswer self.old call answer self.new) }
@@ -67,7 +67,7 @@ impl WorldBackend {
         answer_of(carry_out(&mut self.world, call))
     }
 
-    /// Has the request of this shard executed from the server on; an error is want of memory.
+    /// Executes the request for this shard, from the server on. Returns an error only if memory is refused.
     fn ask_at(
         &mut self,
         shard: ShardId,

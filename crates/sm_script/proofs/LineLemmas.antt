@@ -1,4 +1,4 @@
--- What the fault of a line's words says of the line.
+-- From the fault of a line's words to the fault of the line.
 use Rattle.std.proofs.Common.{◌≡◌, ◌≤◌, false, ℕ, List, length, rules, Option, Some, None, Result, Ok, Err, IsTrue}
 use Rattle.std.proofs.Common.{nat_lt, arith}
 use Rattle.sm_script.specs.declared.call.Call.{Call}
@@ -13,7 +13,7 @@ use Rattle.sm_script.specs.Lines.{call_of_words, call_of_line}
 use Rattle.sm_script.specs.Words.{words_of}
 use Rattle.sm_service.specs.declared.request.Request.{Request}
 
--- why the words give no call is why the line gives none
+-- the reason for which the words give no call is the reason for which the line gives none
 some_fault : (fault : ParseFault) (asked : Result Call LineFault) → IsFaultIn fault asked
     → IsFaultOf fault (result_map_both Some (λ fault. fault) asked)
 some_fault (Line fault) (Ok asked) is = cc
@@ -29,7 +29,7 @@ fault_of_line line words fault answered short view is =
     let within : nat_lt MAX_LINE (length line) ≡ false = grind (arith) in
     rw (answered, within, ← view) (some_fault fault (call_of_words words) is)
 
--- why there is no request is why there is no call that makes it
+-- the reason for which there is no request is the reason for which there is no call that makes it
 pub fault_of_request : (made : Request → Call) (none : Option LineFault) (asked : Result Request LineFault)
     (fault : ParseFault) → ((request : Request) → IsTrue (has_request (made request))) → none ≡ None
     → IsRequestFault fault asked

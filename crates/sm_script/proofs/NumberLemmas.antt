@@ -39,13 +39,13 @@ number-read word text r e same parsed is fits =
       fits.1,
     )
 
--- a number that begins with `0` is no longer
+-- a number that begins with `0` has no more digits
 length-zero : (word : List ℕ) → is_number word ≡ true → slice_index_or word 0 0 ≡ 48 → length word ≡ 1
 length-zero [] h starts = cc
 length-zero (digit ∷ []) h starts = refl
 length-zero (digit ∷ next ∷ digits) h starts = grind (arith, common_steps)
 
--- a number is what `decimal` writes of its value
+-- `decimal` writes each number's value as that number
 number-is_decimal : (word : List ℕ) → is_number word ≡ true → number word < 2 ^ 64 → word ≡ decimal (number word)
 number-is_decimal word h small =
     sym (decimal-digits_value numerals word (only_digits word h) (length-number word h) (length-zero word h) small)
@@ -66,7 +66,7 @@ is_number-decimal n small =
     let digits = digits_decimal numerals n small in
     rw (plain, digits) refl
 
--- so is the number that is read
+-- `decimal` also writes the number that is read
 pub read-is_decimal : {E : Type 0} (word text : List ℕ) (r : Result ℕ E) (n : ℕ) → is_number word ≡ true → text ≡ word
     → ParsesUnsigned 64 10 text r → r ≡ Ok n → word ≡ decimal n
 read-is_decimal word text r n h same parsed is =
@@ -74,7 +74,7 @@ read-is_decimal word text r n h same parsed is =
     (parse_digits numerals 64 word r (rw same at parsed) (only_digits word h)) is in
     number-is_decimal word h value.0.1 ∙ ap decimal (sym value.1)
 
--- what is no number of 64 bits isn't what `decimal` writes of one
+-- a word that isn't a number of 64 bits isn't one that `decimal` writes of such a number
 pub not_decimal : (word : List ℕ) → (IsTrue (is_number word) × (number word < 2 ^ 64) → ⊥) → (n : ℕ) → n < 2 ^ 64
     → word ≢ decimal n
 not_decimal word other n small is =
@@ -82,7 +82,7 @@ not_decimal word other n small is =
     let fits : number (decimal n) < 2 ^ 64 = rw value small in
     other (rw is (is_number-decimal n small, fits))
 
--- nor is what is no number at all
+-- nor is a word that isn't a number
 pub not_number : (word : List ℕ) (answer : Bool) → answer ≡ is_number word → answer ≡ false → (n : ℕ) → n < 2 ^ 64
     → word ≢ decimal n
 not_number word answer is refused = not_decimal word (λ number. let yes = number.0 in cc)

@@ -40,7 +40,7 @@ is_nil-words_of (byte ∷ line) = grind (arith, common_steps)
 pub text_of-words_of : (line : List ℕ) → join_with_byte 32 (words_of line) ≡ line
 text_of-words_of line = join_with_byte-slice_split 32 line
 
--- the words that are left are those of what is left of the line
+-- the words that are left are the words of the part of the line that is left
 pub words_left-some : (words : List (List ℕ)) (rest : Option (Bor (List ℕ))) (line : Bor (List ℕ))
     → words_left (option_copied rest) ≡ words → rest ≡ Some line → words ≡ words_of line.now
 words_left-some words rest line view is = sym view ∙ ap (λ r. words_left (option_copied r)) is

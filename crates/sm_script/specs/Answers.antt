@@ -82,7 +82,8 @@ refused_name (refused.Admit fault) = admit_fault_name fault
 refused_name refused.TooManyHops = codes "TooManyHops"
 refused_name refused.KeptFull = codes "KeptFull"
 
--- the number that the answer gives after it, where there is one: of the shard, group or domain at which it came
+-- the number that the answer gives after the name, if it gives one: of the shard, group or domain at which the refusal
+-- came
 abbrev pub refused_number : Refused → Option ℕ
 refused_number (refused.Command (command.Restart fault)) = restart_fault_number fault
 refused_number why = None
@@ -101,7 +102,8 @@ stand_name (Forwarding owner next) = codes "Forwarding"
 stand_name (Taken owner previous) = codes "Taken"
 stand_name (Paused owner) = codes "Paused"
 
--- a shard's record, between single spaces: its stand, its owner and the other server, or 0, admission and generation
+-- a shard's record, between single spaces: its stand, its owner and the other server, or 0 if there is none, its
+-- admission and its generation
 abbrev pub record_text : Record → List ℕ
 record_text state =
     join_with_byte 32 (
@@ -119,7 +121,7 @@ route_text route =
 abbrev pub counted : List ℕ → List ℕ
 counted bytes = decimal (length bytes) ++ codes ":" ++ bytes
 
--- what a key holds, in a scan
+-- the value of a key, in a scan
 abbrev pub held_text : KeyValue → List ℕ
 held_text (HeldText text) = codes " t" ++ counted text
 held_text (HeldCount count) = codes " c" ++ signed_decimal count
@@ -143,7 +145,7 @@ reply_text TooLong = codes "reply TooLong"
 abbrev pub move_text : Move → List ℕ
 move_text one = codes " " ++ decimal one.shard ++ codes ">" ++ decimal one.to
 
--- a shard that is left
+-- a shard that the plan leaves
 abbrev pub left_text : ℕ → List ℕ
 left_text shard = codes " " ++ decimal shard
 
@@ -151,7 +153,7 @@ left_text shard = codes " " ++ decimal shard
 abbrev pub plan_text : PlanView → List ℕ
 plan_text plan = codes "plan" ++ flat_map move_text plan.moves ++ codes " left" ++ flat_map left_text plan.left
 
--- what the counts of a load say
+-- the verdict by the counts of a load
 abbrev pub load_verdict_name : LoadVerdict → List ℕ
 load_verdict_name Agrees = codes "ok"
 load_verdict_name Unknown = codes "unknown"

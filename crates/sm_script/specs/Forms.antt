@@ -1,4 +1,4 @@
--- The table of the forms of lines, which is a constant of the code, and what is looked up in it.
+-- The table of the forms of lines, which is a constant of the code, and how forms are looked up in it.
 use Rattle.std.specs.Prelude.{◌≡◌, ◌&&◌, ℕ, List, [], ◌∷◌, Option, Bool, true, false, map}
 use Rattle.std.specs.Borrow.{Bor}
 use Rattle.std.specs.List.{find, list_any}
@@ -10,8 +10,8 @@ use Rattle.sm_script.specs.declared.topic.Topic.TheVariants.{Requests}
 use Rattle.sm_script.specs.declared.word.Word.{Word}
 use Rattle.sm_script.specs.declared.word.TheConstants.{FORMS}
 
--- all that a form says, by its bytes: what the line becomes, its word, what the words after it have to be, and what is
--- printed of it
+-- everything that a form says, as bytes: the call that the line becomes, its word, the shapes of the words after it,
+-- and the texts that are printed of it
 pub record FormRow : Type 0 where
   pub word : Word
   pub name : List ℕ
@@ -58,7 +58,7 @@ is_request _ = false
 abbrev pub request_form_named : List ℕ → Option FormRow
 request_form_named bytes = find (λ row. is_request row.topic && bytes_eq row.name bytes) table
 
--- no name stands twice
+-- no name comes twice
 abbrev pub NamesDiffer : List (List ℕ) → Type 0
 NamesDiffer [] = Unit
 NamesDiffer (name ∷ names) = (list_any (bytes_eq name) names ≡ false) × NamesDiffer names

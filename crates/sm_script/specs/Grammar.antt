@@ -1,4 +1,4 @@
--- The grammar of a script's lines: what the words after the first one have to be.
+-- The grammar of a script's lines: the shapes that the words after the first one must have.
 use Rattle.std.specs.Prelude.{ℕ, Bool, true, false, ◌&&◌, ◌||◌, nat_le, if◌then◌else◌, List, [], ◌∷◌, length, Option}
 use Rattle.std.specs.Prelude.{None, Some, is_some}
 use Rattle.std.specs.Option.{option_or}
@@ -11,7 +11,7 @@ use Rattle.sm_script.specs.declared.shape.TheConstants.{MAX_CLIENTS, MAX_EACH, M
 use Rattle.sm_script.specs.declared.shape.Shape.{Shape}
 use Rattle.sm_script.specs.declared.shape.Shape.TheVariants.{Shard, Server, Key, Text, Increment, Limit, Clients, Each}
 
--- what a word has to be, as it is written
+-- a word of this shape, as it is written
 abbrev pub takes_word : Shape → List ℕ → Bool
 takes_word Shard word = is_some (number_between 0 MAX_SHARD word)
 takes_word Server word = is_some (number_between 1 MAX_SERVER word)
@@ -22,7 +22,7 @@ takes_word Limit word = is_some (number_between 0 MAX_PAIRS word)
 takes_word Clients word = is_some (number_between 1 MAX_CLIENTS word)
 takes_word Each word = is_some (number_between 1 MAX_EACH word)
 
--- the fault where a word isn't of its shape
+-- the fault if a word isn't of its shape
 abbrev pub refusal : Shape → LineFault
 refusal Key = BadKey
 refusal _ = BadNumber
@@ -36,7 +36,7 @@ abbrev pub is_text : Shape → Bool
 is_text Text = true
 is_text _ = false
 
--- a word for each shape and no other; a text takes all words that are left, or none
+-- there is a word for each shape, and there are no others; a text takes all words that are left, or none
 abbrev pub takes_as_many : List Shape → List (List ℕ) → Bool
 takes_as_many [] words = is_nil words
 takes_as_many (shape ∷ shapes) [] = is_text shape
@@ -48,6 +48,7 @@ first_fault [] words = None
 first_fault (shape ∷ shapes) [] = None
 first_fault (shape ∷ shapes) (word ∷ words) = option_or (word_fault shape word) (first_fault shapes words)
 
--- too few or too many words, and then the leftmost word that isn't of its shape
+-- if there are too few or too many words, that is the fault; otherwise the fault is in the leftmost word that isn't of
+-- its shape
 abbrev pub arguments_fault : List Shape → List (List ℕ) → Option LineFault
 arguments_fault shapes words = if takes_as_many shapes words then first_fault shapes words else Some BadLine

@@ -1,4 +1,4 @@
--- What a line of a script asks for.
+-- The call that a line of a script asks for.
 use Rattle.std.specs.Prelude.{◌≡◌, ℕ, Bool, true, false, ◌==◌, IsOk, IsOkAnd, IsSomeAnd, IsTrue, if◌then◌else◌}
 use Rattle.std.specs.Prelude.{List, [], ◌∷◌, length, nat_lt, codes, Option, None, Some, Result, Ok, Err}
 use Rattle.std.specs.List.{join_with_byte}
@@ -32,7 +32,7 @@ use Rattle.sm_service.specs.declared.request.Request.TheVariants.{Append as Appe
 use Rattle.sm_service.specs.declared.request.Request.TheVariants.{Inc as IncRequest, Del as DelRequest}
 use Rattle.sm_service.specs.declared.request.Request.TheVariants.{Scan as ScanRequest}
 
--- the request of a word and the words after it, of these shapes, where nothing is wrong with them
+-- the request of a word and the words after it, of these shapes, if nothing is wrong with them
 abbrev pub request_with : List Shape → Word → List (List ℕ) → Result Request LineFault
 request_with (Key ∷ []) Get (key ∷ []) = Ok (GetRequest key)
 request_with (Key ∷ []) Del (key ∷ []) = Ok (DelRequest key)
@@ -60,7 +60,7 @@ shard_call Publish shard = Ok (call.Publish shard)
 shard_call Look shard = Ok (call.Look shard)
 shard_call _ shard = Err NotHere
 
--- of a server
+-- the call of a word and a server
 abbrev pub server_call : Word → ℕ → Result Call LineFault
 server_call Ask server = Ok (call.Control (command.Ask server))
 server_call Approve server = Ok (call.Control (command.Approve server))
@@ -70,7 +70,7 @@ server_call Fail server = Ok (call.Control (command.Fail server))
 server_call Drain server = Ok (call.Drain server)
 server_call _ server = Err NotHere
 
--- of a shard and a server
+-- the call of a word, a shard and a server
 abbrev pub shard_and_server_call : Word → ℕ → ℕ → Result Call LineFault
 shard_and_server_call Assign shard server = Ok (change_call shard (change.Assign server))
 shard_and_server_call PrepareAdd shard server = Ok (change_call shard (change.PrepareAddShard server))
@@ -79,7 +79,7 @@ shard_and_server_call Hold shard server = Ok (call.Hold shard server)
 shard_and_server_call Checkpoint shard server = Ok (call.Checkpoint shard server)
 shard_and_server_call _ shard server = Err NotHere
 
--- the call of a word that is no request, and of the words after it, of these shapes, where nothing is wrong with them
+-- the call of a word that isn't a request, and of the words after it, of these shapes, if nothing is wrong with them
 abbrev pub call_with : List Shape → Word → List (List ℕ) → Result Call LineFault
 call_with [] Place [] = Ok call.Place
 call_with (Shard ∷ []) word (shard ∷ []) = shard_call word (number shard)
@@ -106,25 +106,25 @@ abbrev pub at_server : List ℕ → FormRow → List (List ℕ) → Result Call 
 at_server server row words = option_map_or Err (arguments_fault (Server ∷ row.shapes) (server ∷ words))
     (result_map_both (call.RequestAt (number server)) (λ fault. fault) (request_with row.shapes row.word words))
 
--- the words after `at`: a server, and a request; whether there is such a request is seen first
+-- the call of the words after `at`: a server, and a request. If there is no such request, that is the first fault
 abbrev pub at_call : List (List ℕ) → Result Call LineFault
 at_call (server ∷ request ∷ words) =
     option_map_or (λ row. at_server server row words) (request_form_named request) (Err UnknownWord)
 at_call _ = Err BadLine
 
--- the words after `client`: a request
+-- the call of the words after `client`: a request
 abbrev pub client_call : List (List ℕ) → Result Call LineFault
 client_call (request ∷ words) =
     option_map_or (λ row. request_call call.RequestByRoute row words) (request_form_named request) (Err UnknownWord)
 client_call [] = Err BadLine
 
--- the call of what a line becomes, its row and the words after its own
+-- the call of a line, by its kind, by its row, and by the words after its own
 abbrev pub call_as : Word → FormRow → List (List ℕ) → Result Call LineFault
 call_as At row words = at_call words
 call_as Client row words = client_call words
 call_as _ row words = plain_call row words
 
--- the words of a line, of which the first says how the others are read
+-- the call of the words of a line: the first word decides how the others are read
 abbrev pub call_of_words : List (List ℕ) → Result Call LineFault
 call_of_words [] = Err UnknownWord
 call_of_words (first ∷ words) = option_map_or (λ row. call_as row.word row words) (form_named first) (Err UnknownWord)
@@ -134,14 +134,14 @@ abbrev pub has_no_answer : List ℕ → Bool
 has_no_answer [] = true
 has_no_answer (byte ∷ bytes) = byte == 35
 
--- what the line asks for, where it asks for anything
+-- the call that the line asks for, if it asks for one
 unfoldable pub call_of_line : List ℕ → Result (Option Call) LineFault
 call_of_line line =
     if has_no_answer line then Ok None
     else (if nat_lt MAX_LINE (length line) then Err LineTooLong
     else result_map_both Some (λ fault. fault) (call_of_words (words_of line)))
 
--- whether memory is taken for the call
+-- the call takes memory
 abbrev pub has_request : Call → Bool
 has_request (call.Request request) = true
 has_request (call.RequestAt server request) = true
@@ -160,17 +160,17 @@ abbrev pub IsFaultIn : ParseFault → Result Call LineFault → Type 0
 IsFaultIn (Line fault) asked = asked ≡ Err fault
 IsFaultIn NoMemory asked = IsOkAnd asked (λ made. IsTrue (has_request made))
 
--- the same of a whole line
+-- why a whole line makes no call: the fault, or want of memory for its request
 abbrev pub IsFaultOf : ParseFault → Result (Option Call) LineFault → Type 0
 IsFaultOf (Line fault) meaning = meaning ≡ Err fault
 IsFaultOf NoMemory meaning = IsOkAnd meaning (λ asked. IsSomeAnd asked (λ made. IsTrue (has_request made)))
 
--- what a line beyond the limit asks for: nothing, or its fault
+-- the meaning of a line beyond the limit: it asks for nothing, or has a fault
 abbrev pub meaning_if_long : Option LineFault → Result (Option Call) LineFault
 meaning_if_long None = Ok None
 meaning_if_long (Some fault) = Err fault
 
--- what is printed of why there is no call
+-- the text of an answer that says why there is no call
 abbrev pub parse_fault_text : ParseFault → List ℕ
 parse_fault_text (Line fault) = line_fault_name fault
 parse_fault_text NoMemory = codes "out of memory"

@@ -7,7 +7,7 @@ use Rattle.std.specs.List.{list_all}
 use Rattle.std.specs.Str.Parse.{digits_value}
 use lib.IntN.{neg_ℤ}
 
--- one digit, or more of which the first isn't `0`
+-- the word has one digit, or it has more and the first isn't `0`
 abbrev pub has_no_leading_zero : List ℕ → Bool
 has_no_leading_zero [] = false
 has_no_leading_zero (digit ∷ []) = true
@@ -21,7 +21,7 @@ is_number word = has_no_leading_zero word && list_all is_ascii_digit word
 abbrev pub number : List ℕ → ℕ
 number word = digits_value 10 word
 
--- the number that the word spells, where it is one from `least` to `most`
+-- the number that the word spells, if the number lies between `least` and `most`
 abbrev pub number_between : ℕ → ℕ → List ℕ → Option ℕ
 number_between least most word =
     if is_number word && (nat_le least (number word) && nat_le (number word) most) then Some (number word) else None

@@ -6,7 +6,7 @@ use Rattle.std.specs.List.{slice_split}
 abbrev pub words_of : List ℕ → List (List ℕ)
 words_of line = slice_split (λ byte. byte == 32) line
 
--- the words of what is left of a line, if anything is
+-- the words of the part of a line that is left, if there is one
 abbrev pub words_left : Option (List ℕ) → List (List ℕ)
 words_left None = []
 words_left (Some line) = words_of line

@@ -12,7 +12,7 @@ use sm_ranges::server_id::ServerId;
 use sm_ranges::shard_id::ShardId;
 use std::alloc::{AllocError, Global};
 
-/// The shard that the word names.
+/// Returns the shard that the word names.
 pub(crate) fn shard(word: &[u8]) -> ShardId
     requires { IsTrue (takes_word Shard word.now) }
     ensures { result ≡ number word.now }
@@ -20,7 +20,7 @@ pub(crate) fn shard(word: &[u8]) -> ShardId
     ShardId::new(number_between(word, 0, u64::from(MAX_SHARD)).unwrap() as u16).unwrap()
 }
 
-/// The server that the word names.
+/// Returns the server that the word names.
 pub(crate) fn server(word: &[u8]) -> ServerId
     requires { IsTrue (takes_word Server word.now) }
     ensures { result ≡ number word.now }
@@ -28,7 +28,7 @@ pub(crate) fn server(word: &[u8]) -> ServerId
     ServerId::new(number_between(word, 1, u64::from(MAX_SERVER)).unwrap() as u16).unwrap()
 }
 
-/// How many clients the word says that a load has.
+/// Returns how many clients the word says that a load has.
 pub(crate) fn clients(word: &[u8]) -> LoadClients
     requires { IsTrue (takes_word Clients word.now) }
     ensures { result ≡ number word.now }
@@ -36,7 +36,7 @@ pub(crate) fn clients(word: &[u8]) -> LoadClients
     LoadClients::new(number_between(word, 1, MAX_CLIENTS).unwrap() as u8).unwrap()
 }
 
-/// The key that the word is.
+/// Returns the key with the word's bytes.
 pub(crate) fn key(alloc: Global, word: &[u8]) -> Result<Key, AllocError>
     requires { IsTrue (takes_word KeyShape word.now) }
     ensures { IfOk result (λ key. key ≡ word.now) }

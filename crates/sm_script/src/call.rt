@@ -6,7 +6,7 @@ use sm_ranges::server_id::ServerId;
 use sm_ranges::shard_id::ShardId;
 use sm_service::request::Request;
 
-/// What a line of a script asks for.
+/// The call that a line of a script asks for.
 #[derive(Drop)]
 pub enum Call {
     /// A command of the control: `assign K A`, `drop K` and the other changes of a shard, `ask A` and the other steps
@@ -24,7 +24,7 @@ pub enum Call {
     Route(Key),
     /// `look K`: the shard's record.
     Look(ShardId),
-    /// `load KEY C N`: so many clients that add to the key's count at the same time, so many times each.
+    /// `load KEY C N`: a number of clients, `C`, add to the key's count at the same time, `N` times each.
     Load {
         key: Key,
         clients: LoadClients,
@@ -46,7 +46,7 @@ impl Call {
     ghost use Rattle.std.specs.Prelude.{◌≡◌};
     ghost use Rattle.sm_script.specs.Lines.{change_call};
 
-    /// A change of the shard.
+    /// Returns a change of the shard.
     pub(crate) fn change(shard: ShardId, change: Change) -> Call
         ensures { result ≡ change_call shard change }
     {

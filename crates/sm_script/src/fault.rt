@@ -5,21 +5,22 @@ use std::alloc::AllocError;
 use std::fmt;
 use thiserror::Error;
 
-/// Why a line of a script makes no call. Of several faults the first in this order is the answer, but
-/// of `BadNumber` and `BadKey` that of the leftmost word.
+/// Why a line of a script makes no call. If a line has several faults, the answer is the first one in this order; but
+/// of `BadNumber` and `BadKey` it is the fault of the leftmost word.
 #[derive(Clone, Copy, Debug, PartialEq, Eq, Drop, Error)]
 pub enum LineFault {
     /// The line has more than 70,000 bytes, and is no comment.
     LineTooLong,
-    /// The first word is not one of the script's, or the word after `at A` or `client` not one of a request.
+    /// The first word isn't a word of a script's line, or the word after `at A` or `client` isn't the word of a
+    /// request.
     UnknownWord,
     /// There are too few or too many words.
     BadLine,
-    /// A number is spelled otherwise, or out of its range.
+    /// A number isn't spelled in decimal, or it is out of its range.
     BadNumber,
     /// A key has no byte, or more than 255.
     BadKey,
-    /// The line is right, and this engine doesn't run it.
+    /// The line is right, but this engine doesn't run it.
     NotHere,
 }
 
@@ -37,7 +38,7 @@ impl fmt::Display for LineFault {
 impl LineFault {
     ghost use Rattle.sm_script.specs.Answers.{line_fault_name};
 
-    /// The name that an answer gives it.
+    /// Returns the name of the fault in an answer.
     pub fn name(self) -> &'static str
         ensures { result.now ≡ line_fault_name self }
     {
@@ -57,7 +58,7 @@ impl LineFault {
 pub enum ParseFault {
     /// The line makes no call.
     Line(LineFault),
-    /// The line asks for a request, and memory for it was refused.
+    /// The line asks for a request, but memory for it was refused.
     NoMemory,
 }
 

@@ -8,30 +8,31 @@ use crate::shape::Shape;
 use crate::topic::Topic;
 use crate::word::{FORMS, Word};
 
-/// How a line is written and what it does, over the types of its texts and of its shapes: so a clause can name the
-/// constant that has all of them.
+/// The way in which a line is written, and its effect, over the types of its texts and of its shapes. So a clause can
+/// name the constant of all forms.
 #[derive(Clone, Copy, Drop)]
 pub struct FormOf<T, S> {
-    /// What the line becomes, with the words after this one.
+    /// The kind of call that the line becomes, with the words after this one.
     pub word: Word,
     /// How the word is spelled.
     pub name: T,
-    /// What follows it, as the docs write it; nothing where no word does.
+    /// The words after it, as the docs write them; empty if there are none.
     pub arguments: T,
-    /// What the words after it have to be; a request, which `at A` and `client` have behind these, is none.
+    /// The shapes of the words after it. For `at A` and `client`, the request behind these isn't among the shapes.
     pub shapes: S,
-    /// Where the help has it.
+    /// The heading under which the help lists it.
     pub topic: Topic,
-    /// What it does, in a sentence.
+    /// Its effect, in a sentence.
     pub help: T,
-    /// A line of it.
+    /// An example of such a line.
     pub example: T,
 }
 
-/// How a line is written, and what it does.
+/// The way in which a line is written, and its effect.
 pub type Form = FormOf<&'static str, &'static [Shape]>;
 
-/// How all lines are written, in the order in which they are looked for: requests first, as most lines are requests.
+/// Returns how all lines are written, in the order in which they are looked for: requests first, because most lines are
+/// requests.
 #[tactic(auto, unfolding(crate::specs::Forms::table))]
 pub fn forms() -> &'static [Form]
     ensures { map row_of_form result.now ≡ table }
@@ -39,7 +40,7 @@ pub fn forms() -> &'static [Form]
     &FORMS
 }
 
-// The one of these forms whose word has these bytes.
+// Returns the form among these whose word has these bytes.
 fn named_among(forms: &[Form], bytes: &[u8]) -> Option<Form>
     ensures { result ≡ find (λ form. bytes_eq form.name.now bytes.now) forms.now }
 {
@@ -49,7 +50,7 @@ fn named_among(forms: &[Form], bytes: &[u8]) -> Option<Form>
         .find(|form| form.name.as_bytes() == bytes)
 }
 
-// The one of these forms that is a request's, and whose word has these bytes.
+// Returns the form of a request among these whose word has these bytes.
 fn request_among(forms: &[Form], bytes: &[u8]) -> Option<Form>
     ensures { result ≡ find (λ form. is_request form.topic && bytes_eq form.name.now bytes.now) forms.now }
 {
@@ -57,21 +58,21 @@ fn request_among(forms: &[Form], bytes: &[u8]) -> Option<Form>
         && form.name.as_bytes() == bytes)
 }
 
-/// The form of a line that begins with these bytes as its word; none where no line does.
+/// Returns the form of a line that begins with these bytes as its word, or nothing if there is no such line.
 pub fn form_of(bytes: &[u8]) -> Option<Form>
     ensures { option_map row_of_form result ≡ form_named bytes.now }
 {
     named_among(forms(), bytes)
 }
 
-/// The form of a request whose word has these bytes.
+/// Returns the form of a request whose word has these bytes.
 pub(crate) fn request_form_of(bytes: &[u8]) -> Option<Form>
     ensures { option_map row_of_form result ≡ request_form_named bytes.now }
 {
     request_among(forms(), bytes)
 }
 
-/// No two forms have one word, so a line is read in one way.
+/// No two forms have the same word, so a line can be read in only one way.
 #[tactic(auto, unfolding(crate::specs::Forms::table))]
 pub fn names_differ()
     ensures { NamesDiffer (map (λ row. row.name) table) }

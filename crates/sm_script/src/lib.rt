@@ -1,4 +1,4 @@
-//! The lines of a script: what each asks for, and the text that answers it.
+//! The lines of a script: the call that each asks for, and the text that answers it.
 //!
 //! ```rust
 //! let fault = parse(alloc, b"assign 0").err();

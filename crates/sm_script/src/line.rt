@@ -27,7 +27,7 @@ use std::alloc::Global;
 /// The most bytes that a line may have without its line feed; a comment may have more.
 pub const MAX_LINE: usize = 70_000;
 
-// The call of a word with no word after it.
+// Returns the call of a word with no word after it.
 fn bare_call(word: Word) -> Result<Call, LineFault>
     ensures { result ≡ call_with [] word [] }
 {
@@ -37,7 +37,7 @@ fn bare_call(word: Word) -> Result<Call, LineFault>
     }
 }
 
-// The call of a shard.
+// Returns the call of a shard.
 fn shard_call(word: Word, shard: ShardId) -> Result<Call, LineFault>
     ensures { result ≡ shard_call word shard }
 {
@@ -55,7 +55,7 @@ fn shard_call(word: Word, shard: ShardId) -> Result<Call, LineFault>
     }
 }
 
-// The call of a server.
+// Returns the call of a server.
 fn server_call(word: Word, server: ServerId) -> Result<Call, LineFault>
     ensures { result ≡ server_call word server }
 {
@@ -70,7 +70,7 @@ fn server_call(word: Word, server: ServerId) -> Result<Call, LineFault>
     }
 }
 
-// The call of a shard and a server.
+// Returns the call of a shard and a server.
 fn shard_and_server_call(word: Word, mut words: Words) -> Result<Call, LineFault>
     requires { arguments_fault (Shard ∷ Server ∷ []) words ≡ None }
     ensures { result ≡ call_with (Shard ∷ Server ∷ []) word words.entry }
@@ -87,7 +87,7 @@ fn shard_and_server_call(word: Word, mut words: Words) -> Result<Call, LineFault
     }
 }
 
-// The call of a key.
+// Returns the call of a key.
 fn key_call(alloc: Global, word: Word, mut words: Words) -> Result<Call, ParseFault>
     requires { arguments_fault (Key ∷ []) words ≡ None }
     ensures ok { IfOk result (λ call. call_with (Key ∷ []) word words.entry ≡ Ok call) }
@@ -100,7 +100,7 @@ fn key_call(alloc: Global, word: Word, mut words: Words) -> Result<Call, ParseFa
     }
 }
 
-// The call of a key, a number of clients and how many requests each makes.
+// Returns the call of a key, a number of clients and the number of requests that each makes.
 fn load_call(alloc: Global, word: Word, mut words: Words) -> Result<Call, ParseFault>
     requires { arguments_fault (Key ∷ Clients ∷ Each ∷ []) words ≡ None }
     ensures ok { IfOk result (λ call.
@@ -120,7 +120,7 @@ fn load_call(alloc: Global, word: Word, mut words: Words) -> Result<Call, ParseF
     }
 }
 
-// The call of a word that is no request, and of the words after it, which are of these shapes.
+// Returns the call of a word that isn't a request's, and of the words after it, which must be of these shapes.
 fn call_with(
     alloc: Global,
     shapes: &[Shape],
@@ -142,7 +142,8 @@ fn call_with(
     }
 }
 
-// What is wrong with a server and the words after a request's, which are to be of these shapes.
+// Returns the fault in a server and in the words after a request's, which must be of these shapes. Returns nothing if
+// there is no fault.
 fn at_fault(server: &[u8], shapes: &[Shape], words: &Words) -> Option<LineFault>
     ensures fault { result ≡ arguments_fault (Server ∷ shapes.now) (server.now ∷ words.now) }
     ensures right { IfNone result (IsTrue (takes_word Server server.now)
@@ -157,7 +158,7 @@ fn at_fault(server: &[u8], shapes: &[Shape], words: &Words) -> Option<LineFault>
     }
 }
 
-// A request to a server.
+// Returns a request to a server.
 fn at_server(alloc: Global, to: &[u8], form: Form, words: Words) -> Result<Call, ParseFault>
     ensures ok { IfOk result (λ call. at_server to.now (row_of_form form.entry) words.entry ≡ Ok call) }
     ensures err { IfErr result (λ fault.
@@ -170,7 +171,7 @@ fn at_server(alloc: Global, to: &[u8], form: Form, words: Words) -> Result<Call,
     Ok(Call::RequestAt(server, request_with(alloc, form.shapes, form.word, words)?))
 }
 
-// The call of the words after `at`.
+// Returns the call of the words after `at`.
 fn at_call(alloc: Global, mut words: Words) -> Result<Call, ParseFault>
     ensures ok { IfOk result (λ call. at_call words.entry ≡ Ok call) }
     ensures err { IfErr result (λ fault. IsFaultIn fault (at_call words.entry)) }
@@ -184,7 +185,7 @@ fn at_call(alloc: Global, mut words: Words) -> Result<Call, ParseFault>
     }
 }
 
-// A request by the published route.
+// Returns a request by the published route.
 fn client_request(alloc: Global, form: Form, words: Words) -> Result<Call, ParseFault>
     ensures ok { IfOk result (λ call.
         request_call RequestByRoute (row_of_form form.entry) words.entry ≡ Ok call) }
@@ -200,7 +201,7 @@ fn client_request(alloc: Global, form: Form, words: Words) -> Result<Call, Parse
     }
 }
 
-// The call of the words after `client`.
+// Returns the call of the words after `client`.
 fn client_call(alloc: Global, mut words: Words) -> Result<Call, ParseFault>
     ensures ok { IfOk result (λ call. client_call words.entry ≡ Ok call) }
     ensures err { IfErr result (λ fault. IsFaultIn fault (client_call words.entry)) }
@@ -214,7 +215,7 @@ fn client_call(alloc: Global, mut words: Words) -> Result<Call, ParseFault>
     }
 }
 
-// A request to the owner.
+// Returns a request to the owner.
 fn owner_request(alloc: Global, form: Form, words: Words) -> Result<Call, ParseFault>
     ensures ok { IfOk result (λ call. request_call Request (row_of_form form.entry) words.entry ≡ Ok call) }
     ensures err { IfErr result (λ fault.
@@ -229,7 +230,7 @@ fn owner_request(alloc: Global, form: Form, words: Words) -> Result<Call, ParseF
     }
 }
 
-// The call of a line that is neither one of `at` nor of `client`.
+// Returns the call of a line that begins with neither `at` nor `client`.
 fn plain_call(alloc: Global, form: Form, words: Words) -> Result<Call, ParseFault>
     ensures ok { IfOk result (λ call. plain_call (row_of_form form.entry) words.entry ≡ Ok call) }
     ensures err { IfErr result (λ fault.
@@ -244,7 +245,7 @@ fn plain_call(alloc: Global, form: Form, words: Words) -> Result<Call, ParseFaul
     }
 }
 
-// The call of a form and the words after its own.
+// Returns the call of a form and the words after its own.
 fn call_as(alloc: Global, form: Form, words: Words) -> Result<Call, ParseFault>
     ensures ok { IfOk result (λ call. call_as form.entry.word (row_of_form form.entry) words.entry ≡ Ok call) }
     ensures err { IfErr result (λ fault.
@@ -257,7 +258,7 @@ fn call_as(alloc: Global, form: Form, words: Words) -> Result<Call, ParseFault>
     }
 }
 
-// The call of a line's words.
+// Returns the call of a line's words.
 fn call_of(alloc: Global, mut words: Words) -> Result<Call, ParseFault>
     ensures ok { IfOk result (λ call. call_of_words words.entry ≡ Ok call) }
     ensures err { IfErr result (λ fault. IsFaultIn fault (call_of_words words.entry)) }
@@ -271,7 +272,7 @@ fn call_of(alloc: Global, mut words: Words) -> Result<Call, ParseFault>
     }
 }
 
-// Whether a line has no answer: it is empty, or begins with `#`.
+// Returns whether a line has no answer, because it is empty or begins with `#`.
 fn has_no_answer(line: &[u8]) -> bool
     ensures { result ≡ has_no_answer line.now }
 {
@@ -281,13 +282,12 @@ fn has_no_answer(line: &[u8]) -> bool
     }
 }
 
-/// What a line, without its line feed, asks for. An empty line and a line of any length that
-/// begins with `#` ask for nothing, and have no answer.
+/// Returns the call that a line asks for. The line has no line feed. An empty line, and a line of any length that
+/// begins with `#`, ask for nothing and have no answer.
 ///
 /// # Errors
 ///
-/// `Line` with the first fault of the line, as `LineFault` orders them; `NoMemory` where memory
-/// for a request was refused.
+/// `Line` with the first fault of the line, as `LineFault` orders them; `NoMemory` if memory for a request was refused.
 #[tactic(auto, unfolding(crate::specs::Lines::call_of_line))]
 pub fn parse(alloc: Global, line: &[u8]) -> Result<Option<Call>, ParseFault>
     ensures call { IfOk result (λ call. call_of_line line.now ≡ Ok call) }
@@ -305,8 +305,8 @@ pub fn parse(alloc: Global, line: &[u8]) -> Result<Option<Call>, ParseFault>
     }
 }
 
-/// The fault of a line of more than `MAX_LINE` bytes, by some bytes that it begins with; none where
-/// it has no answer. So such a line need not be kept.
+/// Returns the fault of a line of more than `MAX_LINE` bytes, by some bytes with which it begins, or nothing if it has
+/// no answer. So the caller need not keep such a line.
 #[tactic(auto, unfolding(crate::specs::Lines::call_of_line))]
 pub fn long_line_fault(start: &[u8]) -> Option<LineFault>
     requires { 0 < length start.now }

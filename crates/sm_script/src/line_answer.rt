@@ -20,24 +20,23 @@ use std::alloc::AllocError;
 /// The answer to a line of a script.
 #[derive(Drop)]
 pub enum LineAnswer {
-    /// What the line asked for was done.
+    /// The line's call was made.
     Made,
-    /// What the line asked for was refused.
+    /// The line's call was refused.
     Refused(Refused),
     /// A shard's record.
     Seen(Record),
-    /// A request was executed by the server, and has this place among all requests of the shard,
-    /// from 0.
+    /// The server executed a request. The request has this place among all requests of the shard, from 0.
     Executed {
         reply: Reply,
         server: ServerId,
         place: u64,
     },
-    /// Where shards would go, and which are left.
+    /// The shards that would move, each with its destination, and the shards that the plan leaves.
     Planned(Plan),
-    /// The published route of a key's shard, where there is one.
+    /// The published route of a key's shard, if there is one.
     Way(Option<Route>),
-    /// What came of clients that added to one count at the same time.
+    /// The result of clients that added to one count at the same time.
     Loaded(LoadVerdict),
     /// The line made no call.
     Error(LineFault),
@@ -46,7 +45,7 @@ pub enum LineAnswer {
 impl LineAnswer {
     ghost use Rattle.sm_script.specs.Answers.{answer_text};
 
-    /// Appends the answer's text, without a line feed, or nothing where memory for it is refused.
+    /// Appends the answer's text, without a line feed. Appends nothing if memory for it is refused.
     pub fn write_to(&self, out: &mut Vec<u8>) -> Result<(), AllocError>
         ensures ok { OnOk result (out.new.items ≡ out.old.items ++ answer_text self.now) }
         ensures err { OnErr result (out.new.items ≡ out.old.items) }
@@ -69,7 +68,7 @@ impl LineAnswer {
     }
 }
 
-// Appends the refusal's name, and the number after it where there is one.
+// Appends the refusal's name, and the number after it if there is one.
 fn append_refused(out: &mut Vec<u8>, refused: &Refused) -> Result<(), AllocError>
     ensures ok { OnOk result (out.new.items ≡ out.old.items
         ++ (codes "refused " ++ numbered (refused_name refused.now) (refused_number refused.now))) }

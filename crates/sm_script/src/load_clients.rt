@@ -24,7 +24,7 @@ impl Model for LoadClients {
 }
 
 impl LoadClients {
-    /// So many clients, or none where they are not 1 to 16.
+    /// Returns this number of clients, or nothing if it isn't 1 to 16.
     pub fn new(count: u8) -> Option<LoadClients>
         ensures known { IsSome result ↔ IsLoadClients count }
         ensures value { IfSome result (λ clients. clients ≡ count) }
@@ -36,7 +36,7 @@ impl LoadClients {
         }
     }
 
-    /// How many there are.
+    /// Returns how many clients there are.
     pub fn count(self) -> usize
         ensures value { result ≡ self }
         ensures in_range { IsLoadClients self }

@@ -1,7 +1,7 @@
 ghost use Rattle.std.specs.Prelude.{◌≡◌};
 ghost use Rattle.sm_script.specs.Answers.{load_verdict_name};
 
-/// What the counts of a load say.
+/// The verdict by the counts of a load.
 #[derive(Clone, Copy, PartialEq, Eq, Drop)]
 pub enum LoadVerdict {
     /// Each addition was acknowledged or refused, and the count grew by those that were acknowledged.
@@ -13,7 +13,7 @@ pub enum LoadVerdict {
 }
 
 impl LoadVerdict {
-    /// The name that an answer gives it.
+    /// Returns the name of the verdict in an answer.
     pub fn name(self) -> &'static str
         ensures { result.now ≡ load_verdict_name self }
     {

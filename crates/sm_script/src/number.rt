@@ -5,7 +5,7 @@ ghost use Rattle.std.specs.Option.{SomeIff};
 ghost use Rattle.sm_script.specs.Numbers.{has_no_leading_zero, is_number, number, number_between, increment_of};
 ghost use lib.IntN.{neg_ℤ};
 
-// Whether it is one digit, or more of which the first isn't `0`.
+// Returns whether the word has one digit, or has more and the first isn't `0`.
 fn has_no_leading_zero(word: &[u8]) -> bool
     ensures { result ≡ has_no_leading_zero word.now }
 {
@@ -16,26 +16,26 @@ fn has_no_leading_zero(word: &[u8]) -> bool
     }
 }
 
-// Whether each byte is a digit.
+// Returns whether each byte is a digit.
 fn has_only_digits(word: &[u8]) -> bool
     ensures { result ≡ list_all is_ascii_digit word.now }
 {
     word.iter().all(u8::is_ascii_digit)
 }
 
-// Whether it is `0`, or a digit 1 to 9 with digits after it.
+// Returns whether the word is `0`, or a digit 1 to 9 with digits after it.
 fn is_number(word: &[u8]) -> bool
     ensures { result ≡ is_number word.now }
 {
     has_no_leading_zero(word) && has_only_digits(word)
 }
 
-// The number that the word spells, where 64 bits hold it.
+// Returns the number that the word spells, if 64 bits hold it.
 fn number(word: &[u8]) -> Option<u64>
     ensures value { SomeIff result (IsTrue (is_number word.now) × (number word.now < 2 ^ 64))
         (number word.now) }
 
-    // It is then the text that a number is written with, and no other word is.
+    // The word is then the one way in which that number is written.
     ensures spelled { IfSome result (λ n. word.now ≡ decimal n) }
     ensures not_spelled { IfNone result ((n : ℕ) → n < 2 ^ 64 → word.now ≢ decimal n) }
 {
@@ -51,7 +51,7 @@ fn number(word: &[u8]) -> Option<u64>
     }
 }
 
-/// The number that the word spells, where it is one from `least` to `most`.
+/// Returns the number that the word spells, if it lies between `least` and `most`.
 pub(crate) fn number_between(word: &[u8], least: u64, most: u64) -> Option<u64>
     ensures { result ≡ number_between least most word.now }
 {
@@ -61,7 +61,7 @@ pub(crate) fn number_between(word: &[u8], least: u64, most: u64) -> Option<u64>
     }
 }
 
-// The number as far below 0 as this one is above.
+// Returns the number that lies as far below 0 as this one lies above.
 fn negative(number: u64) -> i64
     requires { (1 ≤ number) × (number ≤ 2 ^ 63) }
     ensures { result ≡ neg_ℤ (pos number) }
@@ -69,7 +69,7 @@ fn negative(number: u64) -> i64
     -1 - (number - 1) as i64
 }
 
-/// The number that the word spells, where it has 64 bits. A `-` may stand before one that isn't 0.
+/// Returns the number that the word spells, if 64 bits hold it. A `-` may come before a number that isn't 0.
 pub(crate) fn increment(word: &[u8]) -> Option<i64>
     ensures { result ≡ increment_of word.now }
 {

@@ -41,7 +41,7 @@ fn append_moves(out: &mut Vec<u8>, moves: &[Move]) -> Result<(), AllocError>
     Ok(())
 }
 
-// Appends a shard that is left.
+// Appends a shard that the plan leaves.
 fn append_shard(out: &mut Vec<u8>, shard: ShardId) -> Result<(), AllocError>
     ensures ok { OnOk result (out.new.items ≡ out.old.items ++ left_text shard) }
     ensures err { OnErr result (out.new.items ≡ out.old.items) }
@@ -50,7 +50,7 @@ fn append_shard(out: &mut Vec<u8>, shard: ShardId) -> Result<(), AllocError>
     append_all(out, &[b" ", number.format(shard.number()).as_bytes()])
 }
 
-// Appends the shards that are left.
+// Appends the shards that the plan leaves.
 fn append_left(out: &mut Vec<u8>, left: &[ShardId]) -> Result<(), AllocError>
     ensures ok { OnOk result (out.new.items ≡ out.old.items ++ (codes " left" ++ flat_map left_text left.now)) }
     ensures err { OnErr result (out.new.items ≡ out.old.items) }

@@ -8,7 +8,7 @@ use sm_ranges::server_id::ServerId;
 use sm_ranges::stand::Stand;
 use std::alloc::AllocError;
 
-// How an answer names the kind of stand.
+// Returns the name of the kind of stand in an answer.
 fn stand_name(stand: &Stand) -> &'static str
     ensures { result.now ≡ stand_name stand.now }
 {
@@ -22,7 +22,7 @@ fn stand_name(stand: &Stand) -> &'static str
     }
 }
 
-// The number of a server, or 0 where there is none.
+// Returns the number of a server, or 0 if there is none.
 fn server_number(server: Option<ServerId>) -> u16
     ensures { result ≡ unwrap_or server 0 }
 {
@@ -32,7 +32,7 @@ fn server_number(server: Option<ServerId>) -> u16
     }
 }
 
-// How an answer says whether a server is admitted.
+// Returns the word that says whether a server is admitted.
 fn admission_name(admitted: bool) -> &'static str
     ensures { result.now ≡ (if admitted then codes "admitted" else codes "idle") }
 {

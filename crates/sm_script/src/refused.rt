@@ -22,22 +22,22 @@ pub enum Refused {
     /// No server holds the shard without a request.
     #[error("no server holds the shard without a request")]
     NotHeld,
-    /// The shard's generation is not above that of its last published route.
+    /// The shard's generation isn't above the generation of its last published route.
     #[error("the route is not newer than the published one")]
     OldRoute,
     /// The shard is vacant, so it has no route.
     #[error("the shard is vacant")]
     WrongPhase,
-    /// A client goes by the published route of its key's shard, and there is none.
+    /// A client follows the published route of its key's shard, but there is no such route.
     #[error("no route is known")]
     NoRoute,
-    /// The key is no key of the shard to which its request came.
+    /// The key doesn't belong to the shard to which its request came.
     #[error("the request is not for this shard")]
     WrongShard,
     /// Another thread changed the shard's record first.
     #[error("another thread was first")]
     Raced,
-    /// The request was let go with no reply.
+    /// The request was dropped with no reply.
     #[error("no reply will come")]
     Closed,
     /// Why a command of the control was refused.
@@ -46,7 +46,7 @@ pub enum Refused {
     /// Why a server was not admitted to a shard.
     #[error(transparent)]
     Admit(AdmitFault),
-    /// The server forwards requests on the shard, and this one was forwarded as often as it may be.
+    /// The server forwards requests for the shard, but this one was already forwarded as often as it may be.
     #[error("the request was forwarded too often")]
     TooManyHops,
     /// The shard keeps as many requests as it may.
@@ -57,7 +57,7 @@ pub enum Refused {
 impl Refused {
     ghost use Rattle.sm_script.specs.Answers.{refused_name, refused_number};
 
-    /// The name that an answer gives it.
+    /// Returns the name of the refusal in an answer.
     pub fn name(self) -> &'static str
         ensures { result.now ≡ refused_name self }
     {
@@ -79,8 +79,8 @@ impl Refused {
         }
     }
 
-    /// The number that an answer gives after the name, where there is one: of the shard, group or domain at which the
-    /// refusal came.
+    /// Returns the number that an answer gives after the name, if it gives one: of the shard, group or domain at which
+    /// the refusal came.
     pub fn number(self) -> Option<u16>
         ensures { result ≡ refused_number self }
     {
@@ -91,7 +91,7 @@ impl Refused {
     }
 }
 
-// The name that an answer gives to the refusal of a command.
+// Returns the name of a command's refusal in an answer.
 fn command_fault_name(fault: CommandFault) -> &'static str
     ensures { result.now ≡ command_fault_name fault }
 {
@@ -110,7 +110,7 @@ fn command_fault_name(fault: CommandFault) -> &'static str
     }
 }
 
-// The name that an answer gives to the refusal of an admission.
+// Returns the name of an admission's refusal in an answer.
 fn admit_fault_name(fault: AdmitFault) -> &'static str
     ensures { result.now ≡ admit_fault_name fault }
 {

@@ -88,7 +88,7 @@ fn append_reply(out: &mut Vec<u8>, reply: &Reply) -> Result<(), AllocError>
     }
 }
 
-// Appends who executed a request, and its place.
+// Appends the server that executed a request, and the request's place.
 fn append_place(out: &mut Vec<u8>, server: ServerId, place: u64) -> Result<(), AllocError>
     ensures ok { OnOk result (out.new.items
         ≡ out.old.items ++ (codes " @" ++ decimal server ++ codes "#" ++ decimal place)) }

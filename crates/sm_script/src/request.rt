@@ -14,7 +14,7 @@ use sm_service::bytes::Bytes;
 use sm_service::request::Request;
 use std::alloc::Global;
 
-// The request of a key.
+// Returns the request of a key.
 fn key_request(alloc: Global, word: Word, mut words: Words) -> Result<Request, ParseFault>
     requires { arguments_fault (KeyShape ∷ []) words ≡ None }
     ensures ok { IfOk result (λ request. request_with (KeyShape ∷ []) word words.entry ≡ Ok request) }
@@ -29,7 +29,7 @@ fn key_request(alloc: Global, word: Word, mut words: Words) -> Result<Request, P
     }
 }
 
-// The request of a key and a text.
+// Returns the request of a key and a text.
 fn text_request(alloc: Global, word: Word, mut words: Words) -> Result<Request, ParseFault>
     requires { arguments_fault (KeyShape ∷ Text ∷ []) words ≡ None }
     ensures ok { IfOk result (λ request.
@@ -46,7 +46,7 @@ fn text_request(alloc: Global, word: Word, mut words: Words) -> Result<Request, 
     }
 }
 
-// The request of a key and a number.
+// Returns the request of a key and a number.
 fn number_request(alloc: Global, word: Word, mut words: Words) -> Result<Request, ParseFault>
     requires { arguments_fault (KeyShape ∷ IncrementShape ∷ []) words ≡ None }
     ensures ok { IfOk result (λ request.
@@ -62,7 +62,7 @@ fn number_request(alloc: Global, word: Word, mut words: Words) -> Result<Request
     }
 }
 
-// The request of two keys and a limit.
+// Returns the request of two keys and a limit.
 fn range_request(alloc: Global, word: Word, mut words: Words) -> Result<Request, ParseFault>
     requires { arguments_fault (KeyShape ∷ KeyShape ∷ Limit ∷ []) words ≡ None }
     ensures ok { IfOk result (λ request.
@@ -79,7 +79,7 @@ fn range_request(alloc: Global, word: Word, mut words: Words) -> Result<Request,
     }
 }
 
-/// The request of a word and the words after it, which are of these shapes.
+/// Returns the request of a word and the words after it, which must be of these shapes.
 pub(crate) fn request_with(
     alloc: Global,
     shapes: &[Shape],

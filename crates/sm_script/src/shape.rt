@@ -16,7 +16,7 @@ pub(crate) const MAX_CLIENTS: u64 = 16;
 /// The greatest number of requests that each client of a load may make.
 pub(crate) const MAX_EACH: u64 = 10_000;
 
-/// What a word of a line has to be.
+/// The shape that a word of a line must have.
 #[derive(Clone, Copy, PartialEq, Eq, Drop)]
 pub enum Shape {
     /// The number of a shard, 0 to 4,095.
@@ -25,9 +25,9 @@ pub enum Shape {
     Server,
     /// A key, of 1 to 255 bytes.
     Key,
-    /// The rest of the line with all its spaces, or nothing where the line has ended.
+    /// The rest of the line with all its spaces, or nothing if the line has ended.
     Text,
-    /// What is added to a count: a number of 64 bits with a sign.
+    /// A number that is added to a count: 64 bits with a sign.
     Increment,
     /// How many pairs a scan gives at most: a number of 32 bits.
     Limit,
@@ -40,7 +40,7 @@ pub enum Shape {
 impl Shape {
     ghost use Rattle.sm_script.specs.Grammar.{takes_word, word_fault};
 
-    /// Whether the word is one.
+    /// Returns whether the word has this shape.
     fn takes_word(self, word: &[u8]) -> bool
         ensures { result ≡ takes_word self word.now }
     {
@@ -56,7 +56,7 @@ impl Shape {
         }
     }
 
-    /// Why the word isn't one, or nothing where it is.
+    /// Returns why the word doesn't have this shape, or nothing if it does.
     pub(crate) fn fault(self, word: &[u8]) -> Option<LineFault>
         ensures { result ≡ word_fault self word.now }
     {
@@ -70,7 +70,7 @@ impl Shape {
     }
 }
 
-/// Whether there is a word for each shape and no other. A text takes all words that are left.
+/// Returns whether there is a word for each shape and there are no others. A text takes all words that are left.
 pub(crate) fn takes_as_many(shapes: &[Shape], mut words: Words) -> bool
     ensures { result ≡ takes_as_many shapes.now words.entry }
 {
@@ -85,7 +85,7 @@ pub(crate) fn takes_as_many(shapes: &[Shape], mut words: Words) -> bool
     words.is_empty()
 }
 
-/// The fault of the leftmost word that isn't of its shape.
+/// Returns the fault of the leftmost word that isn't of its shape.
 pub(crate) fn first_fault(shapes: &[Shape], mut words: Words) -> Option<LineFault>
     ensures { result ≡ first_fault shapes.now words.entry }
 {
@@ -102,7 +102,7 @@ pub(crate) fn first_fault(shapes: &[Shape], mut words: Words) -> Option<LineFaul
     None
 }
 
-/// What is wrong with the words that stand for these shapes, or nothing.
+/// Returns the fault in the words that come for these shapes, or nothing if there is none.
 pub(crate) fn arguments_fault(shapes: &[Shape], words: &Words) -> Option<LineFault>
     ensures { result ≡ arguments_fault shapes.now words.now }
 {

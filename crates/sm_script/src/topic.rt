@@ -1,11 +1,11 @@
-/// Under which heading the help and the docs have a line.
+/// The heading under which the help and the docs list a line.
 #[derive(Clone, Copy, PartialEq, Eq, Drop)]
 pub enum Topic {
     /// A change of a shard.
     Migrations,
     /// A request to the owner, which may also follow `at A` and `client`.
     Requests,
-    /// A request that goes elsewhere than to the owner.
+    /// A request that goes to another server than the owner.
     Sending,
     /// A look, an admission without a request, a base or a published route.
     Records,

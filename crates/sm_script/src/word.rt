@@ -2,18 +2,18 @@ use crate::form::{Form, FormOf};
 use crate::shape::Shape;
 use crate::topic::Topic;
 
-/// What a line that begins with a word becomes, or the request that follows `at A` or `client`.
+/// The kind of call that a line becomes if it begins with a word, or the request that follows `at A` or `client`.
 #[derive(Clone, Copy, PartialEq, Eq, Drop)]
 pub enum Word {
-    /// What the key holds.
+    /// The value of the key.
     Get,
     /// A text for the key.
     Put,
-    /// The text after the one that the key holds.
+    /// The text, appended to the key's text.
     Append,
     /// The number added to the key's count.
     Inc,
-    /// The key is to hold nothing.
+    /// The key loses its value.
     Del,
     /// The pairs of the shard from one key up to another.
     Scan,
@@ -35,7 +35,7 @@ pub enum Word {
     Drop,
     /// The migration is given up.
     Cancel,
-    /// Nobody executes the shard's requests.
+    /// No server executes the shard's requests.
     Pause,
     /// The owner of the paused shard executes again.
     Resume,
@@ -69,7 +69,7 @@ pub enum Word {
     Load,
 }
 
-/// How all lines are written and what they become. Here alone stands how a word is spelled.
+/// The forms of all lines, and the calls that they become. The spelling of a word is only here.
 pub const FORMS: [Form; 31] = [
     FormOf {
         word: Word::Get,
@@ -77,7 +77,7 @@ pub const FORMS: [Form; 31] = [
         arguments: "KEY",
         shapes: &[Shape::Key],
         topic: Topic::Requests,
-        help: "what the key holds: nothing, a text or a count",
+        help: "reads the key: it holds nothing, a text or a count",
         example: "get m",
     },
     FormOf {
@@ -95,7 +95,7 @@ pub const FORMS: [Form; 31] = [
         arguments: "KEY TEXT",
         shapes: &[Shape::Key, Shape::Text],
         topic: Topic::Requests,
-        help: "adds TEXT after the text that the key holds, or does as put where it holds nothing",
+        help: "adds TEXT after the text that the key holds, or does as put if it holds nothing",
         example: "append m , world",
     },
     FormOf {
@@ -104,7 +104,7 @@ pub const FORMS: [Form; 31] = [
         arguments: "KEY N",
         shapes: &[Shape::Key, Shape::Increment],
         topic: Topic::Requests,
-        help: "adds N to the count that the key holds, from 0 where it holds nothing",
+        help: "adds N to the count that the key holds, from 0 if it holds nothing",
         example: "inc a -7",
     },
     FormOf {
@@ -122,8 +122,8 @@ pub const FORMS: [Form; 31] = [
         arguments: "LOW HIGH MAX",
         shapes: &[Shape::Key, Shape::Key, Shape::Limit],
         topic: Topic::Requests,
-        help: "the pairs of LOW's shard alone with keys from LOW on and below HIGH, the first MAX, at most 100; \
-none where LOW isn't below HIGH",
+        help: "the pairs of LOW's shard only, with keys from LOW on and below HIGH: the first MAX, at most 100; \
+none if LOW isn't below HIGH",
         example: "scan a m 10",
     },
     FormOf {
@@ -177,7 +177,7 @@ none where LOW isn't below HIGH",
         arguments: "K",
         shapes: &[Shape::Shard],
         topic: Topic::Migrations,
-        help: "the owner stops executing, and forwards what comes to it to B, which executes that alone",
+        help: "the owner stops executing, and forwards requests to B, which executes only these",
         example: "prepare_drop 0",
     },
     FormOf {
@@ -186,7 +186,7 @@ none where LOW isn't below HIGH",
         arguments: "K",
         shapes: &[Shape::Shard],
         topic: Topic::Migrations,
-        help: "B becomes the owner, and executes what comes to it directly too; the previous owner still forwards",
+        help: "B becomes the owner, and also executes requests that come directly; the previous owner still forwards",
         example: "add 0",
     },
     FormOf {
@@ -204,7 +204,7 @@ none where LOW isn't below HIGH",
         arguments: "K",
         shapes: &[Shape::Shard],
         topic: Topic::Migrations,
-        help: "before add: the migration is given up, and what B executed stays",
+        help: "before add: the migration is given up, and the changes by B stay",
         example: "cancel 0",
     },
     FormOf {
@@ -295,7 +295,7 @@ for them again",
         arguments: "A",
         shapes: &[Shape::Server],
         topic: Topic::Restarts,
-        help: "it is approved, where the caps allow it: A takes no further shards",
+        help: "it is approved, if the caps allow it: A takes no further shards",
         example: "approve 1",
     },
     FormOf {
@@ -349,7 +349,7 @@ for them again",
         arguments: "KEY C N",
         shapes: &[Shape::Key, Shape::Clients, Shape::Each],
         topic: Topic::Load,
-        help: "under threads alone: C clients, each in a thread of its own, add 1 to the count of KEY N times each",
+        help: "under threads only: C clients, each in a thread of its own, add 1 to the count of KEY N times each",
         example: "load a 4 25",
     },
 ];

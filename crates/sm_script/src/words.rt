@@ -6,7 +6,7 @@ ghost use Rattle.sm_script.specs.Words.{words_of, words_left, is_nil};
 
 use std::marker::Model;
 
-// Where the first space stands.
+// Returns the place of the first space.
 fn first_space(line: &[u8]) -> Option<usize>
     ensures space { IfSome result (λ end. (end < length line.now) × (slice_index line.now end ≡ 32)) }
     ensures before { IfSome result (λ end. All (λ byte. (byte == 32) ≡ false) (take end line.now)) }
@@ -15,7 +15,7 @@ fn first_space(line: &[u8]) -> Option<usize>
     line.iter().position(|byte| *byte == b' ')
 }
 
-// The first word of a line, and what follows its space.
+// Returns the first word of a line, and the rest behind its space.
 fn cut(line: &[u8]) -> (&[u8], Option<&[u8]>)
     ensures { words_of line.now ≡ result.0.now ∷ words_left (option_copied result.1) }
 {
@@ -25,8 +25,8 @@ fn cut(line: &[u8]) -> (&[u8], Option<&[u8]>)
     }
 }
 
-/// The words of a line that are still to be read. Words stand between single spaces, so two
-/// spaces enclose an empty word.
+/// The words of a line that aren't read yet. There is a single space between words, so two spaces enclose an empty
+/// word.
 #[derive(Drop)]
 pub(crate) struct Words<'a> {
     rest: Option<&'a [u8]>,
@@ -43,21 +43,21 @@ impl<'a> Model for Words<'a> {
 }
 
 impl<'a> Words<'a> {
-    /// All words of a line.
+    /// Returns all words of a line.
     pub(crate) fn new(line: &'a [u8]) -> Words<'a>
         ensures { result ≡ words_of line.now }
     {
         Words { rest: Some(line) }
     }
 
-    /// The same words, to be read once more.
+    /// Returns the same words, to be read once more.
     pub(crate) fn again(&self) -> Words<'a>
         ensures { result ≡ self.now }
     {
         Words { rest: self.rest }
     }
 
-    /// The next word, where there is one.
+    /// Returns the next word, if there is one.
     pub(crate) fn next(&mut self) -> Option<&'a [u8]>
         ensures { MatchOption result ((self.old ≡ []) × (self.new ≡ [])) (λ word. self.old ≡ word.now ∷ self.new) }
     {
@@ -66,7 +66,7 @@ impl<'a> Words<'a> {
         Some(word)
     }
 
-    /// Whether no word is left.
+    /// Returns whether no word is left.
     pub(crate) fn is_empty(&self) -> bool
         ensures { result ≡ is_nil self.now }
     {
@@ -76,7 +76,7 @@ impl<'a> Words<'a> {
         }
     }
 
-    /// The words that are left as one text, with the spaces between them.
+    /// Returns the words that are left as one text, with the spaces between them.
     pub(crate) fn text(&self) -> &'a [u8]
         ensures { result.now ≡ join_with_byte 32 self.now }
     {

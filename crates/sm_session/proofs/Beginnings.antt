@@ -1,4 +1,4 @@
--- The desk of settings that keep the rules: it is made, but for want of memory, and its shards are vacant.
+-- The desk of settings that keep the rules: unless memory is refused, it is made, and its shards are vacant.
 use Rattle.std.proofs.Common.{◌≡◌, List, [], ◌∷◌, All, map, length, replicate, ap, refl, subst, sym, ◌∙◌}
 use Rattle.std.proofs.Common.{Option, Some, None, Result, Ok, Err, IfNone, IsOkUnless}
 use Rattle.std.proofs.lemmas.List.Elements.{All-nil, All-cons}
@@ -14,13 +14,13 @@ use Rattle.sm_place.specs.declared.books_fault.BooksFault.TheVariants.{NoMemory}
 use Rattle.sm_place.specs.declared.shard.Shard.{Shard}
 use Rattle.sm_settings.specs.SettingsRules.{KeepsRules, PassTests}
 
--- the rows of settings make books
+-- the rows of settings are books
 pub no_books_fault : (settings : SettingsValues) → KeepsRules settings
     → first_books_fault settings.servers settings.groups settings.shards settings.domains ≡ None
 unfolding PassTests
 no_books_fault settings rules = let tests = rules.tests in rw (tests.0, tests.1, tests.2, tests.3) refl
 
--- a fault where there is none to name is want of memory
+-- if there is no other fault, the fault is lack of memory
 pub memory_alone : (fault : BooksFault) (first : Option BooksFault) (result : Result BooksView BooksFault)
     → first ≡ None → IfNone first (IsOkUnless result NoMemory) → result ≡ Err fault → fault ≡ NoMemory
 memory_alone fault None (Err other) none unless is = let same : other ≡ fault = cc in sym same ∙ unless

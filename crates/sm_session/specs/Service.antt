@@ -4,6 +4,6 @@ use Rattle.sm_service.specs.Service.{reply_after, key_of_request}
 use Rattle.sm_service.specs.declared.reply.Reply.{Reply}
 use Rattle.sm_service.specs.declared.request.Request.{Request}
 
--- what the sample service means
+-- the meaning of the sample service
 abbrev pub counter_text : Meaning Request Reply
 counter_text = record { reply_of = reply_after; key_of = key_of_request }

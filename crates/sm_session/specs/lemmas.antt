@@ -1,2 +1,2 @@
--- Lemmas that the proofs of crates above cite.
+-- The lemmas that proofs of crates above cite.
 pub mod Lengths

@@ -1,4 +1,4 @@
-//! What a session's backend begins with.
+//! The state with which a session's backend begins.
 
 ghost use Rattle.std.specs.Prelude.{◌≡◌, [], All, IfOk, length, replicate};
 ghost use Rattle.sm_desk.specs.Desk.{stands_of};
@@ -15,7 +15,7 @@ use sm_tasks::Tasks;
 use sm_tasks::laws::all_up_meets_caps;
 use std::alloc::{AllocError, Global};
 
-/// The desk of the settings' rows: all servers are up, and all shards vacant.
+/// Makes the desk of the settings' rows. All servers are up, and all shards are vacant.
 pub fn desk_of(alloc: Global, settings: &Settings) -> Result<Desk, AllocError>
     requires { KeepsRules (values_of settings.now) }
     ensures desk { IfOk result (λ desk. desk ≡ settings_desk (values_of settings.now)) }
@@ -36,7 +36,8 @@ pub fn desk_of(alloc: Global, settings: &Settings) -> Result<Desk, AllocError>
     Ok(Desk::new(books, Tasks::new(settings.ops)))
 }
 
-/// Why there are no books: the settings were judged by the rules of books, so it is want of memory.
+/// Returns the reason why there are no books. It must be lack of memory, because the settings were checked by the rules
+/// of books.
 fn want_of_memory(fault: BooksFault) -> AllocError
     requires { fault ≡ BooksFault.NoMemory }
 {
@@ -49,7 +50,7 @@ fn want_of_memory(fault: BooksFault) -> AllocError
     }
 }
 
-/// A body without a request for each shard.
+/// Makes a body without requests for each shard.
 pub fn empty_bodies(
     alloc: Global,
     count: usize,

@@ -1,5 +1,5 @@
-//! A session over a backend: it reads a line, has the backend make the call that the line asks for, and writes the
-//! answer. Backends differ in what each call may answer, and in nothing else.
+//! A session over a backend. It reads a line, has the backend make the call in the line, and writes the answer.
+//! Backends differ only in the answers that each call may have.
 //!
 //! ```rust
 //! let mut session = Session::new(alloc, backend);

@@ -7,7 +7,7 @@ use sm_script::{Call, LineAnswer, ParseFault, parse};
 use std::alloc::{AllocError, Global};
 use std::marker::Model;
 
-/// A script's session on a backend. Contracts see its backend.
+/// A script's session on a backend. In contracts it is its backend.
 #[derive(Drop)]
 pub struct Session<B> {
     alloc: Global,
@@ -21,21 +21,21 @@ impl<B> Model for Session<B> {
 }
 
 impl<B> Session<B> {
-    /// A session on this backend, which reads its lines in memory of the allocator.
+    /// Makes a session on this backend. It reads its lines in memory of the allocator.
     pub fn new(alloc: Global, backend: B) -> Session<B>
         ensures { result ≡ backend }
     {
         Session { alloc, backend }
     }
 
-    /// The session's backend.
+    /// Returns the session's backend.
     pub fn backend(&self) -> &B
         ensures { result.now ≡ self.now }
     {
         &self.backend
     }
 
-    /// Gives the backend back.
+    /// Ends the session, and returns the backend.
     pub fn into_backend(self) -> B
         ensures { result ≡ self }
     {
@@ -45,7 +45,7 @@ impl<B> Session<B> {
 }
 
 impl<B: Backend> Session<B> {
-    /// Has the backend make the call, and gives its answer; an error is want of memory.
+    /// Has the backend make the call, and returns its answer. It fails only for lack of memory.
     pub fn answer(&mut self, call: Call) -> Result<LineAnswer, AllocError>
         requires ready { B.ready self.old }
         ensures ready { B.ready self.new }

@@ -1,4 +1,4 @@
-//! How an answer is written, and what is written for a line beyond the limit.
+//! How an answer is written, and the response to a line beyond the limit.
 
 ghost use Rattle.std.specs.Prelude.{◌≡◌, ◌++◌, [], OnOk};
 ghost use Rattle.sm_session.specs.LongLines.{RespondsLong};
@@ -16,12 +16,12 @@ pub fn write_line(answer: &LineAnswer, out: &mut Vec<u8>) -> Result<(), AllocErr
     Ok(())
 }
 
-/// Appends what is written for a line beyond the limit that begins with `start`.
+/// Appends the response to a line beyond the limit that begins with `start`.
 pub fn write_long_line(start: &[u8], out: &mut Vec<u8>) -> Result<(), AllocError>
     requires { out.old.items ≡ [] }
     ensures { OnOk result (RespondsLong start.now out.new.items) }
 {
-    // No line beyond the limit begins with nothing.
+    // A line beyond the limit can't begin with nothing.
     if start.is_empty() {
         return Ok(());
     }

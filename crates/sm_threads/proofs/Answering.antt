@@ -1,4 +1,4 @@
--- What the client's calls answer in a session.
+-- The answers to the client's calls in a session.
 use Rattle.std.proofs.Common.{◌≡◌, ℕ, Bool, true, List, Option, Some, None, Result, Ok, Err, IfOk, sym, ap, subst}
 use Rattle.std.proofs.lemmas.Result.{IfOk-weaker}
 use Rattle.std.specs.declared.alloc.AllocError.{AllocError}
@@ -31,7 +31,7 @@ module _ (before after : SessionValue) (given : CallResult Request Reply) (asked
     (result : Result LineAnswer AllocError)
     (told : IfOk result (λ answer. AnsweredResult asked given answer after.client))
     (rest : after ≡ with_client before after.client) where
-  -- what a call of the client gave is answered
+  -- the result of the client's call is answered
   pub answered_call : (called : CallResult Request Reply → ClientValue Request → Type 0) → called given asked
       → IfOk result (λ answer. AnsweredCall called before answer after)
   answered_call called gave =
@@ -41,8 +41,8 @@ module _ (before after : SessionValue) (given : CallResult Request Reply) (asked
 
   -- that of a call at a server that exists
   pub answered_at : (server : ℕ) (request : Request) → is_known before.cluster.control.desk.books.servers server ≡ true
-      → CalledAt counter_text before.client 0 request given asked
+      → CalledAt counter_text before.client server 0 request given asked
       → IfOk result (λ answer. AnsweredAt before server request answer after)
   answered_at server request known gave =
-      subst (λ (b : Bool). IfOk result (λ answer. AnsweredWhere b before request answer after)) (sym known)
-      (answered_call (CalledAt counter_text before.client 0 request) gave)
+      subst (λ (b : Bool). IfOk result (λ answer. AnsweredWhere b before server request answer after)) (sym known)
+      (answered_call (CalledAt counter_text before.client server 0 request) gave)

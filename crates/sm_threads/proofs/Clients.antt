@@ -1,4 +1,4 @@
--- Clients stay a cluster's own where its board and its ranges stay.
+-- Clients stay a cluster's own if its board and its ranges stay.
 use Rattle.std.proofs.Common.{inl, inr, ◌≡◌, ◌<◌, ◌≤◌, ℕ, List, [], ◌∷◌, ◌++◌, All, Option, Some, IfSome, length, map}
 use Rattle.std.proofs.Common.{replicate, take, drop, pos, refl, sym, ap, ◌∙◌, subst, arith, length-append, ◌+◌, ◌-◌}
 use Rattle.std.specs.Prelude.{slice_index_or, ◌⊎◌}
@@ -73,7 +73,7 @@ popped_of P clients rest popped client items is all many =
       omega (arith, counted, length-append rest (client ∷ []), many),
     )
 
--- where all have a new router, all are new
+-- if all have a new router, all are new
 pub new_clients : (cluster : ClusterValue Request) (clients : List (ClientValue Request)) (n : ℕ)
     → map (λ (each : ClientValue Request). each.router) clients
     ≡ replicate n (record { table = cluster.map.table; seen = [] })
@@ -87,11 +87,11 @@ new_clients cluster clients n same theirs = λ at d within.
     let place : at < length (map f clients) = omega (arith, length-map clients f, within) in
     (theirs at d within, sym (get_or-map f clients at d) ∙ each at (f d) place)
 
--- all of a list that others stand behind
+-- the whole of a list that others follow
 pub take_all : (front back : List (ClientValue Request)) (n : ℕ) → n ≡ length front → take n (front ++ back) ≡ front
 take_all front back n is = ap (λ (k : ℕ). take k (front ++ back)) is ∙ take-append_seam front back
 
--- the front of a list, and what is behind it
+-- the front of a list, and the rest of it
 pub front_of : (n : ℕ) (all front back : List (ClientValue Request)) → all ≡ front ++ back → length front ≡ n
     → take n all ≡ front
 front_of n all front back split many =

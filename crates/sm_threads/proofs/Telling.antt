@@ -52,7 +52,7 @@ freed_keeps before after shard (Ok done) freed same = (
 )
 freed_keeps before after shard (Err fault) freed same = same_keeps before after same
 
--- what is known of each session
+-- the facts about each session
 abbrev pub IsKept : ClusterValue Request → List (ClientValue Request) → ClientValue Request → Type 0
 IsKept cluster loaders client =
     IsWhole (session_with cluster loaders client) × All (IsClientOf cluster) loaders × (length loaders ≡ 17)

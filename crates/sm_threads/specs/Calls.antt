@@ -1,4 +1,4 @@
--- What a cluster answers to each call of a script, and the session that it leaves.
+-- A cluster's answer to each call of a script, and the session after it.
 use Rattle.std.specs.Prelude.{ℕ, Bool, true, false, ◌+◌, ◌*◌, ◌≡◌, ◌<◌, ◌≤◌, Option, Some, None, Result, Ok, Err}
 use Rattle.std.specs.Prelude.{OnOk, OnErr, IfErr, List, length, if◌then◌else◌}
 use Rattle.std.specs.Option.{option_map}
@@ -39,39 +39,39 @@ use Rattle.sm_threads.specs.Sessions.{SessionValue}
 abbrev pub with_client : SessionValue → ClientValue Request → SessionValue
 with_client session client = record session { client = client }
 
--- the answer to a call that is made or refused; one that ends the run for want of memory has none
+-- the answer to a call that is made or refused; a call that ends the run because memory was refused has none
 abbrev pub may_answer : {T F : Type 0} → (F → Option Refused) → Result T F → Option LineAnswer
 may_answer refusal (Ok made) = Some Made
 may_answer refusal (Err fault) = option_map IsRefused (refusal fault)
 
 -- ---- requests
 
--- what a call of a client gave is answered: an answer, of which the client has heard the note, or why there is none
+-- the answer to the result of a client's call: an answer whose note the client has met, or why there is none
 abbrev pub AnsweredResult : ClientValue Request → CallResult Request Reply → LineAnswer → ClientValue Request → Type 0
 AnsweredResult before (Ok given) answer after =
     HasHeard before given.note after × (answer ≡ Executed given.reply given.server given.place)
 AnsweredResult before (Err why) answer after =
     (option_map IsRefused (call_refused why.fault) ≡ Some answer) × (after ≡ before)
 
--- what a call of the session's client gave, and so left the client, is answered; nothing else has changed
+-- the result of a call by the session's client, which so changed the client, is answered; nothing else has changed
 abbrev pub AnsweredCall : (CallResult Request Reply → ClientValue Request → Type 0) → SessionValue → LineAnswer
     → SessionValue → Type 0
 AnsweredCall called before answer after =
     (given : CallResult Request Reply) × (asked : ClientValue Request)
     × called given asked × AnsweredResult asked given answer after.client × (after ≡ with_client before after.client)
 
--- a request goes to a server that exists, or is refused
-abbrev pub AnsweredWhere : Bool → SessionValue → Request → LineAnswer → SessionValue → Type 0
-AnsweredWhere true before request answer after =
-    AnsweredCall (CalledAt counter_text before.client 0 request) before answer after
-AnsweredWhere false before request answer after = (answer ≡ IsRefused refused.UnknownServer) × (after ≡ before)
+-- a request goes to this server, which exists, or is refused
+abbrev pub AnsweredWhere : Bool → SessionValue → ℕ → Request → LineAnswer → SessionValue → Type 0
+AnsweredWhere true before server request answer after =
+    AnsweredCall (CalledAt counter_text before.client server 0 request) before answer after
+AnsweredWhere false before server request answer after = (answer ≡ IsRefused refused.UnknownServer) × (after ≡ before)
 
 -- a request goes to this server
 abbrev pub AnsweredAt : SessionValue → ℕ → Request → LineAnswer → SessionValue → Type 0
 AnsweredAt before server request answer after =
-    AnsweredWhere (is_known before.cluster.control.desk.books.servers server) before request answer after
+    AnsweredWhere (is_known before.cluster.control.desk.books.servers server) before server request answer after
 
--- a request goes to the shard's owner, and is refused where there is none
+-- a request goes to the shard's owner, and is refused if there is none
 abbrev pub AnsweredByOwner : SessionValue → Option ℕ → Request → LineAnswer → SessionValue → Type 0
 AnsweredByOwner before None request answer after =
     (answer ≡ IsRefused (refused.Admit Vacant)) × (after ≡ before)
@@ -79,7 +79,7 @@ AnsweredByOwner before (Some owner) request answer after = AnsweredAt before own
 
 -- ---- calls
 
--- a record is that of all that the client then has seen
+-- a record is that of everything that the client then has seen
 abbrev pub Looked : SessionValue → ℕ → LineAnswer → SessionValue → Type 0
 Looked before shard (Seen state) after =
     (shard < length before.cluster.bounds) × HasLooked before.client shard state after.client
@@ -87,7 +87,7 @@ Looked before shard (Seen state) after =
 Looked before shard answer after =
     (length before.cluster.bounds ≤ shard) × (answer ≡ IsRefused refused.UnknownShard) × (after ≡ before)
 
--- a route is that of the key's shard which the client's router has read
+-- a route is that of the key's shard that the client's router has read
 abbrev pub RoutedKey : SessionValue → List ℕ → LineAnswer → SessionValue → Type 0
 RoutedKey before key (Way route) after =
     HasReadRoute before.client (shard_of before.client.bounds key) route after.client
@@ -146,8 +146,9 @@ abbrev pub WasRouted : SessionValue → Request → LineAnswer → SessionValue 
 WasRouted before request answer after =
     AnsweredCall (Called counter_text before.client 0 request) before answer after
 
--- so many clients of the session made so many additions each, of which each was acknowledged or refused, and the answer
--- says whether the counts that another one was told differ by the acknowledged. Nothing else in the session has changed
+-- so many clients of the session made so many additions each, each of which was acknowledged or refused, and the answer
+-- says whether the counts that another client was told differ by the acknowledged ones; nothing else in the session has
+-- changed
 abbrev pub WasLoaded : SessionValue → List ℕ → ℕ → ℕ → LineAnswer → SessionValue → Type 0
 WasLoaded before key clients each (Loaded verdict) after =
     (report : LoadReport) × (report.acked + report.refused ≡ clients * each)
@@ -155,7 +156,7 @@ WasLoaded before key clients each (Loaded verdict) after =
     × IsVerdictOn report verdict × (after ≡ record before { loaders = after.loaders })
 WasLoaded before key clients each answer after = ⊥
 
--- what may be answered to a call
+-- the possible answers to a call
 abbrev pub Answers : SessionValue → Call → LineAnswer → SessionValue → Type 0
 Answers before (call.Control command) answer after = WasCommanded before command answer after
 Answers before (call.Hold shard server) answer after = WasHeld before shard server answer after

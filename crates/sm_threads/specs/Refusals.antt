@@ -1,4 +1,4 @@
--- The answers to calls that a cluster refused. Want of memory has none, as it ends the run.
+-- The answers to calls that a cluster refused. A lack of memory has none, because it ends the run.
 use Rattle.std.specs.Prelude.{Option, Some, None}
 use Rattle.sm_cluster.specs.AdmitRefusal.{AdmitRefusal}
 use Rattle.sm_cluster.specs.AdmitRefusal.TheVariants as admit
@@ -17,7 +17,7 @@ use Rattle.sm_script.specs.declared.refused.Refused.{Refused}
 use Rattle.sm_script.specs.declared.refused.Refused.TheVariants as refused
 use Rattle.sm_settings.specs.declared.settings_fault.SettingsFault.TheVariants.{TooManyWorkers}
 
--- why no session was begun where its cluster wasn't started
+-- why no session could begin, if its cluster wasn't started
 abbrev pub begin_fault : StartFault → BeginFault
 begin_fault start.TooManyWorkers = begin.Settings TooManyWorkers
 begin_fault start.NoMemory = begin.NoMemory

@@ -1,4 +1,4 @@
--- What a run on a cluster has written.
+-- The output of a run on a cluster.
 use Rattle.std.specs.Prelude.{ℕ, List}
 use Rattle.sm_lines.specs.Openings.{BeginsLine}
 use Rattle.sm_lines.specs.Runs.{WritesFor}
@@ -6,6 +6,6 @@ use Rattle.sm_session.specs.Responses.{Responds}
 use Rattle.sm_threads.specs.Calls.{Answers}
 use Rattle.sm_threads.specs.Sessions.{IsBegun}
 
--- what may be written for these lines of a script
+-- the possible output for these lines of a script
 abbrev pub WritesAnswers : List (List ℕ) → List ℕ → Type 0
 WritesAnswers = WritesFor (BeginsLine IsBegun) (Responds Answers)

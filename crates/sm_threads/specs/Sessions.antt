@@ -1,7 +1,8 @@
--- A session on a cluster as contracts see it, and with what it begins.
-use Rattle.std.specs.Prelude.{◌≡◌, ◌*◌, ◌<◌, ◌≤◌, ⊤, All, List, None, [], length, replicate}
+-- A session on a cluster as contracts see it, and its beginning.
+use Rattle.std.specs.Prelude.{◌≡◌, ◌*◌, ◌<◌, ◌≤◌, ⊤, All, List, None, [], length, map, replicate}
 use Rattle.sm_cluster.specs.Calls.{ClientValue}
 use Rattle.sm_cluster.specs.Clusters.{ClusterValue, IsClientOf, KnowsAll}
+use Rattle.sm_cluster.specs.Teams.{teams_of}
 use Rattle.sm_cluster.specs.declared.TheConstants.{MAX_WORKERS}
 use Rattle.sm_session.specs.Beginning.{settings_desk}
 use Rattle.sm_lines.specs.declared.begin_fault.BeginFault.{BeginFault}
@@ -17,7 +18,7 @@ pub record SessionValue : Type 0 where
   pub client : ClientValue Request
   pub loaders : List (ClientValue Request)
 
--- the client is the cluster's, whose board has a shard for each range, and has seen all that the cluster tells
+-- the client is the cluster's, whose board has a shard for each range, and has seen everything that the cluster tells
 abbrev pub IsWhole : SessionValue → Type 0
 IsWhole session =
     IsClientOf session.cluster session.client
@@ -29,8 +30,8 @@ abbrev pub IsNewClientOf : ClusterValue Request → ClientValue Request → Type
 IsNewClientOf cluster client =
     IsClientOf cluster client × (client.router ≡ record { table = cluster.map.table; seen = [] })
 
--- the session that settings begin: its cluster has the desk, the ranges and the limits that they ask for, and not too
--- many workers, its clients are new, and nothing has happened in it
+-- the session that settings begin: its cluster has the desk, the ranges and the limits that they ask for, and as many
+-- workers, which aren't too many; its clients are new, and nothing has happened in it
 pub record IsBegun (settings : SettingsValues) (session : SessionValue) : Type 0 where
   pub desk : session.cluster.control.desk ≡ settings_desk settings
   pub seen : session.cluster.control.chair.seen ≡ []
@@ -38,6 +39,7 @@ pub record IsBegun (settings : SettingsValues) (session : SessionValue) : Type 0
   pub kept : session.cluster.control.chair.board.limits.bodies ≡ replicate (length settings.bounds) settings.kept
   pub bounds : session.cluster.bounds ≡ settings.bounds
   pub holds : session.cluster.holds ≡ replicate (length settings.bounds) None
+  pub teams : session.cluster.teams ≡ teams_of settings.workers (map (λ row. row.id) settings.servers)
   pub map : session.cluster.map.map ≡ record { count = length settings.bounds; published = [] }
   pub workers : length settings.servers * settings.workers ≤ MAX_WORKERS
   pub shards : session.cluster.control.chair.board.limits.count ≡ length settings.bounds

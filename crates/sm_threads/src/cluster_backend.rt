@@ -18,14 +18,14 @@ use std::marker::Model;
 use std::sync::Wait;
 use std::thread::Threads;
 
-/// How many clients take part in a load at most: one that reads the count, and 16 that add to it.
+/// The most clients that take part in a load: one that reads the count, and 16 that add to it.
 pub(crate) const LOADERS: usize = 17;
 
 /// How many clients a cluster has: those of a load, and the one that makes the script's requests.
 const CLIENTS: usize = LOADERS + 1;
 
-/// A cluster of the sample service on which a script's calls are made, one at a time. It has to be stopped. Contracts
-/// see its cluster, the client that makes the script's requests, and those that make loads.
+/// A cluster of the sample service on which a script's calls are made, one at a time. It must be stopped. Contracts see
+/// its cluster, the client that makes the script's requests, and those that make loads.
 pub(crate) struct ClusterBackend<R> {
     rt: R,
     alloc: Global,
@@ -57,7 +57,7 @@ impl<R> Model for ClusterBackend<R> {
 }
 
 impl<R: Threads + Wait + Clone + Send + Drop + 'static> ClusterBackend<R> {
-    /// Starts a cluster with these settings in which nothing has happened, or says why there is none.
+    /// Starts a cluster with these settings in which nothing has happened, or returns why it can't.
     pub(crate) fn start<G: Gate + Send + Sync + Drop + 'static>(
         rt: &R,
         alloc: Global,
@@ -86,7 +86,7 @@ impl<R: Threads + Wait + Clone + Send + Drop + 'static> ClusterBackend<R> {
 }
 
 impl<R> ClusterBackend<R> {
-    /// Tells the listener what the cluster counted, where there is memory for it.
+    /// Tells the listener the cluster's counts, if there is memory for them.
     pub(crate) fn tell_counts<L: CountsListener>(&self, listener: &L) {
         if let Ok(counts) = self.cluster.counts(self.alloc) {
             listener.hear_counts(&counts);
@@ -95,7 +95,7 @@ impl<R> ClusterBackend<R> {
 }
 
 impl<R: Threads + Wait + Drop> ClusterBackend<R> {
-    /// Stops the cluster. What its shards keep is let go.
+    /// Stops the cluster. The contents of its shards are dropped.
     pub(crate) fn stop(self) {
         let ClusterBackend {
             rt,
@@ -109,7 +109,7 @@ impl<R: Threads + Wait + Drop> ClusterBackend<R> {
     }
 }
 
-/// The backend of a cluster and its clients, the last of which makes the script's requests.
+/// Makes the backend of a cluster and its clients, the last of which makes the script's requests.
 fn backend_of<R>(
     rt: R,
     alloc: Global,

@@ -1,6 +1,6 @@
 use sm_cluster::Counts;
 
-/// Who is told what a cluster counted.
+/// The listener for a cluster's counts.
 pub trait CountsListener {
     /// Hears the counts of a whole script, before its cluster is stopped.
     fn hear_counts(&self, counts: &Counts);

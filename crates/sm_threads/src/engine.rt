@@ -9,9 +9,9 @@ use std::marker::PhantomData;
 use std::sync::Wait;
 use std::thread::Threads;
 
-/// Runs scripts on clusters, one command at a time, in the sessions that a closure starts. Where that closure is made
-/// it is known that its runtime may start threads; a method of an engine of any runtime doesn't know it. Where there is
-/// a listener, it is told what the cluster of each session counted.
+/// Runs scripts on clusters, one command at a time, in the sessions that a closure starts. The maker of that closure
+/// knows that its runtime may start threads; a method of an engine of any runtime doesn't know it. If there is a
+/// listener, it is told the counts of each session's cluster.
 #[derive(Drop)]
 pub(crate) struct ThreadEngine<R, F, L> {
     begin: F,
@@ -28,7 +28,7 @@ impl CountsListener for Nobody {
 }
 
 impl<R, F, L> ThreadEngine<R, F, L> {
-    /// An engine whose sessions this closure starts.
+    /// Returns an engine whose sessions this closure starts.
     pub(crate) fn new(begin: F, listener: Option<L>) -> ThreadEngine<R, F, L> {
         ThreadEngine {
             begin,
@@ -57,7 +57,7 @@ impl<
 
     ghost MAX_LINE = { LINE_LIMIT };
 
-    // The session's runtime may be shared with other threads, and the closure starts what settings begin.
+    // The session's runtime may be shared with other threads, and the closure starts the sessions of settings.
     ghost ready = { λ _. IsSync R.row × BeginsSessions (λ settings. KeepsRules (values_of settings)) F.pre F.step
         (λ settings. IsBegun (values_of settings)) (λ settings. MayRefuse (values_of settings)) };
 

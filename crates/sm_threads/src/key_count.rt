@@ -4,7 +4,7 @@ use sm_service::reply::Reply;
 use sm_service::request::Request;
 use std::alloc::{AllocError, Global};
 
-/// The count that a key holds, as requests of a load.
+/// The count at a key, as the requests of a load.
 #[derive(Drop)]
 pub struct KeyCount {
     pub alloc: Global,

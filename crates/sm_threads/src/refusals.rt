@@ -15,7 +15,7 @@ use sm_script::{LineAnswer, Refused};
 use sm_settings::SettingsFault;
 use std::alloc::AllocError;
 
-/// Why no session was begun where its cluster was not started.
+/// Returns why no session could begin, if its cluster was not started.
 pub(crate) fn begin_fault(fault: StartFault) -> BeginFault
     ensures { result ≡ begin_fault fault }
 {
@@ -26,7 +26,7 @@ pub(crate) fn begin_fault(fault: StartFault) -> BeginFault
     }
 }
 
-/// The answer to a command.
+/// Returns the answer to a command.
 pub(crate) fn command_answer(made: Result<(), CommandFault>) -> LineAnswer
     ensures { may_answer (λ fault. Some (CommandRefused fault)) made ≡ Some result }
 {
@@ -36,7 +36,7 @@ pub(crate) fn command_answer(made: Result<(), CommandFault>) -> LineAnswer
     }
 }
 
-/// The refusal of an admission.
+/// Returns the refusal of an admission.
 fn admit_refused(refusal: AdmitRefusal) -> Refused
     ensures { result ≡ admit_refused refusal }
 {
@@ -46,7 +46,7 @@ fn admit_refused(refusal: AdmitRefusal) -> Refused
     }
 }
 
-/// The answer to a hold, to its end or to a checkpoint; an error is want of memory.
+/// Returns the answer to a hold, to its end or to a checkpoint; an error is want of memory.
 pub(crate) fn hold_answer<T: Copy + Drop>(
     made: Result<T, HoldFault>,
 ) -> Result<LineAnswer, AllocError>
@@ -63,7 +63,7 @@ pub(crate) fn hold_answer<T: Copy + Drop>(
     }
 }
 
-/// The answer to a publication; an error is want of memory.
+/// Returns the answer to a publication; an error is want of memory.
 pub(crate) fn publish_answer(made: Result<Route, RouteFault>) -> Result<LineAnswer, AllocError>
     ensures ok { IfOk result (λ answer. may_answer publish_refused made ≡ Some answer) }
     ensures err { OnErr result (may_answer publish_refused made ≡ None) }
@@ -77,7 +77,7 @@ pub(crate) fn publish_answer(made: Result<Route, RouteFault>) -> Result<LineAnsw
     }
 }
 
-/// The answer to a request that was not answered; an error is want of memory.
+/// Returns the answer to a request that was not answered; an error is want of memory.
 pub(crate) fn call_refused(fault: CallFault) -> Result<LineAnswer, AllocError>
     ensures ok { IfOk result (λ answer. option_map LineAnswer.Refused (call_refused fault) ≡ Some answer) }
     ensures err { OnErr result (call_refused fault ≡ None) }
@@ -91,7 +91,7 @@ pub(crate) fn call_refused(fault: CallFault) -> Result<LineAnswer, AllocError>
     }
 }
 
-/// The answer to a request that a server refused; an error is want of memory.
+/// Returns the answer to a request that a server refused; an error is want of memory.
 fn request_refused(refusal: Refusal) -> Result<LineAnswer, AllocError>
     ensures ok { IfOk result (λ answer.
         option_map LineAnswer.Refused (call_refused (CallFault.Refused refusal)) ≡ Some answer) }

@@ -22,20 +22,20 @@ use std::sync::Wait;
 use std::thread::Threads;
 
 /// Runs the script of the dialogue's reader on a cluster, one command at a time, and writes its answers. Each server
-/// has as many workers as the settings say, and each of them passes a clone of the gate before it serves a request.
-/// The cluster is stopped at the end. What is said of bytes holds of a reader and a writer that tell theirs.
+/// has as many workers as the settings say, and each of them passes a clone of the gate before it serves a request. The
+/// cluster is stopped at the end. The statements about bytes hold for a reader and a writer that tell theirs.
 ///
-/// It may wait for the cluster's threads. `Read` comes only where the reader failed, or 2^32 of its calls or lines
-/// were counted; `Write` only where the writer failed; `NoMemory` and `NoThread` only where neither failed. The
-/// answers to all lines before the one at which a fault came were written, and nothing else, but for a front of that
-/// line's answer where writing failed. `NoThread` comes only where no cluster was started for it, before any answer.
+/// It may wait for the cluster's threads. `Read` comes only if the reader failed, or 2^32 of its calls or lines were
+/// counted; `Write` only if the writer failed; `NoMemory` and `NoThread` only if neither failed. The answers to all
+/// lines before the one at which a fault came were written, and nothing else, except for a front of that line's answer
+/// if writing failed. `NoThread` comes only if no cluster could be started because of it, before any answer.
 pub fn run_threads<
     I: Read + Drop,
     W: Write + Drop,
     R: Threads + Wait + Clone + Send + Sync + Drop + 'static,
     G: Gate + Clone + Send + Sync + Drop + 'static,
 >(rt: &R, alloc: Global, dialogue: &mut Dialogue<I, W>, gate: &G) -> Result<Status, RunFault>
-    // What was written is answers that the cluster may give, one after another, and nothing else.
+    // The output is answers that the cluster may give, one after another, and nothing else.
     ensures ran { result ≡ Ok Status.Ran → RanScript WritesAnswers dialogue.old dialogue.new }
     ensures bad_settings { result ≡ Ok Status.BadSettings → RefusedScript (RefusesLine MayRefuse) Wrote
         dialogue.old dialogue.new }
@@ -53,8 +53,7 @@ pub fn run_threads<
     run(alloc, dialogue, &mut plain)
 }
 
-/// The same, and tells the one listener why lines were refused, and the other one what the cluster counted, where it
-/// was started.
+/// Does the same. Tells one listener why lines were refused, and the other one the cluster's counts, if it was started.
 pub fn run_threads_explained<
     I: Read + Drop,
     W: Write + Drop,
@@ -85,7 +84,7 @@ pub fn run_threads_explained<
     run(alloc, dialogue, &mut engine)
 }
 
-/// A session on a cluster with a clone of the gate, or why there is none.
+/// Returns a session on a cluster with a clone of the gate, or why there is none.
 fn begin_with<
     R: Threads + Wait + Clone + Send + Drop + 'static,
     G: Gate + Clone + Send + Sync + Drop + 'static,

@@ -1,4 +1,4 @@
--- What is known of a call, by whatever route it went.
+-- The facts about a call, by whatever route it went.
 use Rattle.std.proofs.Common.{ℕ, Option, Some, None, Ok, subst}
 use Rattle.sm_body.specs.Service.{Meaning}
 use Rattle.sm_ownership.specs.declared.route.Route.{Route}
@@ -9,7 +9,7 @@ module _ {Q R : Type 0} (service : Meaning Q R) (number : ℕ) (request : Q) (an
   given_by : (before after : ClientValue Q) (route : Option Route)
       → CalledBy service before number request route (Ok answer) after → Gives service before number request answer
   given_by before after None called = absurd cc
-  given_by before after (Some route) called = called.0
+  given_by before after (Some route) called = called.0.0
 
   -- an answer is one for the client as it was before it read a route
   pub called_gives : (before after : ClientValue Q) → Called service before number request (Ok answer) after

@@ -11,7 +11,7 @@ pub client_since : {Q : Type 0} (cluster : ClusterValue Q) (before after : Clien
     → IsClientOf cluster before → IsClientOf cluster after
 client_since cluster before after since is = (since.board ∙ is.0, since.bounds ∙ is.1)
 
--- it still knows all that the cluster tells
+-- it still knows everything that the cluster tells
 pub knows_since : {Q : Type 0} (cluster : ClusterValue Q) (before after : ClientValue Q) → IsClientSince before after
     → KnowsAll cluster before → KnowsAll cluster after
 knows_since cluster before after since knows =

@@ -15,8 +15,8 @@ use sm_server::checkpoint;
 
 impl<S: Service> Cluster<S> {
     /// Makes the shard's present state its base, under a direct admission of the server, so that the shard keeps no
-    /// request; or answers the first reason that applies. The admission is by a new pass, which has seen all that the
-    /// cluster told; the cluster then tells what that pass has seen.
+    /// requests; or returns the first reason that applies. The admission uses a new pass, which has seen everything
+    /// that the cluster told. The cluster then tells everything that the pass has seen.
     pub fn checkpoint(&mut self, k: ShardId, a: ServerId) -> Result<Front, HoldFault>
         ensures based { HasBased self.old k a result self.new }
         ensures unchanged { TellsMore self.old self.new }
@@ -30,7 +30,7 @@ impl<S: Service> Cluster<S> {
         self.base(k, a)
     }
 
-    // `checkpoint`, where the shard and the server exist.
+    // Does the same as `checkpoint`, if the shard and the server exist.
     fn base(&mut self, k: ShardId, a: ServerId) -> Result<Front, HoldFault>
         requires { k < self.old.control.chair.board.limits.count }
         ensures { IsBasedBy self.old k a result self.new }
@@ -41,7 +41,7 @@ impl<S: Service> Cluster<S> {
         Ok(made?)
     }
 
-    // A new pass of the server, which has seen all that the cluster told.
+    // Returns a new pass of the server, which has seen everything that the cluster told.
     pub(super) fn pass_of(&mut self, a: ServerId) -> Pass<S>
         ensures new { IsNewPass self.old.control.chair.board a self.old.told result }
         ensures unchanged { self.new ≡ self.old }

@@ -20,8 +20,8 @@ use std::alloc::{AllocError, Global};
 use std::sync::Wait;
 
 impl<S: Service> Cluster<S> {
-    /// Makes the command, or answers the first fault that applies. A server's door shuts where it failed or was
-    /// stopped, and opens where it is back. The cluster then tells all that the control has seen.
+    /// Makes the command, or returns the first fault that applies. A server's door shuts if it failed or was stopped,
+    /// and opens if it is back. The cluster then tells everything that the control has seen.
     pub fn command(&mut self, command: Command) -> Result<(), CommandFault>
         ensures commanded { HasCommanded self.old command result self.new }
         ensures board { self.new.control.chair.board ≡ self.old.control.chair.board }
@@ -40,8 +40,9 @@ impl<S: Service> Cluster<S> {
         }
     }
 
-    /// Publishes the shard's owner and its generation, and gives that route; or answers why there is none, or why it
-    /// isn't published. It may wait for clients that are reading. The cluster then tells all that the control has seen.
+    /// Publishes the shard's owner and its generation, and returns that route; or returns why there is none, or why it
+    /// isn't published. It may wait for clients that are reading. The cluster then tells everything that the control
+    /// has seen.
     pub fn publish<R: Wait>(&mut self, rt: &R, k: ShardId) -> Result<Route, RouteFault>
         ensures published { HasPublished self.old k result self.new }
         ensures told { Begins self.new.control.chair.seen self.new.told }
@@ -65,8 +66,8 @@ impl<S: Service> Cluster<S> {
         })
     }
 
-    /// Each vacant shard by number goes to the lowest-numbered server that it fits, earlier moves counted as made.
-    /// The shards that fit no server in their turn are left.
+    /// Returns a plan in which each vacant shard, by number, goes to the lowest-numbered server on which it fits, with
+    /// earlier moves counted as made. The shards that fit on no server in their turn are left.
     pub fn plan_assign(&self, alloc: Global) -> Result<Plan, AllocError>
         ensures plan { IfOk result (λ plan. plan ≡ assign_plan self.now.control.desk.books) }
         ensures keeps_room { let books = self.now.control.desk.books in
@@ -76,8 +77,8 @@ impl<S: Service> Cluster<S> {
         self.control.plan_assign(alloc)
     }
 
-    /// Each shard that the server serves, by number, goes to the lowest-numbered other server that it fits, earlier
-    /// moves counted as wholly migrated; or the first fault that applies.
+    /// Returns a plan in which each shard that the server serves, by number, goes to the lowest-numbered other server
+    /// on which it fits, with earlier moves counted as wholly migrated; or returns the first fault that applies.
     pub fn plan_drain(&self, alloc: Global, a: ServerId) -> Result<Plan, DrainFault>
         ensures plan { IfOk result (λ plan. plan ≡ drain_plan self.now.control.desk.books a) }
         ensures keeps_room { let books = self.now.control.desk.books in

@@ -1,4 +1,4 @@
-//! What a cluster counts.
+//! The counts of a cluster.
 ghost use Rattle.std.specs.Prelude.{◌≡◌, ◌<◌, IfOk, length};
 
 use super::Cluster;
@@ -9,8 +9,8 @@ use sm_ranges::shard_id::ShardId;
 use std::alloc::{AllocError, Global};
 
 impl<S: Service> Cluster<S> {
-    /// What was counted since the start. What is under way is counted once a server's step on it has ended. No clause
-    /// says what the counts are.
+    /// Returns the counts since the start. A request under way is counted once a server's step on it has ended. No
+    /// clause says anything about the counts.
     pub fn counts(&self, alloc: Global) -> Result<Counts, AllocError>
         ensures { IfOk result (λ counts. length counts.shards.items ≡ self.now.control.chair.board.limits.count) }
     {
@@ -27,7 +27,7 @@ impl<S: Service> Cluster<S> {
         })
     }
 
-    // What was counted of the shard: its generation is the number of its changes, and of the begins and ends of its
+    // Returns the counts of the shard. Its generation is the number of its changes, and of the begins and ends of its
     // admissions.
     fn shard_counts(&self, k: ShardId) -> ShardCounts
         requires { k < self.now.control.chair.board.limits.count }

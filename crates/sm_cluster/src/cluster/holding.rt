@@ -10,9 +10,9 @@ use sm_ranges::server_id::ServerId;
 use sm_ranges::shard_id::ShardId;
 
 impl<S: Service> Cluster<S> {
-    /// Has the server admitted to the shard for a direct request that never comes, until the shard is freed or the
-    /// cluster stopped; or answers the first fault that applies. The admission is by a new pass, which has seen all
-    /// that the cluster told; the cluster then tells what that pass has seen. It takes no memory.
+    /// Makes the server admitted to the shard for a direct request that never comes, until the shard is freed or the
+    /// cluster stopped; or returns the first fault that applies. The admission uses a new pass, which has seen
+    /// everything that the cluster told. The cluster then tells everything that the pass has seen. It takes no memory.
     pub fn hold(&mut self, k: ShardId, a: ServerId) -> Result<(), HoldFault>
         ensures held { OnOk result (HasHeld self.old k a self.new) }
         ensures refused { IfErr result (λ fault. HoldRefused self.old k a fault self.new) }
@@ -33,7 +33,7 @@ impl<S: Service> Cluster<S> {
         }
     }
 
-    /// Ends the admission of a held shard with nothing, or answers the first fault that applies. A shard that is
+    /// Ends the admission of a held shard without a request. If a fault applies, returns the first one. A shard that is
     /// admitted for a request isn't held. The cluster then tells of the end.
     pub fn free(&mut self, k: ShardId) -> Result<(), HoldFault>
         ensures freed { OnOk result (HasFreed self.old k self.new) }

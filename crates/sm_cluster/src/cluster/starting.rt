@@ -1,11 +1,12 @@
 //! The start of a cluster.
 ghost use Rattle.std.specs.Prelude.{◌≡◌, ◌≢◌, ◌<◌, ◌≤◌, ◌*◌, ◌^◌, ◌↔◌, All, Err, IfErr, IfOk, IsTrue, None, [], length};
-ghost use Rattle.std.specs.Prelude.{map, replicate};
+ghost use Rattle.std.specs.Prelude.{IsOk, OnOk, map, replicate};
 ghost use Rattle.std.specs.Arc.{arc_value};
 ghost use Rattle.sm_ranges.specs.declared.stand.Stand.TheVariants.{Vacant};
 ghost use Rattle.sm_rule.specs.Boards.{make_fault};
 ghost use Rattle.sm_cluster.specs.Clusters.{IsClientOf};
 ghost use Rattle.sm_cluster.specs.Holding.{AreHoldsOn};
+ghost use Rattle.sm_cluster.specs.Teams.{teams_of};
 
 use super::Cluster;
 use super::telling::report;
@@ -26,7 +27,7 @@ use std::alloc::{AllocError, Global};
 use std::sync::{Arc, Wait};
 use std::thread::Threads;
 
-// What a cluster is made of before its threads are started.
+// The parts of a cluster before its threads are started.
 #[derive(Drop)]
 struct Parts<S: Service> {
     ground: Arc<Ground<S>>,
@@ -40,9 +41,9 @@ where
     S::Request: 'static,
     S::Reply: 'static,
 {
-    /// Starts so many workers for each server, at least one, and makes so many clients, 1 to 2^32 - 1; or answers the
-    /// first fault that applies, and the workers that were started are stopped and joined. The bodies have applied
-    /// nothing yet.
+    /// Starts so many workers for each server, at least one, and makes so many clients, 1 to 2^32 - 1. On a fault
+    /// returns the first one that applies; the workers that were started are then stopped and joined. The bodies must
+    /// not have applied anything yet.
     pub fn start<
         G: Gate + Send + Sync + Drop + 'static,
         R: Threads + Wait + Clone + Send + Drop + 'static,
@@ -75,6 +76,9 @@ where
         ensures bounds { IfOk result (λ made. made.0.bounds ≡ setup.layout) }
         ensures holds { IfOk result (λ made. made.0.holds ≡ replicate (length bodies.items) None) }
         ensures map { IfOk result (λ made. made.0.map.map ≡ record { count = length bodies.items; published = [] }) }
+        // As many workers were started for each server as were asked for.
+        ensures teams { IfOk result (λ made.
+            made.0.teams ≡ teams_of workers (map (λ row. row.id) setup.desk.books.servers)) }
         ensures routers { IfOk result (λ made.
             map (λ client. client.router) made.1.items
             ≡ replicate clients (record { table = made.0.map.table; seen = [] })) }
@@ -98,7 +102,7 @@ fn is_too_many(desk: &Desk, workers: u32) -> bool
     servers > MAX_WORKERS as usize || servers as u64 * u64::from(workers) > u64::from(MAX_WORKERS)
 }
 
-// A board with its control, and the ways to its servers, each of so many workers.
+// Makes a board with its control, and the network to its servers, each with so many workers.
 fn parts_of<S: Service, R: Wait>(
     rt: &R,
     alloc: Global,
@@ -120,6 +124,8 @@ fn parts_of<S: Service, R: Wait>(
     ensures limits { IfOk result (λ parts. parts.control.chair.board.limits.bodies ≡ map S.limit bodies.items) }
     ensures board { IfOk result (λ parts. parts.control.chair.board ≡ (arc_value parts.ground).board) }
     ensures bounds { IfOk result (λ parts. (arc_value parts.ground).layout ≡ setup.layout) }
+    ensures inboxes { IfOk result (λ parts.
+        map (λ inbox. inbox.server) parts.inboxes.items ≡ map (λ row. row.id) setup.desk.books.servers) }
 {
     let Setup {
         layout,
@@ -169,7 +175,7 @@ fn ground_of<S: Service>(
     }
 }
 
-// The cluster of these parts, whose workers are started, and so many clients of it.
+// Makes the cluster of these parts, whose workers are started, and so many clients of it.
 fn with_clients<
     S: Service + 'static,
     G: Gate + Send + Sync + Drop + 'static,
@@ -193,6 +199,8 @@ where
     ensures holds { IfOk result (λ made. made.0.holds ≡ replicate parts.control.chair.board.limits.count None) }
     ensures map { IfOk result
         (λ made. made.0.map.map ≡ record { count = parts.control.chair.board.limits.count; published = [] }) }
+    ensures teams { IfOk result (λ made.
+        made.0.teams ≡ teams_of workers (map (λ inbox. inbox.server) parts.inboxes.items)) }
     ensures routers { IfOk result (λ made.
         map (λ client. client.router) made.1.items
         ≡ replicate clients (record { table = made.0.map.table; seen = [] })) }
@@ -236,7 +244,7 @@ fn clients_of<S: Service>(
     Ok(clients)
 }
 
-// The cluster of these parts, whose workers are started; where that is refused, those that were started are stopped.
+// Makes the cluster of these parts, and starts its workers. If that is refused, stops those that were started.
 fn manned<
     S: Service + 'static,
     G: Gate + Send + Sync + Drop + 'static,
@@ -256,6 +264,8 @@ where
     ensures fault { IfErr result (λ fault. fault ≢ StartFault.TooManyWorkers) }
     ensures control { IfOk result (λ cluster. cluster.control ≡ parts.control) }
     ensures map { IfOk result (λ cluster. cluster.map ≡ publisher) }
+    ensures teams { IfOk result (λ cluster.
+        cluster.teams ≡ teams_of workers (map (λ inbox. inbox.server) parts.inboxes.items)) }
     ensures bounds { IfOk result (λ cluster. cluster.bounds ≡ (arc_value parts.ground).layout) }
     ensures holds { IfOk result (λ cluster. cluster.holds ≡ replicate parts.control.chair.board.limits.count None) }
 {
@@ -272,13 +282,14 @@ where
     }
 }
 
-// Room for holds, once all workers were started.
+// Makes room for holds, once all workers were started.
 fn room_once<S: Service>(
     started: Result<(), StartFault>,
     alloc: Global,
     board: &Board<S>,
 ) -> Result<Holds<S>, StartFault>
     requires { IfErr started (λ fault. fault ≢ StartFault.TooManyWorkers) }
+    ensures ok { OnOk result (IsOk started) }
     ensures fault { IfErr result (λ fault. fault ≢ StartFault.TooManyWorkers) }
     ensures none { IfOk result (λ holds. holds ≡ replicate board.now.limits.count None) }
     ensures theirs { IfOk result (λ holds. AreHoldsOn board.now holds) }
@@ -288,7 +299,8 @@ fn room_once<S: Service>(
     Ok(holds)
 }
 
-// The cluster of these parts, with its map, its holds and its crew. It tells what the control has seen.
+// Makes the cluster of these parts, with its map, its holds and its crew. It tells everything that the control has
+// seen.
 fn cluster_of<S: Service>(
     parts: Parts<S>,
     publisher: Publisher,
@@ -303,6 +315,7 @@ fn cluster_of<S: Service>(
       bounds = (arc_value parts.ground).layout;
       holds = holds;
       told = result.told;
+      teams = crew;
     } }
 {
     let Parts {

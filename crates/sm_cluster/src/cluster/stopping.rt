@@ -18,9 +18,10 @@ use std::sync::{Arc, Wait};
 use std::thread::Threads;
 
 impl<S: Service> Cluster<S> {
-    /// Shuts all doors, frees what is held, stops and joins the workers, and closes the board: each shard's record, and
-    /// the body of each idle one, after one legal history that extends what the control had seen by entries of passes,
-    /// extends what the cluster told and what each of these clients had seen, and has the end of each hold.
+    /// Shuts all doors, frees all holds, stops and joins the workers, and closes the board. Returns each shard's
+    /// record, and the body of each idle shard, after one legal history. That history extends everything that the
+    /// control had seen by entries of passes. It extends everything that the cluster told and that each of these
+    /// clients had seen, and it has the end of each hold.
     pub fn stop<R: Threads + Wait>(
         self,
         rt: &R,
@@ -49,7 +50,7 @@ impl<S: Service> Cluster<S> {
     }
 }
 
-// What the board leaves, unless a client still has it.
+// Returns the result of closing the board, unless a client still has it.
 fn closed<S: Service>(
     ground: Arc<Ground<S>>,
     control: Control<S>,
@@ -71,7 +72,7 @@ fn closed<S: Service>(
     }
 }
 
-// The teller, once it has seen what each of the clients has.
+// Returns the teller, once it has seen everything that each of the clients has seen.
 fn told<S: Service>(board: &Board<S>, teller: Pass<S>, clients: Vec<Client<S>>) -> Pass<S>
     requires board { teller.board ≡ board.now }
     requires clients { All (λ client. client.pass.board ≡ board.now) clients.items }

@@ -1,4 +1,4 @@
-//! What a cluster tells.
+//! The history that a cluster tells.
 ghost use Rattle.std.specs.Prelude.{◌≡◌};
 ghost use Rattle.sm_rule.specs.Passes.{PassLooks};
 ghost use Rattle.sm_rule.specs.Views.{Begins};
@@ -12,8 +12,9 @@ use sm_rule::board::Board;
 use sm_rule::pass::Pass;
 
 impl<S: Service> Cluster<S> {
-    /// Tells a client of the same board what the cluster's calls have done: it has then seen all that the control has,
-    /// and by what each hold, each checkpoint and each end of a hold was made or refused.
+    /// Tells a client of the same board the effects of the cluster's calls. The client has then seen everything that
+    /// the control has seen, and the entries by which each hold, each checkpoint and each end of a hold was made or
+    /// refused.
     pub fn tell(&mut self, client: &mut Client<S>)
         requires { client.old.pass.board ≡ self.old.control.chair.board }
         ensures told { HasTold self.old client.old client.new }
@@ -24,7 +25,7 @@ impl<S: Service> Cluster<S> {
     }
 }
 
-/// Tells the teller all that the control has seen.
+/// Tells the teller everything that the control has seen.
 pub(super) fn report<S: Service>(board: &Board<S>, control: &mut Control<S>, teller: &mut Pass<S>)
     requires control { control.old.chair.board ≡ board.now }
     requires teller { teller.old.board ≡ board.now }

@@ -1,4 +1,4 @@
--- A session responds to a line beyond the limit as to any line.
+-- A session responds to a line beyond the limit as to any other line.
 use Rattle.std.proofs.Common.{◌≡◌, ◌≤◌, ◌<◌, ℕ, List, length, take, drop, sym, subst, arith, lit<, inl, inr}
 use Rattle.std.proofs.Common.{Option, Some, None, Result, Ok, Err}
 use Rattle.std.proofs.lemmas.Bool.{cases_lt}
@@ -31,7 +31,7 @@ long_response line text long responds =
     subst (λ (l : List ℕ). MAX_LINE < length l → IsLongResponse (call_of_line l) text) (take-append-drop MAX_LINE line)
     (responds (drop MAX_LINE line) (some_front line long)) long
 
--- whatever the length of a line, it has the response of a line
+-- a line of any length has the response of a line
 pub responds_any : {B : Type 0} (answers : B → Call → LineAnswer → B → Type 0) (before : B) (line text : List ℕ)
     (after : B)
     → AnswersLine (Responds answers) (λ session start text. RespondsLong start text) MAX_LINE before line text after

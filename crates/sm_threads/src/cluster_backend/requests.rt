@@ -24,7 +24,7 @@ use std::sync::Wait;
 use std::thread::Threads;
 
 impl<R: Wait> ClusterBackend<R> {
-    /// The shard's record, which the client then sees.
+    /// Returns the shard's record, which the client then sees.
     pub(super) fn record(&mut self, shard: ShardId) -> Record
         requires { shard < length self.old.client.bounds }
         ensures looked { HasLooked self.old.client shard result self.new.client }
@@ -33,7 +33,7 @@ impl<R: Wait> ClusterBackend<R> {
         self.client.look(shard)
     }
 
-    /// Has the server answer the request of this shard, where there is such a server; an error is want of memory.
+    /// Sends the request of this shard to the server, if there is such a server. An error is a lack of memory.
     pub(super) fn ask_at(
         &mut self,
         shard: ShardId,
@@ -54,8 +54,8 @@ impl<R: Wait> ClusterBackend<R> {
     }
 }
 
-/// The first client asks for the key's count, so many others add to it, so many times each, and the first asks again.
-/// The rest of the clients make no call.
+/// Makes the first client ask for the key's count; then so many others add to it, so many times each, and the first
+/// asks again. The other clients make no call.
 pub(super) fn load_by<R: Threads + Wait + Sync>(
     rt: &R,
     alloc: Global,
@@ -73,7 +73,7 @@ pub(super) fn load_by<R: Threads + Wait + Sync>(
     load(rt, alloc, used, &counting, u32::from(each))
 }
 
-/// Has the client learn what its call gave, and answers that; an error is want of memory.
+/// Makes the client learn its call's result, and answers that. An error is a lack of memory.
 pub(super) fn learned(
     client: &mut Client<CounterText>,
     given: Result<Answer<CounterText>, CallRefused<Request>>,
@@ -95,7 +95,7 @@ pub(super) fn learned(
     }
 }
 
-/// What the counts of a load say.
+/// Returns the verdict on the counts of a load.
 pub(super) fn verdict_on(report: &LoadReport) -> LoadVerdict
     ensures { IsVerdictOn report.now result }
 {

@@ -10,7 +10,7 @@ use Rattle.sm_script.proofs.append.append_all.Goals as goal
 abbrev bytes_of : List (Bor (List ℕ)) → List ℕ
 bytes_of pieces = concat (map (λ piece. piece.now) pieces)
 
--- one piece more
+-- the bytes with one more piece
 bytes_of-take_more : (pieces : List (Bor (List ℕ))) (i : ℕ) (d : Bor (List ℕ)) → i < length pieces
     → bytes_of (take (i + 1) pieces) ≡ bytes_of (take i pieces) ++ (slice_index_or pieces i d).now
 bytes_of-take_more pieces i d h =

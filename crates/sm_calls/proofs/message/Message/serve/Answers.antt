@@ -12,18 +12,19 @@ pub send-requires-else-is_overtaken-after_bounds : goal.send-requires-else-is_ov
 send-requires-else-is_overtaken-after_bounds g c κs within =
     let is = c.self.invariant in
     let bounds : (arc_value c.self.inside.ground).layout ≡ c.deref.result.now.layout = search rules in
-    rw is.2 (c.in-Refused.ensures is.1 (is.3 ∙ bounds) is.4)
+    let told = c.in-Refused.ensures is.1 (is.3 ∙ bounds) is.4 in
+    rw is.2 (told.0.way, told.1)
 
 pub invariant_of-message : goal.invariant_of-message
 invariant_of-message g c =
     let is = c.self.invariant in
     let bounds : (arc_value c.self.inside.ground).layout ≡ c.deref.result.now.layout = search rules in
-    let way = (c.in-Refused.ensures is.1 (is.3 ∙ bounds) is.4).0 in
-    (way.board ∙ (sym is.4.board ∙ is.0), is.1, is.2, is.3, way)
+    let reached = (c.in-Refused.ensures is.1 (is.3 ∙ bounds) is.4).0 in
+    (reached.way.board ∙ (sym is.4.way.board ∙ is.0), is.1, is.2, is.3, reached)
 
 pub invariant_of-message-in-Forward : goal.invariant_of-message-in-Forward
 invariant_of-message-in-Forward g c =
     let is = c.self.invariant in
     let bounds : (arc_value c.self.inside.ground).layout ≡ c.deref.result.now.layout = search rules in
-    let way = c.in-Forward.ensures is.1 (is.3 ∙ bounds) is.4 in
-    (way.board ∙ (sym is.4.board ∙ is.0), is.1, is.2, is.3, way)
+    let reached = c.in-Forward.ensures is.1 (is.3 ∙ bounds) is.4 in
+    (reached.way.board ∙ (sym is.4.way.board ∙ is.0), is.1, is.2, is.3, reached)

@@ -20,6 +20,7 @@ returns-in_err-made g c =
       bounds = (arc_value inside.ground).layout;
       holds = inside.holds;
       told = told;
+      teams = inside.crew;
     } in
     let based : IsBasedBy c.args.self.now c.args.k c.args.a (Err (hold_fault_of c.in_err-made.field-0.0)) later =
     record {

@@ -26,6 +26,7 @@ returns-in_err-publish-clause-published g c =
       bounds = (arc_value inside.ground).layout;
       holds = inside.holds;
       told = c.report.new.teller.seen;
+      teams = inside.crew;
     } in
     let answer :
     Routed (route_fault inside.control.desk.books c.args.k) inside.control after.control c.args.k (Ok route) =
@@ -64,6 +65,7 @@ returns-clause-published g c =
       bounds = (arc_value inside.ground).layout;
       holds = inside.holds;
       told = c.report.new.teller.seen;
+      teams = inside.crew;
     } in
     let answer :
     Routed (route_fault inside.control.desk.books c.args.k) inside.control after.control c.args.k (Ok route) =

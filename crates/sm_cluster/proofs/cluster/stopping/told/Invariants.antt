@@ -4,8 +4,8 @@ use Rattle.sm_ownership.specs.declared.entry.Entry.{Entry}
 use Rattle.sm_rule.specs.Views.{Begins}
 use Rattle.sm_cluster.proofs.cluster.stopping.told.Given as goal
 
--- the closing pass has seen what the teller had. A history that extends what it has seen, and what each client that is
--- left had, extends what each client had
+-- the closing pass has seen everything that the teller had seen; a history that extends this, and everything that each
+-- remaining client had seen, extends everything that each client had seen
 abbrev pub invariant-loop-client : goal.invariant-loop-client
 invariant-loop-client g l = record {
   board : l.closer.board ≡ l.board;

@@ -5,7 +5,8 @@ use Rattle.sm_cluster.specs.Holding.{AreEndedIn, HoldsShard}
 use Rattle.sm_cluster.proofs.Holding.{EachHold}
 use Rattle.sm_cluster.proofs.holds.Holds.end.Given as goal
 
--- a history that extends what the pass has seen, and has the ends of the holds that are left, has those of all
+-- a history that extends everything that the pass has seen, and has the ends of the remaining holds, has the ends of
+-- all
 abbrev pub invariant-loop-slot : goal.invariant-loop-slot
 invariant-loop-slot g l = record {
   board : l.closer.board ≡ l.board;

@@ -20,3 +20,4 @@ returns-in-Ok-clause-begun g c =
     c.backend_of.ensures.client c.backend_of.ensures.loaders c.backend_of.ensures.enough
     (few_workers (values_of c.args.settings) c.in_ok-desk.desk _ c.in_ok-desk.ensures.desk c.from-workers.ensures
     (λ much. made_is_not_refused _ _ (e.too_many much)))
+    _ c.from-workers.ensures e.teams
