@@ -1,4 +1,4 @@
--- Books and the store agree: where each shard stands as its record says, and each server is in its state.
+-- Books and the store agree: each shard has the stand in its record, and each server is in its state.
 use Rattle.std.proofs.Common.{◌≡◌, ◌≢◌, ℕ, ◌<◌, false, List, ◌∷◌, length, map, get_or, set}
 use Rattle.std.proofs.Common.{refl, sym, ap, subst, ◌∙◌, inl, inr, ⊎_elim, arith, eqb}
 use Rattle.std.specs.Prelude.{◌==◌, unwrap_or, if◌then◌else◌}
@@ -33,9 +33,10 @@ use Rattle.sm_store.specs.declared.server_run.ServerRun.{ServerRun}
 use Rattle.sm_store.specs.Store.{Placement, Transaction, placement_of, stored_process, stored_record, stored_run}
 use Rattle.sm_store.specs.Deeds.{Changing, Restarting, transaction_of}
 use Rattle.sm_lead.specs.Commands.{unentered}
-use Rattle.sm_lead.specs.Placements.{Agrees, SettingsRows, books_in, rows_of}
+use Rattle.sm_store.specs.Settings.{SettingsRows, books_in}
+use Rattle.sm_lead.specs.Placements.{Agrees, rows_of}
 
--- of rising numbers each is below the later ones
+-- each of ascending numbers is below the later ones
 rising : (servers : List ServerRow) → IsStrictlyIncreasing (map (λ row. row.id) servers) → (i j : ℕ) → i < j
     → j < length servers
     → (get_or servers i no_server).id < (get_or servers j no_server).id
@@ -202,7 +203,7 @@ module _ {Q P : Type 0} where
         ];
   }
 
-  -- what is read of the processes that the states of servers name, once the state of server a was written
+  -- the readings of the processes that the states of servers name, once the state of server a was written
   pub processes_entered : (runs : List ServerRun) (servers : List ServerRow) (past : List (Transaction Q P))
       (process a : ℕ) (run : ServerRun) (elected placed : ℕ) → length runs ≡ length servers → IsKnown servers a
       → (b : ℕ) → (get_or runs (place_of servers b) unentered).process ≡ stored_process b past

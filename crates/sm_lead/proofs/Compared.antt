@@ -1,4 +1,4 @@
--- What is compared is what the numbers of what is sent say.
+-- The compares are those in the transaction's numbers.
 use Rattle.std.proofs.Common.{◌≡◌, ℕ, ap}
 use Rattle.sm_desk.specs.declared.command.Command.{Command}
 use Rattle.sm_desk.specs.declared.command.Command.TheVariants.{Change, Ask, Approve, Stopped, Back, Fail}

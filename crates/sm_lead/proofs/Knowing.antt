@@ -1,7 +1,8 @@
--- What a control knows of the store: once it has read, and once its command was made; and which commands it may send.
+-- The knowledge of a control about the store: once it has read, and once its command was made; and the commands that it
+-- may send.
 use Rattle.std.proofs.Common.{◌≡◌, ◌≢◌, ℕ, zero, suc, ◌<◌, Bool, true, false, List, [], ◌∷◌, ◌++◌, length, get_or, set}
-use Rattle.std.proofs.Common.{Option, Some, None, refl, sym, ap, subst, ◌∙◌, inl, ⊎_elim, arith}
-use Rattle.std.specs.Prelude.{IsTrue, IfSome, find, is_none, not, unwrap_or, ◌≤◌, ◌==◌, ◌&&◌, ◌||◌, ◌↔◌}
+use Rattle.std.proofs.Common.{Option, Some, None, map, refl, sym, ap, subst, ◌∙◌, inl, ⊎_elim, arith}
+use Rattle.std.specs.Prelude.{IsTrue, IfSome, find, is_none, is_some, not, unwrap_or, ◌≤◌, ◌==◌, ◌&&◌, ◌||◌, ◌↔◌}
 use Rattle.std.specs.Prelude.{if◌then◌else◌}
 use Rattle.std.specs.Option.{option_map, option_or}
 use Rattle.std.specs.List.{AllByRecursion}
@@ -16,8 +17,10 @@ use Rattle.sm_ownership.specs.Rules.{phase_fault}
 use Rattle.sm_ownership.specs.Tables.{record_fault}
 use Rattle.sm_place.specs.declared.server_state.ServerState.{ServerState}
 use Rattle.sm_rows.specs.declared.server_row.ServerRow.{ServerRow}
+use Rattle.sm_rows.specs.declared.shard_row.ShardRow.{ShardRow}
+use Rattle.sm_place.specs.declared.shard.Shard.{Shard}
 use Rattle.sm_place.specs.declared.server_state.ServerState.TheVariants as states
-use Rattle.sm_place.specs.Books.{BooksView, IsKnown, no_server, place_of, state_of, with_state}
+use Rattle.sm_place.specs.Books.{BooksView, IsKnown, no_server, place_of, state_of, vacant_shard, with_state}
 use Rattle.sm_place.specs.ServerState.{is_failed, is_stopped}
 use Rattle.sm_place.specs.Sound.{AreSound}
 use Rattle.sm_place.specs.lemmas.Changed.{id-at_place, length-with_stand}
@@ -25,16 +28,20 @@ use Rattle.sm_desk.specs.declared.command.Command.{Command}
 use Rattle.sm_desk.specs.declared.command.Command.TheVariants.{Change, Ask, Approve, Stopped, Back, Fail}
 use Rattle.sm_desk.specs.declared.command.CommandFault.{CommandFault}
 use Rattle.sm_desk.specs.declared.command.CommandFault.TheVariants.{Change as ChangeRefused, UnknownServer}
-use Rattle.sm_desk.specs.Desk.{DeskView, desk_fault, is_known}
+use Rattle.sm_desk.specs.Desk.{DeskView, commanded, desk_fault, is_known}
 use Rattle.sm_desk.specs.lemmas.Changes.{let_through}
 use Rattle.sm_store.specs.declared.compare.Compare.{Compare}
 use Rattle.sm_store.specs.declared.item.Item.{Item}
 use Rattle.sm_store.specs.declared.server_run.ServerRun.{ServerRun}
 use Rattle.sm_store.specs.Store.{Placement, Transaction, all_hold, leader_key, placement_key, placement_of, record_key}
 use Rattle.sm_store.specs.Store.{IsRising, revision_of, stored_record, stored_run}
+use Rattle.sm_store.specs.lemmas.Footing.{footing_then}
+use Rattle.sm_store.specs.Deeds.{HasFooting}
 use Rattle.sm_store.specs.Deeds.{AreRight, Changing, Charter, Deed, HasLed, IsChanged, MaySend, Restarting}
 use Rattle.sm_store.specs.Deeds.{WasFound, absence_compares, at, done_at, is_next_run, read_run, transaction_of}
-use Rattle.sm_store.specs.Store.{acked_of}
+use Rattle.sm_store.specs.Settings.{ControlSettings, Footing, SettingsRows, first_books}
+use Rattle.sm_store.specs.Settings.{read_by}
+use Rattle.sm_store.specs.Store.{acked_of, server_key, stored_settings, touches}
 use Rattle.sm_store.specs.Waits.{HasLetGo, HaveLetGo, gives_up, has_let_go}
 use Rattle.sm_store.specs.lemmas.Acks.{let_go_as_read}
 use Rattle.sm_store.specs.lemmas.Heart.{first_held, stood_among}
@@ -46,12 +53,13 @@ use Rattle.sm_lead.specs.declared.record_read.RecordRead.{RecordRead}
 use Rattle.sm_lead.specs.declared.store_control.StoreControl.{StoreControl}
 use Rattle.sm_lead.specs.Commands.{IsAfter, command_fault, may_name, process_at, read_at, run_at, run_into, unentered}
 use Rattle.sm_lead.specs.Commands.{unwritten, write_of}
-use Rattle.sm_lead.specs.Controls.{CommandWasMade, IsLoaded, IsReadOf, KnowsStore}
-use Rattle.sm_lead.specs.Placements.{Agrees, charter_of, desk_in, rows_of}
+use Rattle.sm_lead.specs.Controls.{CommandWasMade, GoesByStore, IsLoaded, IsReadBy, IsReadOf, KnowsStore}
+use Rattle.sm_lead.specs.Controls.{written_desk, settings_held}
+use Rattle.sm_lead.specs.Placements.{Agrees, SettingsReading, charter_of, desk_in, rows_of}
 use Rattle.sm_lead.specs.Sendings.{command_transaction, sending_of}
 use Rattle.sm_lead.specs.Waits.{AreAcksMade, acked_in, has_waited, holds_of_named, is_paused_for, let_paused_go}
 use Rattle.sm_lead.specs.Waits.{lets_go, lets_paused_go, may_stop}
-use Rattle.sm_lead.proofs.Agreement.{agrees_changed, agrees_entered, processes_entered, same_books}
+use Rattle.sm_lead.proofs.Agreement.{agrees_changed, agrees_entered, processes_entered, rows_commanded, same_books}
 
 pub none_both : {A : Type 0} (a b : Option A) → option_or a b ≡ None → (a ≡ None) × (b ≡ None)
 none_both None b is = (refl, is)
@@ -80,6 +88,30 @@ pub known_of : (books : BooksView) (a : ℕ) (fault : Option CommandFault)
 known_of books a fault none =
     ltb-true (place_of books.servers a) (length books.servers)
     (if_known (is_known books.servers a) fault UnknownServer none)
+
+rows_vacant : (rows : List ShardRow) → map (λ (shard : Shard). shard.row) (map vacant_shard rows) ≡ rows
+rows_vacant [] = refl
+rows_vacant (row ∷ rows) = ap (λ (rest : List ShardRow). row ∷ rest) (rows_vacant rows)
+
+-- the rows of the books before any command
+pub rows_first : (rows : SettingsRows) → rows_of (first_books rows) ≡ rows
+rows_first rows = ap (λ (shards : List ShardRow). record rows { shards = shards }) (rows_vacant rows.shards)
+
+-- a control made from settings has them
+pub held_settings : (settings : ControlSettings) (lead : Leadership) (waits : Bool) (reads : List RecordRead)
+    (runs : List ServerRun) (placed : ℕ) (control : StoreControl)
+    → IsLoaded (written_desk settings) lead settings.ceiling waits reads runs placed control
+    → settings_held control ≡ settings
+held_settings settings lead waits reads runs placed control loaded =
+    let rows = loaded.rows.rows ∙ rows_first settings.rows in
+    λ i. record { rows = rows i; caps = loaded.rows.caps i; ceiling = loaded.ceiling_is i }
+
+held_after : (control new : StoreControl) (command : Command) → new.desk ≡ commanded control.desk command
+    → new.ceiling ≡ control.ceiling → settings_held new ≡ settings_held control
+held_after control new command desk ceiling =
+    let rows = ap (λ (d : DeskView). rows_of d.books) desk ∙ rows_commanded control.desk.books command in
+    let caps = ap (λ (d : DeskView). d.caps) desk in
+    λ i. record { rows = rows i; caps = caps i; ceiling = ceiling i }
 
 module _ {Q P : Type 0} where
   pub reading_known : (log : List (Transaction Q P)) (desk : DeskView) (lead : Leadership) (ceiling : ℕ)
@@ -134,20 +166,34 @@ module _ {Q P : Type 0} where
         run_count = ap length loaded.runs_are ∙ many ∙ long;
       }
 
-module _ {Q P : Type 0} (parts : List (Item Q) → List P) (log : List (Transaction Q P)) (control : StoreControl)
-    (sound : AreSound control.desk.books)
-    (knows : KnowsStore log control) where
-  same_desk : control.desk ≡ desk_in (rows_of control.desk.books) control.desk.caps knows.read
+-- settings in force have as many shards as all that are read, and the same ceiling
+pub read_within : (reading : SettingsReading) (written : Option (List ℕ)) (settings : ControlSettings)
+    → read_by reading.settings written ≡ Some settings
+    → (length settings.rows.shards ≡ reading.count) × (settings.ceiling ≡ reading.ceiling)
+read_within reading (Some line) settings is = (reading.counted line settings is, reading.within line settings is)
+read_within reading None settings is = absurd (false≢true (ap is_some is))
+
+module _ {Q P : Type 0} (reading : SettingsReading) (parts : List (Item Q) → List P) (log : List (Transaction Q P))
+    (control : StoreControl) (sound : AreSound control.desk.books) (by : GoesByStore reading.settings log control) where
+  abbrev knows : KnowsStore log control
+  knows = by.knows
+
+  within_reading : (length (rows_of control.desk.books).shards ≡ reading.count) × (control.ceiling ≡ reading.ceiling)
+  within_reading =
+      read_within reading (stored_settings by.footing.past) (settings_held control)
+      (ap (λ (f : Footing). f.settings) by.footing.was)
+
+  same_desk : control.desk ≡ desk_in (settings_held control) knows.read
   same_desk =
       ap (λ (books : BooksView). record { books = books; caps = control.desk.caps })
       (same_books control.desk.books knows.read sound knows.agrees)
 
   allowed : (command : Command) → desk_fault control.desk command ≡ None
-      → is_none (desk_fault (desk_in (rows_of control.desk.books) control.desk.caps knows.read) command) ≡ true
+      → is_none (desk_fault (desk_in (settings_held control) knows.read) command) ≡ true
   allowed command none =
       subst (λ (desk : DeskView). is_none (desk_fault desk command) ≡ true) same_desk (none_is _ none)
 
-  -- how the server runs, by what the control holds and by what it read
+  -- the state of the server, in the control and in its readings
   run_is : (a : ℕ) → IsKnown control.desk.books.servers a → run_at control a ≡ read_run knows.read a
   run_is a known =
       ap (λ (state : ServerState). record { state = state; process = process_at control a })
@@ -155,12 +201,12 @@ module _ {Q P : Type 0} (parts : List (Item Q) → List P) (log : List (Transact
       ∙ ap (λ (process : ℕ). record { state = knows.read.states a; process = process }) (knows.processes a known)
 
   restart_may : (a : ℕ) (run : ServerRun) → IsKnown control.desk.books.servers a
-      → is_none (desk_fault (desk_in (rows_of control.desk.books) control.desk.caps knows.read)
+      → is_none (desk_fault (desk_in (settings_held control) knows.read)
       (Rattle.sm_lead.specs.Placements.step_to run.state a)) ≡ true
       → is_next_run (run_at control a) run ≡ true
       → (IsTrue control.waits → run.state ≡ states.Stopped
-      → HaveLetGo log knows.read (length (rows_of control.desk.books).shards) a)
-      → MaySend (charter_of (rows_of control.desk.books) control.desk.caps control.ceiling control.waits parts) log
+      → HaveLetGo log knows.read reading.count a)
+      → MaySend (charter_of reading control.waits parts) log
       (command_transaction (sending_of control (WritesState a run)))
   restart_may a run known allows next waited = record {
     deed = Restarting control.lead.process a run control.lead.elected control.placed;
@@ -168,7 +214,8 @@ module _ {Q P : Type 0} (parts : List (Item Q) → List P) (log : List (Transact
     may = record {
       led = knows.led;
       read = knows.read;
-      placement_was = knows.placement_was;
+      settings = settings_held control;
+      footing = by.footing;
       allowed = allows;
       next = subst (λ (before : ServerRun). is_next_run before run ≡ true) (run_is a known) next;
       waited = waited;
@@ -225,7 +272,7 @@ module _ {Q P : Type 0} (parts : List (Item Q) → List P) (log : List (Transact
   all_let_go acks were_made k within waits None is = tt
   all_let_go acks were_made k within waits (Some server) is = one_let_go acks were_made k server within waits is
 
-  -- the server has let go of what is paused for it, as far as was read
+  -- the server has acked the shards that are paused for it, as far as was read
   paused_let_go : (acks : List AckRead) → AreAcksMade log acks → IsTrue control.waits → (server number k : ℕ)
       → let_paused_go control acks server number ≡ true → k < number → k < length control.desk.books.shards
       → (knows.read.records k).stand ≡ Paused server → HasLetGo log knows.read k server
@@ -245,10 +292,11 @@ module _ {Q P : Type 0} (parts : List (Item Q) → List P) (log : List (Transact
   paused_let_go acks were_made waits server zero k is below within paused = absurd (omega arith)
 
   have_let_go : (acks : List AckRead) → AreAcksMade log acks → (server : ℕ) → may_stop control acks server ≡ true
-      → IsTrue control.waits → HaveLetGo log knows.read (length (rows_of control.desk.books).shards) server
+      → IsTrue control.waits → HaveLetGo log knows.read reading.count server
   have_let_go acks were_made server may waits = λ k below paused.
       let rows_len = length-map control.desk.books.shards (λ shard. shard.row) in
       let count = knows.count in
+      let all = within_reading.0 in
       paused_let_go acks were_made waits server (length control.records.items) k may (omega arith) (omega arith) paused
 
   pub may_be_sent : ((ceiling : ℕ) (state : Record) (change : AnyChange)
@@ -257,7 +305,7 @@ module _ {Q P : Type 0} (parts : List (Item Q) → List P) (log : List (Transact
       → (acks : List AckRead) → AreAcksMade log acks → (process : ℕ) (command : Command)
       → command_fault control command ≡ None → has_waited control acks command ≡ true
       → may_name control (write_of control process command) ≡ true
-      → MaySend (charter_of (rows_of control.desk.books) control.desk.caps control.ceiling control.waits parts) log
+      → MaySend (charter_of reading control.waits parts) log
       (command_transaction (sending_of control (write_of control process command)))
   may_be_sent exactly acks were_made process (Change k change) none waited named =
       let both = none_both _ _ none in
@@ -265,6 +313,9 @@ module _ {Q P : Type 0} (parts : List (Item Q) → List P) (log : List (Transact
       let within = (let_through control.desk.books k change both.0).within in
       let rows_len = length-map control.desk.books.shards (λ shard. shard.row) in
       let faults = none_both _ _ (unmapped ChangeRefused _ both.1) in
+      let all = within_reading.0 in
+      let fits : IsTrue (change_fits control.ceiling state 0 change) =
+      (exactly control.ceiling state change).1 faults in
       record {
         deed = Changing control.lead.process k change (after_change state change) control.lead.elected control.placed;
         is = refl;
@@ -272,11 +323,13 @@ module _ {Q P : Type 0} (parts : List (Item Q) → List P) (log : List (Transact
           within = omega arith;
           led = knows.led;
           read = knows.read;
-          placement_was = knows.placement_was;
+          settings = settings_held control;
+          footing = by.footing;
           allowed = allowed (Change k change) both.0;
-          changed = subst (λ (r : Record). IsChanged control.ceiling r change (after_change state change))
-              (knows.records k within)
-              (record { fits = (exactly control.ceiling state change).1 faults; is = refl });
+          changed = subst (λ (n : ℕ). IsChanged n (knows.read.records k) change (after_change state change))
+              within_reading.1
+              (subst (λ (r : Record). IsChanged control.ceiling r change (after_change state change))
+              (knows.records k within) (record { fits = fits; is = refl }));
           waited = λ waits.
               subst (λ (r : Record). IfSome (gives_up r.stand change) (HasLetGo log knows.read k))
               (knows.records k within)
@@ -305,6 +358,29 @@ module _ {Q P : Type 0} (parts : List (Item Q) → List P) (log : List (Transact
       (allowed (Fail a) (none_both _ _ none).0) named (λ waits stops. absurd (false≢true (ap is_stopped stops)))
 
 module _ {Q P : Type 0} where
+  -- a control made from settings in force uses them
+  pub reading_goes_by : (reading : List ℕ → Option ControlSettings) (log : List (Transaction Q P))
+      (settings : ControlSettings) (lead : Leadership) (waits : Bool) (reads : List RecordRead)
+      (runs : List ServerRun) (placed : ℕ) (control : StoreControl) → AreSound control.desk.books
+      → IsLoaded (written_desk settings) lead settings.ceiling waits reads runs placed control
+      → IsReadBy reading log settings lead reads runs placed → GoesByStore reading log control
+  unfolding reading_known
+  reading_goes_by reading log settings lead waits reads runs placed control sound loaded read =
+      let one = read.read in
+      let held = held_settings settings lead waits reads runs placed control loaded in
+      record {
+        knows = reading_known log (written_desk settings) lead settings.ceiling waits reads runs placed control sound
+            loaded one;
+        footing = record {
+          later = one.later;
+          past = one.past;
+          is = one.is;
+          at = one.at ∙ sym loaded.placed_is;
+          was = ap (λ (s : Option ControlSettings). record { placement = placement_of one.past; settings = s })
+              (read.settings_were ∙ ap Some (sym held));
+        };
+      }
+
   -- the records and states that were read stood when the command was made
   stood_then : (log : List (Transaction Q P)) (control : StoreControl) → IsRising log → AllByRecursion IsOfDeed log
       → (knows : KnowsStore log control) → (later past : List (Transaction Q P)) (txn : Transaction Q P)
@@ -497,3 +573,92 @@ module _ {Q P : Type 0} where
       (rising_of_right charter log right) (deeds_of_right charter log right) sound knows
       (known_of control.desk.books a _ (none_both _ _ none).0) made (ap (λ (d : DeskView). d.books) after.desk)
       after.records after.runs after.lead after.placed
+
+  -- the settings of a control are in force after its command, too
+  footing_after : (charter : Charter Q P) (log : List (Transaction Q P)) (control new : StoreControl)
+      (read : Placement) (deed : Deed Q P) (elected revision : ℕ) (rest : List Compare) → AreRight charter log
+      → HasFooting charter.settings log read (settings_held control) control.placed
+      → (made : CommandWasMade log (transaction_of deed) revision)
+      → (transaction_of deed).compares ≡ at leader_key elected ∷ at placement_key control.placed ∷ rest
+      → touches placement_key (transaction_of deed).writes ≡ true
+      → ((past : List (Transaction Q P)) → stored_settings (done_at revision deed ∷ past) ≡ stored_settings past)
+      → settings_held new ≡ settings_held control → new.placed ≡ revision
+      → (settled : revision_of placement_key (done_at revision deed ∷ made.past) ≡ revision)
+      → HasFooting charter.settings log (placement_of (done_at revision deed ∷ made.past)) (settings_held new)
+      new.placed
+  footing_after charter log control new read deed elected revision rest right footing made compares touched leaves same
+      placed settled =
+      let past = made.past in
+      let held : all_hold past (at leader_key elected ∷ at placement_key control.placed ∷ rest) ≡ true =
+      subst (λ (all : List Compare). all_hold past all ≡ true) compares made.held in
+      let now = placed_held past elected control.placed rest held in
+      let was = footing_then charter log read (settings_held control) control.placed right footing made.later past
+      (done_at revision deed) made.is touched now in
+      record {
+        later = made.later;
+        past = done_at revision deed ∷ past;
+        is = made.is;
+        at = settled ∙ sym placed;
+        was = ap (λ (s : Option ControlSettings). record {
+          placement = placement_of (done_at revision deed ∷ past);
+          settings = s;
+        }) (ap (read_by charter.settings) (leaves past) ∙ ap (λ (f : Footing). f.settings) was ∙ ap Some (sym same));
+      }
+
+  pub outcome_goes_by : (charter : Charter Q P) (log : List (Transaction Q P)) (control new : StoreControl)
+      (process : ℕ) (command : Command) (revision : ℕ) → AreRight charter log → AreSound control.desk.books
+      → GoesByStore charter.settings log control
+      → command_fault control command ≡ None
+      → CommandWasMade log (command_transaction (sending_of control (write_of control process command))) revision
+      → IsAfter control command (write_of control process command) revision new
+      → GoesByStore charter.settings log new
+  unfolding outcome_known changed_known entered_known
+  outcome_goes_by charter log control new process (Change k change) revision right sound by none made after = record {
+    knows = outcome_known charter log control new process (Change k change) revision right sound by.knows none made
+        after;
+    footing = footing_after charter log control new by.knows.read
+        (Changing control.lead.process k change (after_change (read_at control.records.items k).state change)
+        control.lead.elected control.placed)
+        control.lead.elected revision [] right by.footing made refl refl (λ past. refl)
+        (held_after control new (Change k change) after.desk after.ceiling) after.placed refl;
+  }
+  outcome_goes_by charter log control new process (Ask a) revision right sound by none made after = record {
+    knows = outcome_known charter log control new process (Ask a) revision right sound by.knows none made after;
+    footing = footing_after charter log control new by.knows.read
+        (Restarting control.lead.process a (run_into control process a states.Asked) control.lead.elected
+        control.placed)
+        control.lead.elected revision [] right by.footing made refl refl (λ past. refl)
+        (held_after control new (Ask a) after.desk after.ceiling) after.placed refl;
+  }
+  outcome_goes_by charter log control new process (Approve a) revision right sound by none made after = record {
+    knows = outcome_known charter log control new process (Approve a) revision right sound by.knows none made after;
+    footing = footing_after charter log control new by.knows.read
+        (Restarting control.lead.process a (run_into control process a states.Approved) control.lead.elected
+        control.placed)
+        control.lead.elected revision [] right by.footing made refl refl (λ past. refl)
+        (held_after control new (Approve a) after.desk after.ceiling) after.placed refl;
+  }
+  outcome_goes_by charter log control new process (Stopped a) revision right sound by none made after = record {
+    knows = outcome_known charter log control new process (Stopped a) revision right sound by.knows none made after;
+    footing = footing_after charter log control new by.knows.read
+        (Restarting control.lead.process a (run_into control process a states.Stopped) control.lead.elected
+        control.placed)
+        control.lead.elected revision [] right by.footing made refl refl (λ past. refl)
+        (held_after control new (Stopped a) after.desk after.ceiling) after.placed refl;
+  }
+  outcome_goes_by charter log control new process (Back a) revision right sound by none made after = record {
+    knows = outcome_known charter log control new process (Back a) revision right sound by.knows none made after;
+    footing = footing_after charter log control new by.knows.read
+        (Restarting control.lead.process a (run_into control process a states.Up) control.lead.elected
+        control.placed)
+        control.lead.elected revision [] right by.footing made refl refl (λ past. refl)
+        (held_after control new (Back a) after.desk after.ceiling) after.placed refl;
+  }
+  outcome_goes_by charter log control new process (Fail a) revision right sound by none made after = record {
+    knows = outcome_known charter log control new process (Fail a) revision right sound by.knows none made after;
+    footing = footing_after charter log control new by.knows.read
+        (Restarting control.lead.process a (run_into control process a states.Failed) control.lead.elected
+        control.placed)
+        control.lead.elected revision (at (server_key a) 0 ∷ []) right by.footing made refl refl (λ past. refl)
+        (held_after control new (Fail a) after.desk after.ceiling) after.placed refl;
+  }

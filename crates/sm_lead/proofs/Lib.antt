@@ -4,3 +4,4 @@ mod Compared
 mod Knowing
 mod Places
 mod Replays
+mod Resettled

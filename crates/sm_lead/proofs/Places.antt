@@ -1,4 +1,4 @@
--- Where the row of a server is.
+-- The place of a server's row.
 use Rattle.std.proofs.Common.{◌≡◌, ℕ, Bool, List, Some, None, length, arith}
 use Rattle.std.specs.Prelude.{not, position}
 use Rattle.std.specs.List.{position_or_len}

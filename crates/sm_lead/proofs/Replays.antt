@@ -1,4 +1,4 @@
--- What stays of a desk's rows.
+-- The parts of a desk's rows that stay.
 use Rattle.std.proofs.Common.{◌≡◌, ap, ◌∙◌}
 use Rattle.sm_desk.specs.declared.command.Command.{Command}
 use Rattle.sm_desk.specs.Desk.{DeskView, commanded}

@@ -1,4 +1,4 @@
--- Which commands the control refuses, what the others write, and what is read after one that was made.
+-- The commands that the control refuses, the writes of the others, and the readings after one that was made.
 use Rattle.std.specs.Prelude.{ℕ, Bool, true, ◌≡◌, List, Option, None, Some, max, slice_index_or, slice_set}
 use Rattle.std.specs.Option.{option_map, option_or}
 use Rattle.sm_ownership.specs.History.{after_change, vacant}
@@ -18,11 +18,11 @@ use Rattle.sm_lead.specs.declared.command_write.CommandWrite.TheVariants.{Record
 use Rattle.sm_lead.specs.declared.record_read.RecordRead.{RecordRead}
 use Rattle.sm_lead.specs.declared.store_control.StoreControl.{StoreControl}
 
--- what is read of a shard whose record was never written
+-- the reading of a shard whose record was never written
 abbrev pub unwritten : RecordRead
 unwritten = record { state = vacant; stood = 0 }
 
--- what was read of a shard
+-- the reading of a shard
 abbrev pub read_at : List RecordRead → ℕ → RecordRead
 read_at reads shard = slice_index_or reads shard unwritten
 
@@ -32,15 +32,15 @@ record_refusal control (Change shard change) =
     option_map ChangeRefused (change_fault control.ceiling (read_at control.records.items shard).state change)
 record_refusal control _ = None
 
--- the first reason for which the control refuses a command: the desk's, or that of the shard's record
+-- the first reason for which the control refuses a command: the desk's, or one from the shard's record
 abbrev pub command_fault : StoreControl → Command → Option CommandFault
 command_fault control command = option_or (desk_fault control.desk command) (record_refusal control command)
 
--- what is read of a server whose state was never written
+-- the reading of a server whose state was never written
 abbrev pub unentered : ServerRun
 unentered = record { state = states.Up; process = 0 }
 
--- the process that the server's state names, by what was read
+-- the process that the server's state names, by the readings
 abbrev pub process_at : StoreControl → ℕ → ℕ
 process_at control server =
     (slice_index_or control.runs.items (place_of control.desk.books.servers server) unentered).process
@@ -49,12 +49,12 @@ process_at control server =
 abbrev pub run_at : StoreControl → ℕ → ServerRun
 run_at control server = record { state = state_of control.desk.books server; process = process_at control server }
 
--- the server's next state: of the process that runs the server, or of the one that its state names where that is later
+-- the server's next state: with the process that runs the server, or with the one that its state names if that is later
 abbrev pub run_into : StoreControl → ℕ → ℕ → ServerState → ServerRun
 run_into control process server state = record { state = state; process = max (process_at control server) process }
 
--- what a command writes that isn't refused, where this process runs the server: the shard's next record, or the
--- server's next state
+-- the write of a command that isn't refused, if this process runs the server: the shard's next record, or the server's
+-- next state
 abbrev pub write_of : StoreControl → ℕ → Command → CommandWrite
 write_of control process (Change shard change) =
     WritesRecord shard change (after_change (read_at control.records.items shard).state change)
@@ -74,18 +74,18 @@ abbrev pub absent_in : ℕ → ServerState → Option ℕ
 absent_in server states.Failed = Some server
 absent_in server _ = None
 
--- the server whose key isn't there when this is written: one that is said to have failed
+-- the server whose key is absent when this is written: one that is declared failed
 abbrev pub absent_of : CommandWrite → Option ℕ
 absent_of (WritesRecord shard change next) = None
 absent_of (WritesState server run) = absent_in server run.state
 
--- what is read of the records once this was written at this revision
+-- the readings of the records after this write at this revision
 abbrev pub reads_after : List RecordRead → CommandWrite → ℕ → List RecordRead
 reads_after reads (WritesRecord shard change next) revision =
     slice_set reads shard (record { state = next; stood = revision })
 reads_after reads (WritesState server run) revision = reads
 
--- what is read of the desk's servers once this was written
+-- the readings of the desk's servers after this write
 abbrev pub runs_after : DeskView → List ServerRun → CommandWrite → List ServerRun
 runs_after desk runs (WritesRecord shard change next) = runs
 runs_after desk runs (WritesState server run) = slice_set runs (place_of desk.books.servers server) run

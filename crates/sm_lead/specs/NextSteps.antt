@@ -1,4 +1,4 @@
--- How a control goes on with what it has read: with each migration by its stand, with each restart by its state.
+-- How a control goes on from its readings: with each migration by its stand, with each restart by its state.
 use Rattle.std.specs.Prelude.{ℕ, Bool, ◌≡◌, ◌&&◌, Option, Some, None, find, is_none, nat_le, not, List, [], ◌∷◌}
 use Rattle.std.specs.Prelude.{if◌then◌else◌, ◌==◌}
 use Rattle.std.specs.List.{list_all, list_any}
@@ -28,7 +28,7 @@ use Rattle.sm_lead.specs.Waits.{lets_go, may_stop}
 abbrev pub all_follow : List Follower → ℕ → Bool
 all_follow followers revision = list_all (λ follower. nat_le revision follower.revision) followers
 
--- it is the command, or to wait where there is none
+-- it is the command, or to wait if there is none
 abbrev pub waits_for : Option Command → NextStep
 waits_for None = Waits
 waits_for (Some command) = Takes command
@@ -49,9 +49,9 @@ reassignment desk k = option_map (λ server. Change k (Reassign server)) (heir_o
 abbrev pub takes_once : Bool → Command → NextStep
 takes_once ready command = if ready then Takes command else Waits
 
--- how it goes on with a shard of this stand, of whose record all have read or not, and which servers have acked or not:
--- a migration takes its next step once its next owner is prepared, and then once its owner has let go; it is given up
--- if its next owner is leaving before that, or has failed; what a failed server owns is paused, and then reassigned
+-- how it goes on with a shard of this stand, whose record all have read or not, and which servers have acked or not: a
+-- migration takes its next step once its next owner is prepared, and then once its owner has acked; it is given up if
+-- its next owner is leaving before that, or has failed; a shard of a failed server is paused, and then reassigned
 abbrev pub step_of_stand : DeskView → Bool → (ℕ → Bool) → ℕ → Stand → NextStep
 step_of_stand desk followed acked k Vacant = Nothing
 step_of_stand desk followed acked k (Serving owner) =
@@ -66,14 +66,14 @@ step_of_stand desk followed acked k (Taken owner previous) = takes_once followed
 step_of_stand desk followed acked k (Paused owner) =
     if is_failed (state_of desk.books owner) then waits_for (reassignment desk k) else Nothing
 
--- how it goes on with a server in this state: a restart that was asked for is approved, and one that was approved
--- stops, once it may
+-- how it goes on with a server in this state: a restart that was asked for is approved, and an approved server stops,
+-- once it may
 abbrev pub step_of_state : Bool → ServerState → ℕ → NextStep
 step_of_state may states.Asked server = Takes (Approve server)
 step_of_state may states.Approved server = takes_once may (Stopped server)
 step_of_state may _ server = Nothing
 
--- where nothing of a server is to be moved, the first shard left pauses, if the server's restart was approved
+-- if none of a server's shards can move, the first remaining shard pauses, if the server's restart was approved
 abbrev pub step_of_left : Bool → List ℕ → NextStep
 step_of_left approved [] = Nothing
 step_of_left approved (k ∷ left) = if approved then Takes (Change k Pause) else Nothing
@@ -97,7 +97,7 @@ step_of_assignment (move ∷ moves) = Takes (Change move.shard (Assign move.to))
 abbrev pub step_of_vacant : BooksView → NextStep
 step_of_vacant books = step_of_assignment (assign_plan books).moves
 
--- it waits where the command is refused
+-- it waits if the command is refused
 abbrev pub unless_refused : StoreControl → NextStep → NextStep
 unless_refused control (Takes command) = if is_none (command_fault control command) then Takes command else Waits
 unless_refused control step = step

@@ -1,4 +1,4 @@
--- For whom the control waits, as far as it has read acks.
+-- The servers for which the control waits, as far as it has read acks.
 use Rattle.std.specs.Prelude.{ℕ, zero, suc, Bool, true, false, not, Option, Some, None, ◌≤◌, ◌==◌, ◌&&◌, ◌||◌, List}
 use Rattle.std.specs.Prelude.{find, length, unwrap_or}
 use Rattle.std.specs.List.{AllByRecursion}
@@ -20,7 +20,7 @@ abbrev pub acked_in : List AckRead → ℕ → ℕ → ℕ
 acked_in acks shard server =
     unwrap_or (option_map (λ ack. ack.generation) (find (λ ack. ack.shard == shard && ack.server == server) acks)) 0
 
--- a shard of this stand is paused, and the server owns it
+-- a shard with this stand is paused, and the server owns it
 abbrev pub is_paused_for : ℕ → Stand → Bool
 is_paused_for server (Paused owner) = owner == server
 is_paused_for server stand = false
@@ -32,7 +32,7 @@ lets_go control acks shard server =
     || has_let_go (read_at control.records.items shard).state (acked_in acks shard server)
     (is_failed (state_of control.desk.books server))
 
--- if a server is named, this holds of it
+-- if a server is named, it has this property
 abbrev pub holds_of_named : (ℕ → Bool) → Option ℕ → Bool
 holds_of_named holds None = true
 holds_of_named holds (Some server) = holds server
@@ -42,7 +42,7 @@ abbrev pub lets_paused_go : StoreControl → List AckRead → ℕ → ℕ → Bo
 lets_paused_go control acks server shard =
     not (is_paused_for server (read_at control.records.items shard).state.stand) || lets_go control acks shard server
 
--- it has let go of each of the first shards, so many, that is paused for it
+-- it has acked each of the first shards, so many, that is paused for it
 abbrev pub let_paused_go : StoreControl → List AckRead → ℕ → ℕ → Bool
 let_paused_go control acks server zero = true
 let_paused_go control acks server (suc shard) =
@@ -52,7 +52,7 @@ let_paused_go control acks server (suc shard) =
 abbrev pub may_stop : StoreControl → List AckRead → ℕ → Bool
 may_stop control acks server = let_paused_go control acks server (length control.records.items)
 
--- whoever the command waits for has let go, or the control doesn't wait
+-- the servers for which the command waits have acked, or the control doesn't wait
 abbrev pub has_waited : StoreControl → List AckRead → Command → Bool
 has_waited control acks (Change shard change) =
     holds_of_named (lets_go control acks shard) (gives_up (read_at control.records.items shard).state.stand change)

@@ -1,8 +1,8 @@
 use crate::command_write::CommandWrite;
 use sm_ranges::server_id::ServerId;
 
-/// A transaction for the store: it compares the election, the key of commands, and that the key of a server isn't there
-/// that is said to have failed; it writes the key of commands and what the command leaves.
+/// A transaction for the store. It compares the election, the key of commands, and, if a server is declared failed, the
+/// absence of its key. It writes the key of commands and the command's result.
 #[derive(Clone, Copy, Drop)]
 pub struct CommandSending {
     pub process: u64,

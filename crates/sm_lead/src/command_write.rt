@@ -8,7 +8,7 @@ use sm_ranges::server_id::ServerId;
 use sm_ranges::shard_id::ShardId;
 use sm_store::server_run::ServerRun;
 
-/// What a command writes to the store.
+/// The write of a command to the store.
 #[derive(Clone, Copy, Drop)]
 pub enum CommandWrite {
     /// The shard's next record, by this change.
@@ -25,7 +25,7 @@ pub enum CommandWrite {
 }
 
 impl CommandWrite {
-    /// Returns the server whose key must not be there: one that is said to have failed, because it may be back by then.
+    /// Returns the server whose key must be absent: one that is declared failed, because it may be back by then.
     pub fn absent(&self) -> Option<ServerId>
         ensures { result ≡ absent_of self.now }
     {

@@ -10,7 +10,7 @@ pub struct Follower {
     pub revision: u64,
 }
 
-/// Whether each of them has read the store up to this revision.
+/// Returns whether each of them has read the store up to this revision.
 pub fn all_follow(followers: &[Follower], revision: u64) -> bool
     ensures { result ≡ all_follow followers.now revision }
 {
@@ -19,7 +19,7 @@ pub fn all_follow(followers: &[Follower], revision: u64) -> bool
         .all(|follower| revision <= follower.revision)
 }
 
-/// Whether the server is among them.
+/// Returns whether the server is among them.
 pub(crate) fn is_following(followers: &[Follower], server: ServerId) -> bool
     ensures { result ≡ is_following followers.now server }
 {

@@ -8,7 +8,8 @@ pub struct Leadership {
 }
 
 impl Leadership {
-    /// The control that was elected at this revision. None for revision 0, at which nobody is.
+    /// Returns the control that was elected at this revision. Returns nothing for revision 0, at which nobody is
+    /// elected.
     pub fn new(process: u64, elected: u64) -> Option<Leadership>
         ensures exact { IsSome result ↔ 0 < elected }
         ensures values { IfSome result (λ lead. (lead.process ≡ process) × (lead.elected ≡ elected)) }

@@ -1,6 +1,6 @@
-//! What the control that leads decides over a shared store, with no input or output of its own. It reads all records
-//! and states, judges each command by its desk, and sends it as one transaction; what became of that tells it how to go
-//! on. A new one goes on with what it reads.
+//! The decisions of the leading control over a shared store, without any input or output of its own. It reads all
+//! records and states, judges each command with its desk, and sends it as one transaction. The outcome tells it how to
+//! go on. A new control goes on from its readings.
 //!
 //! ```rust
 //! let lead = Leadership::new(7, 5).expect(&rt, "a revision");
@@ -26,6 +26,8 @@ pub mod load_fault;
 pub mod next_step;
 pub mod record_read;
 pub mod replay;
+pub mod resettle_fault;
+pub mod resettling;
 pub mod sent_command;
 pub mod stepping;
 pub mod store_control;
@@ -39,5 +41,6 @@ pub use leadership::Leadership;
 pub use load_fault::LoadFault;
 pub use next_step::NextStep;
 pub use record_read::{RecordRead, read_at};
+pub use resettle_fault::ResettleFault;
 pub use sent_command::{Judged, SendOutcome, SentCommand};
 pub use store_control::StoreControl;

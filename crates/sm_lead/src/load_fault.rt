@@ -1,10 +1,11 @@
 use sm_desk::CommandFault;
 use thiserror::Error;
 
-/// Why no control can be made of what was read. No store to which controls alone write their commands has that.
+/// Why no control can be made from the readings. This can't happen in a store to which only controls write their
+/// commands.
 #[derive(Clone, Copy, Debug, PartialEq, Eq, Drop, Error)]
 pub enum LoadFault {
-    /// No commands lead to these stands and states: this is the first reason for which one is refused.
+    /// No commands lead to these stands and states. This is the first reason for which one is refused.
     #[error("no commands lead to what was read: {0}")]
     Unreached(CommandFault),
     /// There are records or states of another number, or others than commands lead to.

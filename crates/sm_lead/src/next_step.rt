@@ -3,7 +3,7 @@ use sm_desk::Command;
 /// How a control goes on.
 #[derive(Clone, Copy, PartialEq, Eq, Drop)]
 pub enum NextStep {
-    /// By this command, which it doesn't refuse.
+    /// With this command, which it doesn't refuse.
     Takes(Command),
     /// It goes on once others have read further, or the desk allows its command.
     Waits,

@@ -5,14 +5,14 @@ use sm_ownership::record::Record;
 use sm_ranges::shard_id::ShardId;
 use sm_ranges::stand::Stand;
 
-/// A shard's record as it was read, and the revision at which it was last written, 0 where it never was.
+/// A shard's record as it was read, and the revision at which it was last written, or 0 if it never was.
 #[derive(Clone, Copy, Drop)]
 pub struct RecordRead {
     pub state: Record,
     pub stood: u64,
 }
 
-/// What was read of the shard.
+/// Returns the reading of the shard.
 pub fn read_at(reads: &[RecordRead], shard: ShardId) -> RecordRead
     ensures { result ≡ read_at reads.now shard }
 {

@@ -1,4 +1,4 @@
-//! A control is made of what was read: the desk makes the commands that lead to it.
+//! How a control is made from readings: the desk makes the commands that lead to them.
 
 ghost use Rattle.std.specs.Prelude.{IfOk, IsTrue};
 ghost use Rattle.sm_lead.specs.Controls.{AreStandsRead, AreStatesRead, IsLoaded};
@@ -19,10 +19,9 @@ use sm_ranges::stand::Stand;
 use sm_store::server_run::ServerRun;
 
 impl StoreControl {
-    /// The control of what was read at one revision: by a desk of the settings on which nothing has happened, the
-    /// record of each shard by number, and how each server runs in the order of the rows. The desk makes the
-    /// commands that lead there, which those of a store are, and is compared. `waits` says whether commands wait for
-    /// acks.
+    /// Returns the control of the readings at one revision: from a desk of the settings on which nothing has happened,
+    /// the record of each shard by number, and the state of each server in the order of the rows. The desk makes the
+    /// commands that lead there, as those of a store do, and is compared. `waits` says whether commands wait for acks.
     pub fn read(
         desk: Desk,
         lead: Leadership,
@@ -114,7 +113,7 @@ fn stand(desk: Desk, k: ShardId, stand: &Stand) -> Result<Desk, CommandFault>
     }
 }
 
-// The shard of the number, where it is one.
+// Returns the shard with the number, if it is one.
 fn shard_id(number: usize) -> Option<ShardId> {
     if number <= usize::from(MAX_SHARD) {
         ShardId::new(number as u16)
@@ -166,7 +165,7 @@ fn stop(desk: Desk, server: ServerId) -> Result<Desk, CommandFault>
     make(approved, Command::Stopped(server))
 }
 
-// The server of a row, where there are so many.
+// Returns the server of a row, if there are so many.
 fn server_at(desk: &Desk, place: usize) -> Option<ServerId> {
     desk.books().rows().get(place).map(|row| row.id)
 }
@@ -200,7 +199,7 @@ fn enter_at(
     }
 }
 
-// Whether the shards are as many as the records, and stand as these say.
+// Returns whether there are as many shards as records, with the stands in these.
 fn are_stands_read(shards: &[Shard], reads: &[RecordRead]) -> bool
     ensures { IsTrue result → AreStandsRead shards.now reads.now }
 {

@@ -8,7 +8,7 @@ use crate::store_control::{StoreControl, place_of};
 use sm_desk::{Command, CommandFault, Desk};
 use sm_store::server_run::ServerRun;
 
-/// What became of a command that was sent.
+/// The outcome of a command that was sent.
 #[derive(Clone, Copy, PartialEq, Eq, Drop)]
 pub enum SendOutcome {
     /// Its transaction was made, at this revision.
@@ -29,17 +29,17 @@ pub struct SentCommand {
     ghost named: { IsTrue (may_name control write) },
 }
 
-/// What a control does with a command.
+/// A control's judgement of a command.
 #[derive(Drop)]
 pub enum Judged {
-    /// It is to be sent.
+    /// It must be sent.
     Sent(SentCommand),
     /// It is refused.
     Refused(StoreControl, CommandFault),
 }
 
 impl SentCommand {
-    /// What is to be sent.
+    /// Returns the transaction to send.
     pub fn sending(&self) -> CommandSending
         ensures process { result.process ≡ self.now.control.lead.process }
         ensures elected { result.elected ≡ self.now.control.lead.elected }
@@ -56,8 +56,8 @@ impl SentCommand {
         }
     }
 
-    /// The control once the outcome is known: as the command leaves it where it was made, and none where it wasn't or
-    /// may not have been. Then all is to be read again, and the command to be decided again.
+    /// Returns the control once the outcome is known: if the command was made, the control after it; nothing if it
+    /// wasn't made or may not have been. Then everything must be read again, and the command must be decided again.
     pub fn outcome(self, outcome: SendOutcome) -> Option<StoreControl>
         ensures made { (revision : ℕ) → outcome ≡ SendOutcome.Made revision
             → IfSome result (λ new. IsAfter self.control self.command self.write revision new) }
@@ -70,8 +70,8 @@ impl SentCommand {
         }
     }
 
-    // The control after its command was made.
-    fn made(self, revision: u64) -> StoreControl
+    /// Returns the control as its command leaves it, which was made at this revision.
+    pub fn made(self, revision: u64) -> StoreControl
         ensures { IsAfter self.control self.command self.write revision result }
     {
         let SentCommand {
@@ -103,7 +103,7 @@ impl SentCommand {
     }
 }
 
-// Notes what was written at this revision.
+// Notes the write at this revision.
 fn note(records: &mut Vec<RecordRead>, write: &CommandWrite, revision: u64)
     ensures { records.new.items ≡ reads_after records.old.items write.now revision }
 {

@@ -1,4 +1,4 @@
-//! How a control goes on with what it has read, as it would if it had led before.
+//! How a control goes on from its readings, as it would if it had led before.
 
 ghost use Rattle.std.specs.Prelude.{◌≡◌, IfOk, None, Some, not, ◌&&◌};
 ghost use Rattle.sm_desk.specs.declared.command.Command.TheVariants.{Change as ChangeOf};
@@ -24,10 +24,10 @@ use sm_ranges::stand::Stand;
 use std::alloc::{AllocError, Global};
 
 impl StoreControl {
-    /// How it goes on with the shard: a migration takes its next step once its next owner is prepared, and then once
-    /// its owner has let go; it ends once each follower has read that the shard is taken. One whose next owner is
-    /// leaving is given up before it forwards, and one whose next owner has failed before the shard is taken. What a
-    /// failed server owns goes to another.
+    /// Returns how it goes on with the shard. A migration takes its next step once its next owner is prepared, and then
+    /// once its owner has acked; it ends once each follower has read that the shard is taken. A migration is given up
+    /// if its next owner is leaving before it forwards, or has failed before the shard is taken. Shards of a failed
+    /// server go to another one.
     pub fn next_of_shard(
         &self,
         shard: ShardId,
@@ -42,8 +42,8 @@ impl StoreControl {
         self.unless_refused(self.step_of_stand(followed, acks, shard, &stand))
     }
 
-    /// How it goes on with the server's restart: one that was asked for is approved as soon as the caps allow it, and
-    /// one that was approved stops as soon as nothing is served there, and the server has let go of what is paused for
+    /// Returns how it goes on with the server's restart. A restart that was asked for is approved as soon as the caps
+    /// allow it. An approved server stops as soon as it serves nothing, and has acked the shards that are paused for
     /// it.
     pub fn next_of_server(&self, server: ServerId, acks: &[AckRead]) -> NextStep
         ensures exact { result ≡ server_step self.now acks.now server }
@@ -53,8 +53,8 @@ impl StoreControl {
         self.unless_refused(step_of_state(may, state_of(&self.desk, server), server))
     }
 
-    /// How it goes on with the drain of a server: the first move of its plan begins; where there is none and the
-    /// server's restart was approved, the first shard that fits nowhere pauses.
+    /// Returns how it goes on with the drain of a server: the first move of its plan begins. If there is none and the
+    /// server's restart was approved, the first shard pauses that fits on no other server.
     pub fn next_of_drain(&self, alloc: Global, server: ServerId) -> Result<NextStep, AllocError>
         ensures exact { IfOk result (λ step. step ≡ unless_refused self.now
             (step_of_drain self.now.desk.books server)) }
@@ -75,8 +75,8 @@ impl StoreControl {
         Ok(self.unless_refused(step_of_assignment(&plan)))
     }
 
-    /// The first server whose key isn't there, as its lease ended, though the desk has requests go to it: it is to be
-    /// said to have failed.
+    /// Returns the first server whose key is absent, because its lease ended, although the desk lets requests go to it.
+    /// It must be declared failed.
     pub fn fallen_server(&self, followers: &[Follower]) -> Option<ServerId>
         ensures { result ≡ fallen self.now.desk.books followers.now }
     {
@@ -92,7 +92,7 @@ impl StoreControl {
         }
     }
 
-    // The step of a shard of this stand, of whose record all have read or not.
+    // Returns the step of a shard with this stand, whose record all have read or not.
     fn step_of_stand(&self, followed: bool, acks: &[AckRead], k: ShardId, stand: &Stand) -> NextStep
         ensures { result
             ≡ step_of_stand self.now.desk followed (lets_go self.now acks.now k) k stand.now }
@@ -124,7 +124,7 @@ impl StoreControl {
         }
     }
 
-    // The step, or to wait where its command is refused.
+    // Returns the step, or to wait if its command is refused.
     fn unless_refused(&self, step: NextStep) -> NextStep
         ensures exact { result ≡ unless_refused self.now step }
         ensures allowed { IsAllowed self.now result }
@@ -140,7 +140,7 @@ impl StoreControl {
     }
 }
 
-// The stand of the shard, vacant where there is no such shard.
+// Returns the stand of the shard, or vacant if there is no such shard.
 fn stand_of(desk: &Desk, shard: ShardId) -> Stand
     ensures { result ≡ (shard_at desk.now.books.shards shard).stand }
 {
@@ -162,7 +162,7 @@ fn is_approved(state: ServerState) -> bool
     matches!(state, ServerState::Approved)
 }
 
-// The step by this change, once that holds.
+// Returns the step with this change, once that holds.
 fn takes_once(ready: bool, k: ShardId, change: Change) -> NextStep
     ensures { result ≡ takes_once ready (ChangeOf k change) }
 {
@@ -173,7 +173,7 @@ fn takes_once(ready: bool, k: ShardId, change: Change) -> NextStep
     }
 }
 
-// Whether the desk lets the shard be reassigned to the server.
+// Returns whether the desk lets the shard be reassigned to the server.
 #[tactic(auto, unfolding(crate::specs::NextSteps::lets_reassign))]
 fn lets_reassign(desk: &Desk, k: ShardId, server: ServerId) -> bool
     ensures { result ≡ lets_reassign desk.now k server }
@@ -182,7 +182,7 @@ fn lets_reassign(desk: &Desk, k: ShardId, server: ServerId) -> bool
         .is_ok()
 }
 
-// The first server to which the desk lets the shard go.
+// Returns the first server to which the desk lets the shard go.
 fn heir_of(desk: &Desk, k: ShardId) -> Option<ServerId>
     ensures { result ≡ heir_of desk.now k }
 {

@@ -18,7 +18,7 @@ use sm_ranges::server_id::ServerId;
 use sm_ranges::shard_id::ShardId;
 use sm_store::server_run::ServerRun;
 
-/// A control that leads, with all that it has read: the desk has each shard's stand and each server's state.
+/// A leading control, with all its readings: the desk has each shard's stand and each server's state.
 #[derive(Drop)]
 pub struct StoreControl {
     pub desk: Desk,
@@ -28,16 +28,16 @@ pub struct StoreControl {
     pub runs: Vec<ServerRun>,
     /// The greatest generation of a record.
     pub ceiling: u64,
-    /// Whether commands wait for acks. They need not if all servers of the store are of one process.
+    /// Whether commands wait for acks. They needn't if all servers of the store are in one process.
     pub waits: bool,
     pub lead: Leadership,
-    /// The revision at which the key of commands was last written, 0 where it never was.
+    /// The revision at which the key of commands was last written, or 0 if it never was.
     pub placed: u64,
 }
 
 impl StoreControl {
-    /// Judges the command, where this process runs the server that it names. If the desk and the shard's record allow
-    /// the command, it is to be sent, and the control knows nothing more until the outcome comes. Else the control
+    /// Judges the command, if this process runs the server that it names. If the desk and the shard's record allow the
+    /// command, it must be sent, and the control knows nothing more until the outcome comes. Otherwise the control
     /// comes back, with the first fault.
     pub fn command(self, process: u64, command: Command) -> Judged
         requires { IsTrue (may_name self (write_of self process command)) }
@@ -53,9 +53,9 @@ impl StoreControl {
         }
     }
 
-    /// Whether the state that the command leads to may be said of the process that it names: the one that runs the
-    /// server, or the one that its state names where that is later. A server that was stopped is up again only by a
-    /// process that began later, and one is named of which a server is stopped.
+    /// Returns whether the state after the command may name its process: the one that runs the server, or the one that
+    /// its state names if that is later. A server that was stopped is up again only with a process that began later,
+    /// and a state that says that a server is stopped must name a process.
     pub fn may_name(&self, process: u64, command: &Command) -> bool
         ensures { result ≡ may_name self.now (write_of self.now process command.now) }
     {
@@ -69,7 +69,7 @@ impl StoreControl {
         }
     }
 
-    // Whether the server may come into the state, where this process runs it.
+    // Returns whether the server may enter the state, if this process runs it.
     fn may_enter(&self, process: u64, server: ServerId, state: ServerState) -> bool
         ensures { result ≡ is_next_run (run_at self.now server) (run_into self.now process server state) }
     {
@@ -80,7 +80,7 @@ impl StoreControl {
         is_next_run(&before, &self.run_into(process, server, state))
     }
 
-    /// The process that the server's state names, 0 where it names none.
+    /// Returns the process that the server's state names, or 0 if it names none.
     pub fn process_of(&self, server: ServerId) -> u64
         ensures { result ≡ process_at self.now server }
     {
@@ -90,7 +90,7 @@ impl StoreControl {
         }
     }
 
-    // The server's next state, where this process runs it.
+    // Returns the server's next state, if this process runs it.
     fn run_into(&self, process: u64, server: ServerId, state: ServerState) -> ServerRun
         ensures { result ≡ run_into self.now process server state }
     {
@@ -101,8 +101,8 @@ impl StoreControl {
         }
     }
 
-    /// What the command writes where this process runs the server that it names, or the first fault that applies: the
-    /// desk's, or `Spent` or `Busy` of the shard's record.
+    /// Returns the write of the command if this process runs the server that it names, or the first fault that applies:
+    /// the desk's, or `Spent` or `Busy` from the shard's record.
     pub fn judge(&self, process: u64, command: &Command) -> Result<CommandWrite, CommandFault>
         ensures fault { result_err result ≡ command_fault self.now command.now }
         ensures write { IfOk result (λ write. write ≡ write_of self.now process command.now) }
@@ -136,7 +136,7 @@ impl StoreControl {
         }
     }
 
-    // The write of a server's state, where this process runs the server.
+    // Returns the write of a server's state, if this process runs the server.
     fn enters(&self, process: u64, server: ServerId, state: ServerState) -> CommandWrite
         ensures { result ≡ CommandWrite.State server (run_into self.now process server state) }
     {
@@ -147,7 +147,7 @@ impl StoreControl {
     }
 }
 
-/// The state of the server, Up where there is no such server.
+/// Returns the state of the server, or Up if there is no such server.
 pub(crate) fn state_of(desk: &Desk, server: ServerId) -> ServerState
     ensures { result ≡ state_of desk.now.books server }
 {
@@ -159,7 +159,7 @@ pub(crate) fn state_of(desk: &Desk, server: ServerId) -> ServerState
     }
 }
 
-/// The place of the server's row, or how many rows there are.
+/// Returns the place of the server's row, or how many rows there are.
 #[tactic(auto, using(crate::proofs::Places::found, crate::proofs::Places::missed))]
 pub(crate) fn place_of(desk: &Desk, server: ServerId) -> usize
     ensures { result ≡ place_of desk.now.books.servers server }

@@ -1,4 +1,4 @@
-//! For whom a control waits, by the acks that it has read.
+//! The servers for which a control waits, by the acks that it has read.
 
 ghost use Rattle.std.specs.Prelude.{◌≡◌, ◌<◌, length};
 ghost use Rattle.sm_lead.specs.Waits.{has_waited, is_paused_for, is_prepared, lets_go, lets_paused_go, may_stop};
@@ -80,7 +80,7 @@ impl StoreControl {
     }
 }
 
-// Whether a shard of this stand is paused, and the server owns it.
+// Returns whether a shard with this stand is paused, and the server owns it.
 fn is_paused_for(server: ServerId, stand: Stand) -> bool
     ensures { result ≡ is_paused_for server stand }
 {

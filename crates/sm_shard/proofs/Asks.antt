@@ -1,4 +1,4 @@
--- What a server sends asks only for what was asked.
+-- A server's transactions ask only for requests that were asked.
 use Rattle.std.proofs.Common.{◌≡◌, ℕ, List, [], ◌∷◌, ◌++◌, ◌+◌, true, false, append-nil, refl, sym, subst}
 use Rattle.std.specs.Prelude.{Bool, Option, Some, None, IfSome, ◌==◌, ◌||◌, if◌then◌else◌}
 use Rattle.std.specs.List.{AllByRecursion}
@@ -53,7 +53,7 @@ module _ {Q R : Type 0} where
   basing_asks asked shard None = tt
   basing_asks asked shard (Some work) = from_asks asked shard work.number 0 work.parts.items
 
-  -- what a server sends was asked for, if what it has was
+  -- a server's transactions were asked for, if its requests were
   pub transactions_ask : {M : Type 0} (asked : List (Ask Q)) (me shard : ℕ) (found : Option (ShardState M Q R))
       → IfSome found (λ ready. AreRequestsAskedOf asked shard ready)
       → AllByRecursion (AsksFor asked) (transactions_of me shard found)

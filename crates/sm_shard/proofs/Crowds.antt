@@ -1,4 +1,4 @@
--- Which clients are kept, and that a request is refused for its client only where too many are.
+-- Which clients are kept, and that a request is refused for its client only if there are too many.
 use Rattle.std.proofs.Common.{◌≡◌, ℕ, ◌+◌, ◌<◌, ◌≤◌, true, false, [], ◌∷◌, length, refl, sym, ap, subst, arith}
 use Rattle.std.specs.Prelude.{Bool, Option, Some, None, ◌==◌, filter, if◌then◌else◌, is_none, nat_le, nat_lt, not, ◌&&◌}
 use Rattle.std.specs.BTreeMap.{get}
@@ -55,7 +55,7 @@ module _ {R : Type 0} where
       (λ last. twice (is_le (nat_cmp floor last.0))) in
       omega (arith, all)
 
-  -- where so many stand below a number that this place among them is taken, fewer than that are kept from it on
+  -- if so many are below a number that this place among them is taken, fewer than that are kept from it on
   pub kept_by_place : {X : Type 0} (shows : X → ℕ × LastRequest R) (r : Option X) (found lasts : Lasts R)
       (floor most count : ℕ) (below : ℕ × LastRequest R → Bool)
       → ((last : ℕ × LastRequest R) → is_le (nat_cmp floor last.0) ≡ not (below last))
@@ -75,7 +75,7 @@ module _ {R : Type 0} where
       grind (arith, nat_tests, few)
 
 module _ (R : Type 0) (P : Type 0) where
-  -- this holds where the decision is that too many clients are kept
+  -- this holds if the decision is that too many clients are kept
   abbrev IfCrowded : Decision R → Type 0
   IfCrowded TooManyClients = P
   IfCrowded _ = Unit {0}
@@ -146,7 +146,7 @@ full_so true count lasts is = grind (arith, nat_tests)
 full_so false count lasts is = grind (arith, nat_tests)
 
 module _ {M Q R : Type 0} where
-  -- a request is refused for its client only where as many as may are kept also without those that it lets be forgotten
+  -- a request is refused for its client only if as many as allowed are kept even without those that may be forgotten
   pub crowded_if_full : (limits : ShardLimits) (size : Q → ℕ) (ready : ShardState M Q R) (me : ℕ) (item : Item Q)
       → decision_of limits size ready me item ≡ TooManyClients
       → limits.clients ≤ length (kept_from item.forgets ready.replica.lasts.entries)

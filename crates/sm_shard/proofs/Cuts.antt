@@ -1,4 +1,4 @@
--- What is cut into parts is joined again.
+-- A list that is divided into parts is joined again.
 use Rattle.std.proofs.Common.{◌≡◌, ℕ, zero, suc, ◌+◌, ◌-◌, ◌*◌, ◌<◌, ◌≤◌, List, [], ◌∷◌, ◌++◌, refl, sym, ap, ◌∙◌}
 use Rattle.std.proofs.Common.{arith, append_assoc, append-nil, length, take, drop, length-drop}
 use Rattle.std.specs.BTreeMap.{insert_entry}

@@ -99,7 +99,7 @@ module _ {M Q R : Type 0} (service : Automaton M Q R) where
   known_grows more log me shard None known = known
   known_grows more log me shard (Some ready) known = knows_grows more log me shard ready known
 
-  -- a server of the store's shards, what it holds of which is so
+  -- a server of the store's shards, whose knowledge is true
   pub record IsGoodServer (charter : Charter Q (Part R)) (log : StoreLog Q R) (asked : List (Ask Q))
       (running : Running M Q R) : Type 0 where
     pub count : charter.count ≡ running.server.count
@@ -179,7 +179,7 @@ module _ {Q R : Type 0} where
   system_is (Otherwise event ∷ acts) = ap (λ (system : System Q (Part R) R). happens system event) (system_is acts)
 
 module _ {M Q R : Type 0} (service : Automaton M Q R) where
-  -- what may be claimed may be, whatever else is sent and claimed
+  -- a claim that may be made stays allowed, whatever else is sent and claimed
   may_still : (system : System Q (Part R) R) (txns : List (Transaction Q (Part R))) (claims : List (Claim Q R))
       (claim : Claim Q R) → MayClaim service system claim
       → MayClaim service (with_claims (with_sent system txns) claims) claim
@@ -225,7 +225,7 @@ module _ {M Q R : Type 0} (service : Automaton M Q R) (charter : Charter Q (Part
     claims_might system txns events is claims all.1 might,
   )
 
-  -- the fleet's events might happen, and what its servers hold is so
+  -- the fleet's events might happen, and its servers' knowledge is true
   record IsRun (acts : List (Act M Q R)) : Type 0 where
     pub might : MightHappen service charter (events_of acts)
     pub good : AllByRecursion (IsGoodServer service charter (fleet_after acts).system.log
@@ -319,7 +319,7 @@ module _ {M Q R : Type 0} (service : Automaton M Q R) (charter : Charter Q (Part
   runs law parts (act ∷ earlier) might =
       run_step law parts earlier act (runs law parts earlier might.1) might.0
 
-  -- what its servers have was asked, and so was what is made
+  -- the requests of its servers were asked, and so were those that are made
   record IsAskedRun (acts : List (Act M Q R)) : Type 0 where
     pub servers : AllByRecursion (AreRunningAsked (fleet_after acts).system.asked) (fleet_after acts).servers
     pub events : AreAskedFor (events_of acts)
@@ -369,7 +369,7 @@ module _ {M Q R : Type 0} (service : Automaton M Q R) (charter : Charter Q (Part
   asked_runs (act ∷ earlier) might asks =
       ask_step earlier act (asked_runs earlier might.1 asks.1) might.0 asks.0
 
-  -- what holds of all runs of events holds of a fleet's
+  -- a property of all runs of events is a property of a fleet's
   pub lawful : Lawful → (acts : List (Act M Q R)) → charter.parts ≡ base_of service
       → MightAct service charter acts → IsLawful service charter (fleet_after acts).system
   lawful law acts parts might =

@@ -1,4 +1,4 @@
--- The table of last requests is right: what it has of a client is its last request, and the reply to that.
+-- The table of last requests is right: its entry for a client is the client's last request, and the reply to that.
 use Rattle.std.proofs.Common.{◌≡◌, ◌≢◌, ℕ, ◌+◌, ◌<◌, ◌≤◌, true, false, List, [], ◌∷◌, ◌++◌, refl, sym, ap, subst, ◌∙◌}
 use Rattle.std.proofs.Common.{arith, ⊎_elim, append_assoc, append-nil}
 use Rattle.std.specs.Prelude.{Bool, Option, Some, None, ◌==◌, filter, if◌then◌else◌}
@@ -38,7 +38,7 @@ below_of : (floor k : ℕ) → is_le (nat_cmp floor k) ≡ false → k < floor
 below_of floor k is = grind (arith, nat_tests)
 
 module _ {X : Type 0} where
-  -- what is at a client's number
+  -- the entry at a client's number
   abbrev pub found : ℕ → List (ℕ × X) → Option X
   found k entries = lookup (is_at (nat_cmp k)) entries
 
@@ -49,7 +49,7 @@ module _ {X : Type 0} where
   own_by k v e es rest Equal is later = rw is refl
   own_by k v e es rest Greater is later = rw is later
 
-  -- what is put is there
+  -- an entry that is put is there
   pub found_own : (entries : List (ℕ × X)) (k : ℕ) (v : X) → found k (insert_entry nat_cmp entries k v) ≡ Some v
   found_own [] k v = rw (is_at_own k) refl
   found_own (e ∷ es) k v = own_by k v e es (insert_entry nat_cmp es k v) (nat_cmp k e.0) refl (found_own es k v)
@@ -64,7 +64,7 @@ module _ {X : Type 0} where
       rw no refl
   other_by q k v e es rest Greater apart is later = rw later refl
 
-  -- what else is there stays
+  -- all other entries stay
   pub found_other : (entries : List (ℕ × X)) (k : ℕ) (v : X) (q : ℕ) → q ≢ k
       → found q (insert_entry nat_cmp entries k v) ≡ found q entries
   found_other [] k v q apart = rw (is_at_apart q k apart) refl
@@ -100,7 +100,7 @@ module _ {X : Type 0} where
   rising_if true low e rest below rising = (below, rising)
   rising_if false low e rest below rising = rising_down (e.0 + 1) low rest (omega arith) rising
 
-  -- those from a number on still rise
+  -- the entries from a number on still ascend
   rising_filter : (low floor : ℕ) (es : List (ℕ × X)) → AreRising low es
       → AreRising low (filter (λ e. is_le (nat_cmp floor e.0)) es)
   rising_filter low floor [] rising = tt
@@ -116,7 +116,7 @@ module _ {X : Type 0} where
       let no : is_at (nat_cmp q) e.0 ≡ false = is_at_apart q e.0 (λ same. let equal : q ≡ e.0 = same in omega arith) in
       rw no later
 
-  -- what is found from a number on is among those from there on
+  -- an entry that is found from a number on is among those from there on
   found_filter : (floor q : ℕ) (es : List (ℕ × X)) → floor ≤ q
       → found q (filter (λ e. is_le (nat_cmp floor e.0)) es) ≡ found q es
   found_filter floor q [] below = refl

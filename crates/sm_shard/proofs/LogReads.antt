@@ -1,4 +1,4 @@
--- A server that has read the log knows what it holds.
+-- A server that has read the log has true knowledge.
 use Rattle.std.proofs.Common.{◌≡◌, ℕ, ◌+◌, ◌<◌, List, [], ◌∷◌, ◌++◌, length, map, refl, sym, ap, subst, ◌∙◌}
 use Rattle.std.proofs.Common.{append-nil, append_assoc, arith}
 use Rattle.std.specs.Global.{Vec}
@@ -51,7 +51,7 @@ module _ {M Q R : Type 0} (service : Automaton M Q R) where
         base = subst (λ (o : Option (BaseWork R)). IfSome o (IsWorkTrue service log shard ready.head)) (sym work) tt;
       }
 
-  -- a server that has caught up with the log knows what it holds
+  -- a server that has caught up with the log has true knowledge
   pub read_on_so : (charter : Charter Q (Part R)) (log : StoreLog Q R) (me shard : ℕ) (old new : ShardState M Q R)
       (batches : List (List (Item Q))) → AreRight charter log → HasRead service log me shard old
       → WasFound (stored_record shard) (record_key shard) log new.state new.stood
@@ -78,7 +78,7 @@ module _ {M Q R : Type 0} (service : Automaton M Q R) where
         base = subst (λ (o : Option (BaseWork R)). IfSome o (IsWorkTrue service log shard new.head)) (sym work) tt;
       }
 
-  -- a server that takes back what it sent, and goes by another record, knows what it knew
+  -- a server that takes back its sent requests, and uses another record, keeps its knowledge
   pub taken_back_so : (log : StoreLog Q R) (me shard : ℕ) (old new : ShardState M Q R)
       → HasRead service log me shard old → WasFound (stored_record shard) (record_key shard) log new.state new.stood
       → new.replica ≡ old.replica → new.head ≡ old.head → new.logged ≡ old.logged
@@ -104,7 +104,7 @@ module _ {M Q R : Type 0} (service : Automaton M Q R) where
       }
 
 module _ {Q : Type 0} where
-  -- the requests of batches without where they lie in memory
+  -- the requests of batches without their places in memory
   abbrev pub batch_items : List (Vec (Item Q)) → List (Item Q)
   batch_items batches = all_items (map (λ batch. batch.items) batches)
 

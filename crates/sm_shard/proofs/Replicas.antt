@@ -19,7 +19,7 @@ module _ {M Q R : Type 0} (service : Automaton M Q R) where
   last_is items client None is = is
   last_is items client (Some last) is = is.0
 
-  -- what the table has of a client is its last request
+  -- the table's entry for a client is the client's last request
   pub table_is : (items : List (Item Q)) (replica : Replica M R) (client : ℕ) → IsReplica service items replica
       → floor_of items ≤ client → IsLast service items client (get nat_cmp replica.lasts client)
   table_is items replica client is below =

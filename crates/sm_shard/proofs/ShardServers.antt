@@ -1,4 +1,4 @@
--- What a server knows goes on.
+-- The knowledge of a server stays true.
 use Rattle.std.proofs.Common.{◌≡◌, ◌≢◌, ℕ, ◌<◌, true, false, List, [], ◌∷◌, ◌++◌, refl, sym, ap, subst, ◌∙◌, arith}
 use Rattle.std.proofs.Common.{◌≤◌, length, map, append_assoc, append-nil, inl, inr, ◌+◌, ◌-◌, drop, take}
 use Rattle.std.specs.Prelude.{Bool, Option, Some, None, IfNone, IfSome, Result, Ok, Err, IfOk, OnErr, ◌==◌, IsTrue}
@@ -77,7 +77,7 @@ decided_some : {A : Type 0} (b : Bool) (x y : A) → (if b then Some x else Some
 decided_some true x y is = none-some x (sym is)
 decided_some false x y is = none-some y (sym is)
 
--- where a client's number decides nothing, it has none here
+-- if a client's number decides nothing, it has none here
 pub unnumbered : {R P : Type 0} (number : ℕ) (found : Option ℕ) → None ≡ decided_by_number {R = R} number found
     → IfNone found P → P
 unnumbered number None is none = none
@@ -86,7 +86,7 @@ unnumbered {R = R} number (Some other) is none =
     let refused : Decision R = Refused in
     absurd (decided_some (other == number) waits refused (sym is))
 
--- two facts of what is there are one
+-- two facts about an existing value are one
 pub both_so : {A : Type 0} (found : Option A) (P Q : A → Type 0) → IfSome found P → IfSome found Q
     → IfSome found (λ x. P x × Q x)
 both_so None P Q p q = tt
@@ -106,7 +106,7 @@ pub none_by_length : {A : Type 0} (xs : List A) (n : ℕ) → n ≡ length xs �
 none_by_length [] n len is = refl
 none_by_length (x ∷ xs) n len is = let zero_long : n ≡ 0 = grind (arith, nat_tests) in absurd (omega arith)
 
--- a head is what its numbers are
+-- a head is determined by its numbers
 pub head_by_fields : (head : Head) (batches base parts : ℕ) → head.batches ≡ batches → head.base ≡ base → head.parts
     ≡ parts
     → head ≡ record { batches = batches; base = base; parts = parts }
@@ -182,7 +182,7 @@ head_compared R shard me None [] head stood logged = inr (inl refl)
 head_compared R shard me (Some base) [] head stood logged = inl refl
 head_compared R shard me base (item ∷ items) head stood logged = inr (inl refl)
 
--- what a transaction for a shard's requests compares
+-- the compares of a transaction for a shard's requests
 abbrev both_compares : ℕ → ℕ → ℕ → List Compare
 both_compares shard stood logged = at (record_key shard) stood ∷ at (head_key shard) logged ∷ []
 
@@ -193,7 +193,7 @@ module _ {Q R : Type 0} where
       let first = first_held past (record_key shard) stood (at (head_key shard) logged ∷ []) held in
       (first_held past (head_key shard) logged [] first.1).0
 
-  -- where the compares hold, the head is the one that was read
+  -- if the compares hold, the head is the one that was read
   pub head_held : (past : StoreLog Q R) (shard me : ℕ) (base : Option NamedBase) (items : List (Item Q)) (head : Head)
       (stood logged : ℕ)
       → all_hold past (transaction_for {Q = Q} {R = R} shard me base items head stood logged).compares ≡ true
@@ -209,7 +209,7 @@ module _ {Q R : Type 0} where
   executing shard me base [] head stood logged some = absurd (some refl)
   executing shard me base (item ∷ items) head stood logged some = refl
 
-  -- where nothing is sent, the head comes to name the base
+  -- if nothing is sent, the head names the base
   pub names : (shard me : ℕ) (base : NamedBase) (items : List (Item Q)) (head : Head) (stood logged : ℕ)
       → items ≡ [] → transaction_for {Q = Q} {R = R} shard me (Some base) items head stood logged
       ≡ transaction_of (Naming shard head base.number base.parts logged)
@@ -229,7 +229,7 @@ module _ {Q : Type 0} (limits : ShardLimits) (size : Q → ℕ) where
       → batch_from limits size count room (item ∷ items) ≡ 0
   batch_full count room item items full = rw full refl
 
--- what was looked up of the requests here doesn't let the client be forgotten
+-- the requests that were looked up here don't let the client be forgotten
 pub floor_below : {Q : Type 0} (client floor : ℕ) (items list : List (Item Q)) → floor ≡ floor_of list → list ≡ items
     → floor ≤ client → floor_of items ≤ client
 floor_below client floor items list is same within = subst (λ (k : ℕ). k ≤ client) (is ∙ ap floor_of same) within
@@ -324,7 +324,7 @@ module _ {M Q R : Type 0} (service : Automaton M Q R) where
   decided_so shard me system state read revision item found TooManyClients is = tt
   decided_so shard me system state read revision item found Busy is = tt
 
-  -- what is sent may be sent
+  -- the transaction may be sent
   pub may_send : (charter : Charter Q (Part R)) (log : StoreLog Q R) (me shard : ℕ) (ready : ShardState M Q R)
       → shard < charter.count → me ≢ 0 → HasRead service log me shard ready
       → MayExecute charter log shard me ready.sent.items ready.head ready.stood ready.logged
@@ -338,7 +338,7 @@ module _ {M Q R : Type 0} (service : Automaton M Q R) where
     accepted = accepted_front ready.state me knows.before ready.sent.items ready.waiting.items knows.is.accepted;
   }
 
-  -- what the server read of the log stood when its transaction was made
+  -- the log that the server had read was there when its transaction was made
   log_then : (log : StoreLog Q R) (me shard : ℕ) (ready : ShardState M Q R) → IsRising log
       → (knows : HasRead service log me shard ready)
       → (later past : StoreLog Q R) → log ≡ later ++ past → all_hold past (sent_transaction me shard ready).compares
@@ -433,7 +433,7 @@ module _ {M Q R : Type 0} (service : Automaton M Q R) where
     base = tt;
   }
 
-  -- the server goes on from where the head names the base that was sent, if one was
+  -- the server goes on from the point at which the head names the base that was sent, if one was
   pub knows_named : (log : StoreLog Q R) (me shard revision : ℕ) (ready : ShardState M Q R) → IsRising log
       → HasRead service log me shard ready → ready.sent.items ≡ [] → WereMade log me shard revision ready
       → HasRead service log me shard (named_now revision ready)
@@ -541,7 +541,7 @@ module _ {M Q R : Type 0} (service : Automaton M Q R) where
             (base_later service log shard old.head new.head old.work (ap (λ (h : Head). h.base) head_is) knows.base);
       }
 
-  -- nothing of what was read has changed
+  -- nothing in its readings has changed
   pub knows_same : (log : StoreLog Q R) (me shard : ℕ) (old new : ShardState M Q R) → new.state ≡ old.state → new.stood
       ≡ old.stood
       → new.head ≡ old.head → new.logged ≡ old.logged
@@ -571,7 +571,7 @@ module _ {M Q R : Type 0} (service : Automaton M Q R) where
       subst (λ (h : Head). IfSome new.work (IsWorkTrue service log shard h)) (sym head_is)
       (subst (λ (o : Option (BaseWork R)). IfSome o (IsWorkTrue service log shard old.head)) (sym work_is) was)
 
-  -- what the replies claim is so
+  -- the claims of the replies are true
   pub told_made : (system : StoreSystem Q R) (me shard revision : ℕ) (ready : ShardState M Q R)
       (answers : List (MadeReply R)) → IsRising system.log
       → (knows : HasRead service system.log me shard ready) → ready.sent.items ≢ []
@@ -588,7 +588,7 @@ module _ {M Q R : Type 0} (service : Automaton M Q R) where
       (answers_so shard system _ revision (made_then system.log me shard revision ready rising knows some were_made)
       knows.before ready.sent.items next refl)
 
-  -- so it is of a server that has read
+  -- the same for a server that has read
   pub made_told : (system : StoreSystem Q R) (me shard revision : ℕ) (found : Option (ShardState M Q R))
       (ready : ShardState M Q R) → found ≡ Some ready → (answers : List (MadeReply R))
       → AllByRecursion (MayClaim service system) (claimed_all shard ready.sent.items answers)
@@ -597,7 +597,7 @@ module _ {M Q R : Type 0} (service : Automaton M Q R) where
       subst (λ (o : Option (ShardState M Q R)). IfSome o (λ r. AllByRecursion (MayClaim service system)
       (claimed_all shard r.sent.items answers))) (sym is) all
 
-  -- nothing is claimed where nothing was sent
+  -- nothing is claimed if nothing was sent
   pub none_told : (system : StoreSystem Q R) (shard : ℕ) (ready : ShardState M Q R) (answers : List (MadeReply R))
       → ready.sent.items ≡ []
       → AllByRecursion (MayClaim service system) (claimed_all shard ready.sent.items answers)
@@ -655,7 +655,7 @@ module _ {M Q R : Type 0} (service : Automaton M Q R) where
   read_one system since me shard ready knows did item asked true is others all =
       (read_may system since me shard ready knows did item asked is, all)
 
-  -- what the reads of a transaction claim may be claimed once it held
+  -- the claims of a transaction's reads may be made once it held
   pub reads_may : (system : StoreSystem Q R) (since me shard : ℕ) (ready : ShardState M Q R)
       → HasRead service system.log me shard ready
       → DidHold system.held since (sent_transaction me shard ready)
@@ -692,7 +692,7 @@ module _ {M Q R : Type 0} (service : Automaton M Q R) where
       (sym (are ∙ ap (map (read_of service ready.replica.machine)) items_are))
       (reads_may system since me shard ready knows did ready.carried.items were.carried))
 
-  -- what waits goes in part, from where nothing was sent
+  -- a part of the waiting requests goes, if nothing was sent before
   pub flushed : (limits : ShardLimits) (size : Q → ℕ) (me : ℕ) (before : List (Item Q)) (old new : ShardState M Q R)
       → new.state ≡ old.state → new.replica ≡ old.replica → old.sent.items ≡ [] → IsFlushed limits size old new
       → IsShardState service me before old → IsShardState service me before new
@@ -708,7 +708,7 @@ module _ {M Q R : Type 0} (service : Automaton M Q R) where
             (sym state_is) (subst (AreAccepted old.state me before) items_are ready.accepted);
       }
 
-  -- and nothing of it changes where nothing goes
+  -- and nothing changes if nothing goes
   pub unflushed : (me : ℕ) (before : List (Item Q)) (old new : ShardState M Q R)
       → new.state ≡ old.state → new.replica ≡ old.replica → IsUnflushed old new
       → IsShardState service me before old → IsShardState service me before new

@@ -10,7 +10,7 @@ use Rattle.sm_shard.specs.declared.steps.ShardOutput.{ShardOutput}
 use Rattle.sm_shard.specs.Steps.{IsCaughtUp, IsOutputOf, IsStepOf, KeepsAsked}
 use Rattle.sm_shard.specs.StoreServers.{AreAllShards, AreShardsFrom, IsAtShard, IsStoreStep}
 
--- what is lent of a list is what stands at the place
+-- the borrowed element of a list is the one at the place
 found_at : {A : Type 0} (xs : List A) (place : ℕ) (x : A) → place < length xs → x ≡ slice_index_or xs place x
     → slice_get xs place ≡ Some x
 found_at [] place x within is = absurd (omega arith)
@@ -64,7 +64,7 @@ module _ {M Q R : Type 0} (me count : ℕ) where
             (record { me_is = me_is; shard_is = shard_is ∙ omega arith; count_is = count_is });
       })
 
-  -- the shards stay what they are
+  -- the shards stay as they are
   pub still_shards : (number : ℕ) (servers : List (ShardServer M Q R)) (place : ℕ) (old new : ShardServer M Q R)
       → old ≡ slice_index_or servers place old → new.me ≡ old.me → new.shard ≡ old.shard → new.count ≡ old.count
       → AreAllShards me count number servers → AreAllShards me count number (slice_set servers place new)

@@ -1,4 +1,4 @@
--- What the answers of a server claim.
+-- The claims of a server's answers.
 use Rattle.std.proofs.Common.{◌≡◌, ℕ, [], map}
 use Rattle.std.specs.Prelude.{Option, Some, None, IfNone, IfSome}
 use Rattle.std.specs.List.{AllByRecursion}

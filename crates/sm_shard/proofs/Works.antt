@@ -1,4 +1,4 @@
--- What a server knows of the base that it makes, and what it may send by that.
+-- The knowledge of a server about the base that it makes, and the transactions that it may send by that.
 use Rattle.std.proofs.Common.{◌≡◌, ◌≢◌, ℕ, ◌+◌, ◌<◌, ◌≤◌, Bool, true, false, List, [], ◌∷◌, ◌++◌, length, refl, sym, ap}
 use Rattle.std.proofs.Common.{subst, ◌∙◌, arith, ⊎_elim, append_assoc, length-append}
 use Rattle.std.specs.Prelude.{Option, Some, None, IfSome, not, ◌==◌, ◌&&◌, nat_le, nat_lt, slice_get, if◌then◌else◌}
@@ -46,7 +46,7 @@ not_writing Writing is = absurd (true≢false (sym is))
 not_writing Written is = absurd (true≢false (sym is))
 not_writing Naming is = refl
 
--- the head was found where the log was
+-- the head was found in the log
 pub head_found : {Q R : Type 0} (log : StoreLog Q R) (shard : ℕ) (read : ShardLog Q) (revision : ℕ)
     → WasFound (shard_log shard) (head_key shard) log read revision
     → WasFound (head_of shard) (head_key shard) log read.head revision
@@ -112,13 +112,13 @@ module _ {M Q R : Type 0} (service : Automaton M Q R) where
     placed = λ there. placed_grows more log shard work.number (length work.parts.items) (was.placed there);
   }
 
-  -- what is known of a base is known later
+  -- knowledge about a base is still true later
   pub base_grows : (more log : StoreLog Q R) (shard : ℕ) (head : Head) (base : Option (BaseWork R))
       → IfSome base (IsWorkTrue service log shard head) → IfSome base (IsWorkTrue service (more ++ log) shard head)
   base_grows more log shard head None was = tt
   base_grows more log shard head (Some work) was = work_grows more log shard head work was
 
-  -- also where the head has more batches
+  -- also if the head has more batches
   pub base_later : (log : StoreLog Q R) (shard : ℕ) (old new : Head) (base : Option (BaseWork R)) → new.base ≡ old.base
       → IfSome base (IsWorkTrue service log shard old) → IfSome base (IsWorkTrue service log shard new)
   base_later log shard old new None same was = tt
@@ -177,7 +177,7 @@ module _ {M Q R : Type 0} (service : Automaton M Q R) where
   base_written log shard head (Some work) was all =
       written_by log shard head work.number work.parts work.stage was all
 
-  -- a base that was begun is that of the requests that are made
+  -- a base that was begun is that of the requests that were made
   begun_one : (log : StoreLog Q R) (shard logged : ℕ) (head : Head) (items : List (Item Q)) (work : BaseWork R)
       → WasFound (shard_log shard) (head_key shard) log (record { head = head; items = items }) logged
       → head.base < head.batches → IsNewBase service head.batches items work → IsWorkTrue service log shard head work
@@ -252,7 +252,7 @@ module _ {M Q R : Type 0} (service : Automaton M Q R) where
         there = was.placed (not_writing work.stage named.0);
       })
 
--- what lies behind the base may be deleted
+-- a key that the base has replaced may be deleted
 pub clear_may : {Q R : Type 0} (charter : Charter Q (Part R)) (log : StoreLog Q R) (shard logged : ℕ) (head : Head)
     (key : PassingKey) → WasFound (head_of shard) (head_key shard) log head logged → is_behind shard head key ≡ true
     → MayClear charter log key

@@ -52,7 +52,7 @@ part_count state lasts = max (length state / PART_BYTES) (length lasts / PART_CL
 abbrev pub parts_holding : {R : Type 0} → ℕ → List ℕ → Lasts R → List (Part R)
 parts_holding floor state lasts = cut floor (part_count state lasts) state lasts
 
--- the base that stands for these requests
+-- the base that replaces these requests
 abbrev pub base_of : {M Q R : Type 0} → Automaton M Q R → List (Item Q) → List (Part R)
 base_of service items =
     parts_holding (floor_of items) (service.spelled (state_after service service.start items)) (lasts_of service items)

@@ -1,4 +1,4 @@
--- What a server decides on a request, and what it sends: exactly what, and when.
+-- A server's decisions about requests, and its transactions: exactly which ones, and when.
 use Rattle.std.specs.Prelude.{ℕ, Bool, true, false, not, is_none, is_some, nat_lt, nat_le, ◌==◌, ◌&&◌, ◌||◌}
 use Rattle.std.specs.Prelude.{if◌then◌else◌, Option}
 use Rattle.std.specs.Prelude.{Some}
@@ -27,7 +27,7 @@ use Rattle.sm_shard.specs.declared.base_work.NamedBase.{NamedBase}
 use Rattle.sm_shard.specs.declared.shard_state.ShardState.{ShardState}
 use Rattle.sm_shard.specs.Bases.{kept_from}
 
--- what is decided of a request by its client's last one, where that decides it
+-- the decision about a request from its client's last one, if that decides it
 abbrev pub decided_by_last : {R : Type 0} → ℕ → Option (LastRequest R) → Option (Decision R)
 decided_by_last number None = if number == 0 then Some Refused else None
 decided_by_last number (Some last) =
@@ -35,12 +35,12 @@ decided_by_last number (Some last) =
     else if nat_lt number last.number then Some Passed
     else None
 
--- what is decided of one that was forwarded so often, and that its record doesn't accept
+-- the decision about a request that was forwarded so often, and that its record doesn't accept
 abbrev pub decided_by_forward : {R : Type 0} → ℕ → Option ℕ → Decision R
 decided_by_forward hops None = Refused
 decided_by_forward hops (Some to) = if nat_lt hops MOST_HOPS then Forwards to (hops + 1) else TooFar
 
--- a decision, or else another
+-- a decision, or otherwise another one
 abbrev pub decided_or : {R : Type 0} → Option (Decision R) → Decision R → Decision R
 decided_or None other = other
 decided_or (Some decision) other = decision
@@ -50,27 +50,28 @@ abbrev pub client_number : {Q : Type 0} → ℕ → List (Item Q) → Option ℕ
 client_number client [] = None
 client_number client (item ∷ items) = if item.client == client then Some item.number else client_number client items
 
--- what is decided of a request whose client has one of this number here: it is that one, or is refused
+-- the decision about a request whose client has a request with this number here: it is that one, or is refused
 abbrev pub decided_by_number : {R : Type 0} → ℕ → Option ℕ → Option (Decision R)
 decided_by_number number None = None
 decided_by_number number (Some other) = if other == number then Some Waits else Some Refused
 
--- what is decided of one whose client is forgotten below this number, once what was sent or waits here is made
+-- the decision about a request whose client is forgotten below this number, once the requests that were sent or wait
+-- here are made
 abbrev pub decided_by_floor : {R : Type 0} → ℕ → ℕ → Option (Decision R)
 decided_by_floor client floor = if nat_lt client floor then Some Refused else None
 
--- it would be one client more than may be kept, also once those are forgotten that the request itself lets be forgotten
+-- it would be one client more than allowed, even once those are forgotten that the request itself lets be forgotten
 abbrev pub is_crowded : {M Q R : Type 0} → ShardLimits → Replica M R → Item Q → Bool
 is_crowded limits replica item =
     is_none (get nat_cmp replica.lasts item.client)
     && nat_le limits.clients (length (kept_from item.forgets replica.lasts.entries))
 
--- of how many clients a server keeps the last request: of none before it has read
+-- how many clients' last requests a server keeps: none before it has read
 abbrev pub clients_kept : {M Q R : Type 0} → Option (ShardState M Q R) → ℕ
 clients_kept None = 0
 clients_kept (Some ready) = length ready.replica.lasts.entries
 
--- what is decided of one that is new here, where so many wait, and where there may be no more clients
+-- the decision about a request that is new here, if so many wait, and if there may be no more clients
 abbrev pub decided_by_room : {R : Type 0} → ShardLimits → ℕ → ℕ → Bool → Decision R
 decided_by_room limits bytes waiting crowded =
     if nat_lt limits.batch_bytes bytes then TooLarge
@@ -87,7 +88,7 @@ by_made replica client number =
 abbrev pub by_last : {M Q R : Type 0} → ShardState M Q R → Item Q → Option (Decision R)
 by_last ready item = by_made ready.replica item.client item.number
 
--- the decision by what was sent or waits of the client, if that decides
+-- the decision from the client's requests that were sent or wait, if they decide
 abbrev pub by_waiting : {M Q R : Type 0} → ShardState M Q R → Item Q → Option (Decision R)
 by_waiting ready item =
     option_or (decided_by_number item.number (client_number item.client ready.sent.items))
@@ -95,9 +96,9 @@ by_waiting ready item =
     (option_or (decided_by_floor item.client (floor_of ready.sent.items))
     (decided_by_floor item.client (floor_of ready.waiting.items))))
 
--- the decision on a request: by those that are made; else where the record accepts it here, by what was sent or waits
--- of its client, and by the room that is left; else it goes to whom the record forwards it, if it may go that far, or
--- is refused
+-- the decision about a request: first from the requests that were made; otherwise, if the record accepts it here, from
+-- its client's requests that were sent or wait, and from the remaining room; otherwise it goes to the server to which
+-- the record forwards it, if it may go that far, or is refused
 abbrev pub decision_of : {M Q R : Type 0} → ShardLimits → (Q → ℕ) → ShardState M Q R → ℕ → Item Q → Decision R
 decision_of limits size ready me item =
     decided_or (by_last ready item)
@@ -116,20 +117,20 @@ is_taken limits size ready me item =
     && not (nat_lt limits.batch_bytes (size item.request) || (nat_le limits.waiting (length ready.waiting.items)
     || is_crowded limits ready.replica item))))
 
--- what waits after the decision
+-- the waiting requests after the decision
 abbrev pub waiting_after : {M Q R : Type 0} → ShardLimits → (Q → ℕ) → ShardState M Q R → ℕ → Item Q → List (Item Q)
 waiting_after limits size ready me item =
     if is_taken limits size ready me item then ready.waiting.items ++ item ∷ [] else ready.waiting.items
 
--- what is decided if the server has read, and if it hasn't, or is to catch up first
+-- the decision if the server has read, and if it hasn't, or must first catch up
 abbrev pub server_decision : {M Q R : Type 0} → ShardLimits → (Q → ℕ) → Option (ShardState M Q R) → ℕ → Item Q
     → Decision R
 server_decision limits size None me item = NotRead
 server_decision limits size (Some ready) me item =
     if ready.decides then decision_of limits size ready me item else NotRead
 
--- the decision on a request that only reads: it waits where the record accepts it here and there is room, goes to whom
--- the record forwards it, if it may go that far, or is refused
+-- the decision about a request that only reads: if the record accepts it here and there is room, it waits; otherwise it
+-- goes to the server to which the record forwards it, if it may go that far, or is refused
 abbrev pub read_decision_of : {M Q R : Type 0} → ShardLimits → ShardState M Q R → ℕ → Item Q → Decision R
 read_decision_of limits ready me item =
     if accepts ready.state me item.mode
@@ -143,7 +144,7 @@ asking_after limits ready me item =
     then ready.asking.items ++ item ∷ []
     else ready.asking.items
 
--- what is decided of one that only reads, if the server has read, and if it hasn't, or is to catch up first
+-- the decision about a request that only reads, if the server has read, and if it hasn't, or must first catch up
 abbrev pub server_read_decision : {M Q R : Type 0} → ShardLimits → Option (ShardState M Q R) → ℕ → Item Q → Decision R
 server_read_decision limits None me item = NotRead
 server_read_decision limits (Some ready) me item =
@@ -159,11 +160,11 @@ abbrev pub is_naming : BaseStage → Bool
 is_naming Naming = true
 is_naming _ = false
 
--- one more request of so many bytes goes into a batch that has so many, and has so much room: the first always does
+-- one more request of so many bytes fits into a batch that has so many, and has so much room: the first always does
 abbrev pub goes_with : ShardLimits → ℕ → ℕ → ℕ → Bool
 goes_with limits count room bytes = count == 0 || (nat_lt count limits.batch_requests && nat_le bytes room)
 
--- how many of the requests go into a batch that has so many, and has so much room
+-- how many of the requests fit into a batch that has so many, and has so much room
 abbrev pub batch_from : {Q : Type 0} → ShardLimits → (Q → ℕ) → ℕ → ℕ → List (Item Q) → ℕ
 batch_from limits size count room [] = 0
 batch_from limits size count room (item ∷ items) =
@@ -171,19 +172,19 @@ batch_from limits size count room (item ∷ items) =
     then batch_from limits size (count + 1) (room - size item.request) items + 1
     else 0
 
--- a base is there, and is to be named
+-- a base is there, and must be named
 abbrev pub is_named_next : {R : Type 0} → Option (BaseWork R) → Bool
 is_named_next None = false
 is_named_next (Some work) = is_written work.stage
 
--- the base that the head comes to name by the transaction that was sent, if it does
+-- the base that the sent transaction makes the head name, if it does
 abbrev pub named_by : {R : Type 0} → Option (BaseWork R) → Option NamedBase
 named_by None = None
 named_by (Some work) =
     if is_naming work.stage then Some (record { number = work.number; parts = length work.parts.items }) else None
 
--- how many requests go next: none where a base is to be named, or the head can't count one more batch; else the first,
--- and as many after it as stay within the limits
+-- how many requests go next: none if a base must be named, or if the head can't count one more batch; otherwise the
+-- first, and as many after it as stay within the limits
 abbrev pub batch_length : {M Q R : Type 0} → ShardLimits → (Q → ℕ) → ShardState M Q R → ℕ
 batch_length limits size ready =
     if is_named_next ready.work || ready.head.batches == 18446744073709551615 then 0
@@ -194,13 +195,13 @@ abbrev pub is_under_way : {M Q R : Type 0} → ShardState M Q R → Bool
 is_under_way ready =
     not (length ready.sent.items == 0) || (not (length ready.carried.items == 0) || is_some (named_by ready.work))
 
--- nothing is under way, and something is to be sent
+-- nothing is under way, and there is something to send
 abbrev pub sends_now : {M Q R : Type 0} → ShardLimits → (Q → ℕ) → ShardState M Q R → Bool
 sends_now limits size ready =
     not (is_under_way ready)
     && (is_named_next ready.work || not (batch_length limits size ready == 0 && length ready.asking.items == 0))
 
--- no base is made, and there are batches that the last one doesn't stand for
+-- no base is being made, and there are batches that the last one doesn't replace
 abbrev pub begins_base : {M Q R : Type 0} → ShardState M Q R → Bool
 begins_base ready = is_none ready.work && nat_lt ready.head.base ready.head.batches
 
@@ -209,18 +210,18 @@ abbrev pub server_begins : {M Q R : Type 0} → Option (ShardState M Q R) → Bo
 server_begins None = false
 server_begins (Some ready) = begins_base ready
 
--- the base that a head names stands for what lies at this key, or is newer
+-- the base that a head names replaces the value at this key, or is newer than it
 abbrev pub is_behind : ℕ → Head → PassingKey → Bool
 is_behind shard head (Batch at number) = at == shard && nat_le number head.base
 is_behind shard head (Part at number place) = at == shard && nat_lt number head.base
 is_behind shard head _ = false
 
--- what lies at the key is behind the base of the server's head
+-- the base of the server's head has replaced the value at this key
 abbrev pub server_behind : {M Q R : Type 0} → ℕ → Option (ShardState M Q R) → PassingKey → Bool
 server_behind shard None key = false
 server_behind shard (Some ready) key = is_behind shard ready.head key
 
--- the server decides by what it has read
+-- the server decides with its readings
 abbrev pub server_decides : {M Q R : Type 0} → Option (ShardState M Q R) → Bool
 server_decides None = false
 server_decides (Some ready) = ready.decides

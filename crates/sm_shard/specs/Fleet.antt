@@ -22,14 +22,14 @@ pub record Fleet (M Q R : Type 0) : Type 0 where
   pub system : System Q (Part R) R
   pub servers : List (Running M Q R)
 
--- what servers do, and the world around them
+-- the acts of servers, and of the world around them
 pub data Act (M Q R : Type 0) : Type 0 where
   -- a server starts, or starts again and has forgotten everything
   Starts : (server : ShardServer M Q R) → Act M Q R
   -- one of the servers makes a step
   Steps : (which : ℕ) (old : Running M Q R) (input : ShardInput Q R)
       (result : Result (ShardOutput Q R) ReplayFault) (new : ShardServer M Q R) → Act M Q R
-  -- anything else: a control sends, a message reaches the store, someone is elected
+  -- anything else: a control sends, a message reaches the store, or a process is elected
   Otherwise : (event : Event Q (Part R) R) → Act M Q R
 
 -- a transaction that is sent at a log of this length
@@ -66,7 +66,7 @@ pub record IsFleetStep {M Q R : Type 0} (service : Automaton M Q R) (fleet : Fle
   pub shard : new.shard ≡ old.server.shard
   pub count : new.count ≡ old.server.count
 
--- an act may happen: a server starts with nothing read, or makes a step as its contract says, on what is so
+-- an act may happen: a server starts with nothing read, or makes a step as its contract says, with inputs that are true
 abbrev pub MayAct : {M Q R : Type 0} → Automaton M Q R → Charter Q (Part R) → Fleet M Q R → Act M Q R
     → Type 0
 MayAct service charter fleet (Starts server) =
@@ -94,12 +94,12 @@ events_of (Steps which old input result new ∷ earlier) =
     map Claims (step_claims old.server input result) ++ (map IsSent (step_sends result new) ++ events_of earlier)
 events_of (Otherwise event ∷ earlier) = event ∷ events_of earlier
 
--- whoever isn't a server sends only transactions whose requests were asked
+-- others than servers send only transactions whose requests were asked
 abbrev pub AsksForEvent : {M Q R : Type 0} → Fleet M Q R → Event Q (Part R) R → Type 0
 AsksForEvent fleet (IsSent txn) = AsksFor fleet.system.asked txn
 AsksForEvent fleet _ = Unit {0}
 
--- nobody makes a request by this act that wasn't asked: a server is given only one that was, and keeps to those, as its
+-- this act makes no request that wasn't asked: a server is given only requests that were, and keeps to those, as its
 -- contract says
 abbrev pub AsksForAct : {M Q R : Type 0} → Fleet M Q R → Act M Q R → Type 0
 AsksForAct fleet (Starts server) = Unit {0}

@@ -1,4 +1,4 @@
--- What a server makes of a shard's requests: the machine after them, and the last request and reply of each client.
+-- A server's replica of a shard's requests: the machine after them, and the last request and reply of each client.
 use Rattle.std.specs.Prelude.{ℕ, Option, Some, None, ◌≡◌, List, [], ◌∷◌, if◌then◌else◌}
 use Rattle.std.specs.Option.{option_map}
 use Rattle.sm_store.specs.declared.item.Item.{Item}
@@ -10,7 +10,7 @@ use Rattle.sm_shard.specs.declared.store_machine.ReadAnswer.{ReadAnswer}
 use Rattle.sm_shard.specs.declared.replica.Replica.{Replica}
 use Rattle.sm_shard.specs.declared.replica.LastRequest.{LastRequest}
 
--- the number of a last request, 0 where there is none
+-- the number of a last request, or 0 if there is none
 abbrev pub last_number : {R : Type 0} → Option (LastRequest R) → ℕ
 last_number None = 0
 last_number (Some last) = last.number
@@ -30,7 +30,7 @@ pub record IsReplica {M Q R : Type 0} (service : Automaton M Q R) (items : List 
   pub floor : replica.floor ≡ floor_of items
   pub next : AreNext [] items
 
--- what a read is told: whose it is, its number, and the reply and the text, if there is an answer
+-- the outcome of a read: its client, its number, and the reply and the text, if there is an answer
 pub record ToldRead (R : Type 0) : Type 0 where
   pub client : ℕ
   pub number : ℕ
@@ -40,17 +40,17 @@ pub record ToldRead (R : Type 0) : Type 0 where
 abbrev pub answer_parts : {R : Type 0} → ReadAnswer R → R × List ℕ
 answer_parts answer = (answer.reply, answer.text.items)
 
--- what this answers to a question
+-- the outcome in this answer to a question
 abbrev pub told_read : {R : Type 0} → ReadReply R → ToldRead R
 told_read read =
     record { client = read.client; number = read.number; answer = option_map answer_parts read.answer }
 
--- the machine's reply and its text if the request only reads, and none if it is another
+-- the machine's reply and its text if the request only reads, and nothing otherwise
 abbrev pub read_answer : {M Q R : Type 0} → Automaton M Q R → M → Q → Option (R × List ℕ)
 read_answer service machine request =
     if service.reads request then Some (service.reply machine request, service.text machine request) else None
 
--- what is answered to a question
+-- the answer to a question
 abbrev pub read_of : {M Q R : Type 0} → Automaton M Q R → M → Item Q → ToldRead R
 read_of service machine item =
     record { client = item.client; number = item.number; answer = read_answer service machine item.request }

@@ -1,4 +1,4 @@
--- What a server knows of its shard, and what it may conclude.
+-- The knowledge of a server about its shard, and its conclusions.
 use Rattle.std.specs.Prelude.{ℕ, Bool, true, false, not, if◌then◌else◌, Option, Some, None, IfSome, IsTrue, ◌≡◌, ◌≢◌}
 use Rattle.std.specs.Prelude.{◌≤◌, ◌<◌, ◌+◌, List, [], ◌∷◌, ◌++◌, length, take, drop}
 use Rattle.std.specs.List.{AllByRecursion}
@@ -32,7 +32,7 @@ use Rattle.sm_shard.specs.Replicas.{IsReplica, ToldRead}
 abbrev pub StoreLog : Type 0 → Type 0 → Type 0
 StoreLog Q R = List (Transaction Q (Part R))
 
--- such a store, and all that was ever asked, sent, held and claimed
+-- such a store, and everything that was ever asked, sent, held and claimed
 abbrev pub StoreSystem : Type 0 → Type 0 → Type 0
 StoreSystem Q R = System Q (Part R) R
 
@@ -53,7 +53,7 @@ ArePlaced {R = R} log shard number count =
     (place : ℕ) → place < count → (part : Part R) × (revision : ℕ)
     × WasFound (part_at shard number place) (part_key shard number place) log (Some part) revision
 
--- the base is that of so many batches, newer than the head's, and where it is written each part was found
+-- the base is that of so many batches, newer than the head's, and if it is written, each part was found
 pub record IsWorkTrue {M Q R : Type 0} (service : Automaton M Q R) (log : StoreLog Q R) (shard : ℕ) (head : Head)
     (work : BaseWork R) : Type 0 where
   pub newer : head.base < work.number
@@ -62,7 +62,7 @@ pub record IsWorkTrue {M Q R : Type 0} (service : Automaton M Q R) (log : StoreL
   pub parts : work.parts.items ≡ base_of service items
   pub placed : IsTrue (not (is_writing work.stage)) → ArePlaced log shard work.number (length work.parts.items)
 
--- the store had the record and the log that the server works on
+-- the store had the record and the log on which the server works
 pub record HasRead {M Q R : Type 0} (service : Automaton M Q R) (log : StoreLog Q R)
     (me shard : ℕ)
     (ready : ShardState M Q R) : Type 0 where
@@ -73,7 +73,7 @@ pub record HasRead {M Q R : Type 0} (service : Automaton M Q R) (log : StoreLog 
   pub is : IsShardState service me before ready
   pub base : IfSome ready.work (IsWorkTrue service log shard ready.head)
 
--- what the server holds is so in the store
+-- the server's knowledge is true in the store
 abbrev pub IsTrueOf : {M Q R : Type 0} → Automaton M Q R → StoreLog Q R → ShardServer M Q R → Type 0
 IsTrueOf service log server = IfSome server.ready
     (λ ready. HasRead service log server.me server.shard ready)
@@ -110,7 +110,7 @@ pub record AreRequestsAskedOf {M Q R : Type 0} (asked : List (Ask Q)) (shard : �
 abbrev pub AreRequestsAsked : {M Q R : Type 0} → List (Ask Q) → ShardServer M Q R → Type 0
 AreRequestsAsked asked server = IfSome server.ready (λ ready. AreRequestsAskedOf asked server.shard ready)
 
--- what a decision says of a request is so, where the server knows these requests
+-- a decision is right about a request, if the server knows these requests
 abbrev pub IsDecided : {M Q R : Type 0} → Automaton M Q R → Record → ℕ → List (Item Q) → ℕ → ℕ
     → Decision R → Type 0
 IsDecided service state me before client number (Replied answer) =
@@ -120,7 +120,7 @@ IsDecided service state me before client number Forgotten = client < floor_of be
 IsDecided service state me before client number (Forwards to hops) = forward_to state me ≡ Some to
 IsDecided service state me before client number _ = Unit {0}
 
--- a base that is there is to be named now
+-- a base that is there must be named now
 abbrev pub naming_next : {R : Type 0} → Option (BaseWork R) → Option (BaseWork R)
 naming_next None = None
 naming_next (Some work) =
@@ -183,34 +183,34 @@ pub record IsUnflushed {M Q R : Type 0} (old new : ShardState M Q R) : Type 0 wh
   pub asking : new.asking.items ≡ old.asking.items
   pub work : new.work ≡ old.work
 
--- what a decision on a request claims to its client
+-- the claims of a decision to its request's client
 abbrev pub claimed_by : {Q R : Type 0} → ℕ → Item Q → Decision R → List (Claim Q R)
 claimed_by shard item (Replied answer) = Replies shard item.client item.number item.request answer ∷ []
 claimed_by shard item Passed = Overtaken shard item.client item.number ∷ []
 claimed_by shard item Forgotten = Overtaken shard item.client item.number ∷ []
 claimed_by shard item _ = []
 
--- what the replies to requests, in the same order, claim to their clients
+-- the claims of the replies to requests, in the same order, to their clients
 abbrev pub claimed_all : {Q R : Type 0} → ℕ → List (Item Q) → List (MadeReply R) → List (Claim Q R)
 claimed_all shard [] answers = []
 claimed_all shard (item ∷ items) [] = []
 claimed_all shard (item ∷ items) (made ∷ others) =
     Replies shard made.client made.number item.request made.reply ∷ claimed_all shard items others
 
--- what the answer to a read claims, before these; without an answer it claims nothing
+-- the claim of the answer to a read, before these; without an answer it claims nothing
 abbrev pub claimed_read : {Q R : Type 0} → ℕ → Q → ℕ → ℕ → Option (R × List ℕ) → List (Claim Q R) → List (Claim Q R)
 claimed_read shard request client number None others = others
 claimed_read shard request client number (Some (reply, text)) others =
     Reads shard client number request reply text ∷ others
 
--- what the answers to reads, in the same order, claim
+-- the claims of the answers to reads, in the same order
 abbrev pub claimed_reads : {Q R : Type 0} → ℕ → List (Item Q) → List (ToldRead R) → List (Claim Q R)
 claimed_reads shard [] reads = []
 claimed_reads shard (item ∷ items) [] = []
 claimed_reads shard (item ∷ items) (read ∷ reads) =
     claimed_read shard item.request read.client read.number read.answer (claimed_reads shard items reads)
 
--- the transaction where there are no requests: the head comes to name a base, or there are compares alone
+-- the transaction if there are no requests: the head names a base, or there are only compares
 abbrev pub transaction_without : {Q R : Type 0} → ℕ → Option NamedBase → Head → ℕ → ℕ → Transaction Q (Part R)
 transaction_without shard None head stood logged =
     transaction_of (Checking (at (record_key shard) stood ∷ at (head_key shard) logged ∷ []))
@@ -230,7 +230,7 @@ sending_transaction sending =
     transaction_for sending.shard sending.server sending.base sending.items.now sending.head sending.stood
     sending.logged
 
--- the transaction of what a server sent
+-- the transaction that a server sent
 abbrev pub sent_transaction : {M Q R : Type 0} → ℕ → ℕ → ShardState M Q R → Transaction Q (Part R)
 sent_transaction me shard ready =
     transaction_for shard me (named_by ready.work) ready.sent.items ready.head ready.stood ready.logged
@@ -257,7 +257,7 @@ pub record WasMade {Q R : Type 0} (log : StoreLog Q R) (txn : Transaction Q (Par
   pub is : log ≡ later ++ made_at revision txn ∷ past
   pub held : IsTrue (all_hold past txn.compares)
 
--- what a server sent was made, where it writes anything
+-- the requests that a server sent were made, if it writes anything
 abbrev pub WereMade : {M Q R : Type 0} → StoreLog Q R → ℕ → ℕ → ℕ → ShardState M Q R → Type 0
 WereMade log me shard revision ready =
     ((sent_transaction me shard ready).writes ≢ []) → WasMade log (sent_transaction me shard ready) revision

@@ -1,5 +1,5 @@
--- What a step of a server ensures, whatever the store is: if what the server holds is so there, and what comes to it
--- is, then what it holds afterwards is so, what it sends may be sent, and what it claims is so.
+-- The guarantees of a server's step, for any store: if the server's knowledge is true there, and so is its input, then
+-- its knowledge after it is true, its transactions may be sent, and its claims are true.
 use Rattle.std.specs.Prelude.{ℕ, Option, Some, None, IfSome, Result, Ok, Err, ◌≡◌, ◌≤◌, List, [], ◌∷◌, ◌++◌, length}
 use Rattle.std.specs.Prelude.{IsSomeAnd, false, true, if◌then◌else◌, map}
 use Rattle.std.specs.List.{AllByRecursion}
@@ -33,25 +33,25 @@ use Rattle.sm_shard.specs.ShardServers.{AreAsked, AreRequestsAsked, AreWritten, 
 use Rattle.sm_shard.specs.ShardServers.{StoreSystem}
 use Rattle.sm_shard.specs.ShardServers.{WereMade, basing_by, claimed_all, claimed_by, claimed_reads, sent_transaction}
 
--- what a decision on what came claims to its client
+-- the claims of a decision about an input to its client
 abbrev pub claimed_on : {Q R : Type 0} → ℕ → ShardInput Q R → Decision R → List (Claim Q R)
 claimed_on shard (Request item) decision = claimed_by shard item decision
 claimed_on shard input decision = []
 
--- what answers to what was sent, and to the reads that it carried, claim to clients
+-- the claims of answers to the sent requests, and to the reads in the transaction
 abbrev pub claimed_answers : {M Q R : Type 0} → ℕ → Option (ShardState M Q R) → StoreAnswers R → List (Claim Q R)
 claimed_answers shard None answers = []
 claimed_answers shard (Some ready) answers =
     claimed_all shard ready.sent.items answers.made.items
     ++ claimed_reads shard ready.carried.items (map told_read answers.read.items)
 
--- what an output claims to clients
+-- the claims of an output
 abbrev pub claimed_to : {M Q R : Type 0} → ShardServer M Q R → ShardInput Q R → ShardOutput Q R → List (Claim Q R)
 claimed_to old input (Decided decision) = claimed_on old.shard input decision
 claimed_to old input (Answers answers) = claimed_answers old.shard old.ready answers
 claimed_to old input _ = []
 
--- what a step of a server claims
+-- the claims of a server's step
 abbrev pub step_claims : {M Q R : Type 0} → ShardServer M Q R → ShardInput Q R
     → Result (ShardOutput Q R) ReplayFault → List (Claim Q R)
 step_claims old input (Ok output) = claimed_to old input output
@@ -67,7 +67,7 @@ abbrev pub bases_of : {M Q R : Type 0} → ℕ → Option (ShardState M Q R) →
 bases_of shard None = []
 bases_of shard (Some ready) = basing_by shard ready.work
 
--- what a step sends
+-- the transactions of a step
 abbrev pub step_sends : {M Q R : Type 0} → Result (ShardOutput Q R) ReplayFault → ShardServer M Q R → StoreLog Q R
 step_sends (Ok Sends) server = transactions_of server.me server.shard server.ready
 step_sends (Ok Bases) server = bases_of server.shard server.ready
@@ -86,13 +86,13 @@ pub record IsLogRead {Q R : Type 0} (log : StoreLog Q R) (shard : ℕ) (head : H
   pub base : AreParts shard log head.base 0 parts
   pub rest : AreBatches shard log head.base batches
 
--- the log was read on from so many batches: the head, and the batches after those, each at some moment
+-- the log was read from so many batches on: the head, and the batches after those, each at some moment
 pub record IsLogReadOn {Q R : Type 0} (log : StoreLog Q R) (shard number : ℕ) (head : Head) (logged : ℕ)
     (batches : List (List (Item Q))) : Type 0 where
   pub read : WasFound (head_of shard) (head_key shard) log head logged
   pub rest : AreBatches shard log number batches
 
--- what comes to a server is so in the store, where the server last sent at this length of the log
+-- a server's input is true in the store, if the server last sent at this length of the log
 abbrev pub IsInput : {M Q R : Type 0} → Automaton M Q R → StoreSystem Q R → ℕ → ShardServer M Q R
     → ShardInput Q R
     → Type 0
@@ -121,7 +121,7 @@ IsInput service system since server (Clear key) = Unit {0}
 abbrev pub ArePast : {Q R : Type 0} → StoreSystem Q R → Type 0
 ArePast system = AllByRecursion (λ ask. ask.since ≤ length system.log) system.asked
 
--- after the step the server knows what is so, what it sends may be sent, and what it claims may be claimed
+-- after the step the server's knowledge is true, its transactions may be sent, and its claims may be made
 pub record IsSafe {M Q R : Type 0} (service : Automaton M Q R) (charter : Charter Q (Part R))
     (system : StoreSystem Q R) (since : ℕ) (old : ShardServer M Q R) (input : ShardInput Q R)
     (result : Result (ShardOutput Q R) ReplayFault) (new : ShardServer M Q R) : Type 0 where
@@ -130,7 +130,7 @@ pub record IsSafe {M Q R : Type 0} (service : Automaton M Q R) (charter : Charte
   pub may : AllByRecursion (MaySend charter system.log) (step_sends result new)
   pub claims : AllByRecursion (MayClaim service system) (step_claims old input result)
 
--- for every store of so many shards that was right until now, whenever the server last sent
+-- for every store with so many shards that was right until now, whenever the server last sent
 abbrev pub IsStepOf : {M Q R : Type 0} → Automaton M Q R → ShardServer M Q R → ShardInput Q R
     → Result (ShardOutput Q R) ReplayFault → ShardServer M Q R → Type 0
 IsStepOf {Q = Q} {R = R} service old input result new =
@@ -157,13 +157,13 @@ KeepsAsked {Q = Q} old input result new =
     (asked : List (Ask Q)) → AreRequestsAsked asked old → IsRequestAsked asked old.shard input
     → AsksForStep asked result new
 
--- the requests are to be decided again: those that were sent or wait, and those that only read
+-- the requests must be decided again: those that were sent or wait, and those that only read
 abbrev pub AreUndecided : {M Q R : Type 0} → ShardState M Q R → Undecided Q → Type 0
 AreUndecided ready again =
     (again.sent.items ++ again.waiting.items ≡ ready.sent.items ++ ready.waiting.items)
     × (again.carried.items ++ again.asking.items ≡ ready.carried.items ++ ready.asking.items)
 
--- the answers are those to what was sent, and to the reads that it carried: none before the server has read
+-- the answers are those to the sent requests, and to the reads in the transaction: none before the server has read
 abbrev pub AreAnswers : {M Q R : Type 0} → Automaton M Q R → Option (ShardState M Q R) → StoreAnswers R → Type 0
 AreAnswers service None answers = (answers.made.items ≡ []) × (answers.read.items ≡ [])
 AreAnswers service (Some ready) answers =
@@ -193,7 +193,7 @@ IsOutputOf service size server PartsMade output = output ≡ Nothing
 IsOutputOf service size server (Clear key) output =
     output ≡ (if server_behind server.shard server.ready key then Clears key else Nothing)
 
--- the server goes by this record and this head, and decides
+-- the server uses this record and this head, and decides
 pub record GoesBy {M Q R : Type 0} (state : Record) (stood : ℕ) (head : Head) (logged : ℕ)
     (ready : ShardState M Q R) : Type 0 where
   pub state_is : ready.state ≡ state
@@ -202,7 +202,7 @@ pub record GoesBy {M Q R : Type 0} (state : Record) (stood : ℕ) (head : Head) 
   pub logged_is : ready.logged ≡ logged
   pub decides : ready.decides ≡ true
 
--- after these inputs the server goes by what was read, or decides nothing before it has caught up
+-- after these inputs the server uses its readings, or decides nothing until it has caught up
 abbrev pub IsCaughtUp : {M Q R : Type 0} → ShardServer M Q R → ShardInput Q R → ShardServer M Q R → Type 0
 IsCaughtUp old (Read state stood head logged parts batches) new = IsSomeAnd new.ready (GoesBy state stood head logged)
 IsCaughtUp old (Append state stood head logged batches) new = IsSomeAnd new.ready (GoesBy state stood head logged)

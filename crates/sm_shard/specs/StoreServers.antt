@@ -7,7 +7,7 @@ use Rattle.sm_shard.specs.declared.steps.ShardInput.{ShardInput}
 use Rattle.sm_shard.specs.declared.steps.ShardOutput.{ShardOutput}
 use Rattle.sm_shard.specs.Steps.{IsCaughtUp, IsOutputOf, IsStepOf, KeepsAsked}
 
--- it is this server's for this shard, of so many
+-- it is this server's state for this shard, of so many shards
 pub record IsAtShard {M Q R : Type 0} (me count shard : ℕ) (server : ShardServer M Q R) : Type 0 where
   pub me_is : server.me ≡ me
   pub shard_is : server.shard ≡ shard
@@ -19,7 +19,7 @@ AreShardsFrom me count shard [] = Unit {0}
 AreShardsFrom me count shard (server ∷ servers) =
     IsAtShard me count shard server × AreShardsFrom me count (shard + 1) servers
 
--- they are one server's for the first shards, so many of a store's
+-- they are one server's states for the first shards, so many of a store's
 pub record AreAllShards {M Q R : Type 0} (me count number : ℕ) (servers : List (ShardServer M Q R)) : Type 0 where
   pub all : length servers ≡ number
   pub each : AreShardsFrom me count 0 servers

@@ -24,7 +24,7 @@ fn entries_of<R: Copy + Drop>(
     Ok(entries)
 }
 
-// The first elements, at most so many.
+// Returns the first elements, at most so many.
 #[tactic(auto, using(std::proofs::lemmas::List::take_min))]
 fn first_of<T>(items: &[T], most: usize) -> &[T]
     ensures { result.now ≡ take most items.now }
@@ -57,7 +57,7 @@ fn first_part<R: Copy + Drop>(
     Ok(BasePart::new(bytes, clients, floor))
 }
 
-// Cuts bytes and last requests into so many parts.
+// Divides bytes and last requests into so many parts.
 fn cut<R: Copy + Drop>(
     alloc: Global,
     floor: u64,
@@ -101,8 +101,8 @@ fn parts_holding<R: Copy + Drop>(
     cut(alloc, floor, count, state, lasts)
 }
 
-/// The parts of the base that stands for a replica's requests, each of at most [`PART_BYTES`] bytes of the machine and
-/// [`PART_CLIENTS`] clients.
+/// Returns the parts of the base that replaces a replica's requests, each with at most [`PART_BYTES`] bytes of the
+/// machine and [`PART_CLIENTS`] clients.
 pub fn base_of<Q: Drop, R: Copy + Drop, M: StoreMachine<Q, R>>(
     alloc: Global,
     replica: &Replica<M, R>,
@@ -138,7 +138,7 @@ fn floor_in<R: Copy + Drop>(parts: &[BasePart<R>]) -> u64
     }
 }
 
-/// The replica of the requests for which a base of these parts stands, or why they are no base.
+/// Returns the replica of the requests that a base of these parts replaces, or why the parts aren't a base.
 pub fn replica_of<Q: Drop, R: Copy + Drop, M: StoreMachine<Q, R>>(
     alloc: Global,
     parts: &[BasePart<R>],

@@ -27,7 +27,7 @@ impl<R> Model for BasePart<R> {
 impl<R: Copy + Drop> BasePart<R> {
     ghost use Rattle.std.specs.Prelude.{◌≡◌};
 
-    /// The part with these bytes and these last requests, and this number.
+    /// Returns the part with these bytes and these last requests, and this number.
     pub fn new(state: Vec<u8>, lasts: Vec<(u64, LastRequest<R>)>, floor: u64) -> BasePart<R>
         ensures { result ≡ record { state = state.items; lasts = lasts.items; floor = floor } }
     {
@@ -38,21 +38,21 @@ impl<R: Copy + Drop> BasePart<R> {
         }
     }
 
-    /// Its bytes of the machine.
+    /// Returns its bytes of the machine.
     pub fn state(&self) -> &[u8]
         ensures { result.now ≡ self.now.state }
     {
         &self.state
     }
 
-    /// The number below which clients are forgotten.
+    /// Returns the number below which clients are forgotten.
     pub fn floor(&self) -> u64
         ensures { result ≡ self.now.floor }
     {
         self.floor
     }
 
-    /// Its last requests, by client.
+    /// Returns its last requests, by client.
     pub fn lasts(&self) -> &[(u64, LastRequest<R>)]
         ensures { result.now ≡ self.now.lasts }
     {

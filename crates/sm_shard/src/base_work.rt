@@ -7,20 +7,20 @@ pub enum BaseStage {
     Writing,
     /// Each part is there, so the head may name it.
     Written,
-    /// The transaction by which the head comes to name it was sent.
+    /// The transaction that makes the head name it was sent.
     Naming,
 }
 
 /// A base that a server makes.
 #[derive(Drop)]
 pub struct BaseWork<R> {
-    /// For how many batches it stands.
+    /// How many batches it replaces.
     pub number: u64,
     pub parts: Vec<BasePart<R>>,
     pub stage: BaseStage,
 }
 
-/// A base that a head comes to name: for how many batches it stands, and in how many parts it lies.
+/// A base that a head will name: how many batches it replaces, and how many parts it has.
 #[derive(Clone, Copy, PartialEq, Eq, Drop)]
 pub struct NamedBase {
     pub number: u64,

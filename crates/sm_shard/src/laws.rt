@@ -14,9 +14,9 @@ use crate::base_part::BasePart;
 use crate::store_machine::StoreMachine;
 use sm_store::laws::{runs_are_lawful, runs_are_linear};
 
-/// The law of the store holds in every run of any number of servers, each step of which is a step of the code, with
-/// any messages lost, late or twice, any process stopped, forgotten and started at any moment, and any control that
-/// sends only what it may. Then what each server holds is so in the store.
+/// The law of the store holds in every run of any number of servers, if each step of them is a step of the code.
+/// Messages may be lost, late or doubled. A process may be stopped, forgotten and started at any moment. A control may
+/// send everything that it is allowed to send. Then each server's knowledge is true in the store.
 pub fn fleets_are_lawful<Q, R, M>()
     ensures lawful { (service : Automaton M Q R) (charter : Charter Q (Part R))
         (acts : List (Act M Q R)) → charter.parts ≡ base_of service → MightAct service charter acts
@@ -32,8 +32,8 @@ pub fn fleets_are_lawful<Q, R, M>()
 }
 
 /// Replies of any number of servers over a shared store are linearizable, if each server is given only requests that
-/// came, and nobody else makes a request that wasn't asked. Each step of a server is a step of the code; messages come
-/// late, twice or never, and processes stop, forget and start.
+/// came, and nobody else makes a request that wasn't asked. Each step of a server is a step of the code. Messages may
+/// come late, twice or never, and processes may stop, forget and start.
 pub fn fleets_are_linear<Q: Drop, R: Copy + Drop, M: StoreMachine<Q, R>>()
     ensures { (charter : Charter Q (Part R)) (acts : List (Act M Q R)) → charter.parts ≡ base_of M.service
         → MightAct M.service charter acts → AllAskFor acts → IsLinear M.service (events_of acts) }

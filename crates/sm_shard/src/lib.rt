@@ -1,5 +1,5 @@
-//! What one server knows of one shard in a shared store, and what it does at each event, with no input or output of
-//! its own.
+//! The knowledge of one server about one shard in a shared store, and its step at each event, without any input or
+//! output of its own.
 //!
 //! ```rust
 //! let started = ShardServer::new(one, shard, 8, limits);

@@ -13,7 +13,7 @@ use sm_store::head::Head;
 use sm_store::item::Item;
 use std::alloc::Global;
 
-// The replica of the requests for which the base that the head names stands, or of none.
+// Returns the replica of the requests that the base named by the head replaces, or of no requests.
 fn based<Q: Drop, R: Copy + Drop, M: StoreMachine<Q, R>>(
     alloc: Global,
     head: &Head,
@@ -48,7 +48,7 @@ fn make_batches<Q: Drop, R: Copy + Drop, M: StoreMachine<Q, R>>(
     Ok(())
 }
 
-// Whether so many batches after the first ones are as many as all.
+// Returns whether so many batches after the first ones are as many as all.
 fn are_all(first: u64, batches: usize, all: u64) -> bool
     ensures { result ≡ (first + batches == all) }
 {
@@ -58,8 +58,8 @@ fn are_all(first: u64, batches: usize, all: u64) -> bool
     }
 }
 
-/// The replica of a shard's log, by the head, the parts of the base that it names, and the batches after it. `Missing`
-/// where those aren't as many as the head says, and it is to be read again.
+/// Returns the replica of a shard's log, from the head, the parts of the base that it names, and the batches after it.
+/// Returns `Missing` if those aren't as many as the head says; then the log must be read again.
 pub fn replay<Q: Drop, R: Copy + Drop, M: StoreMachine<Q, R>>(
     alloc: Global,
     head: &Head,
@@ -80,8 +80,8 @@ pub fn replay<Q: Drop, R: Copy + Drop, M: StoreMachine<Q, R>>(
     Ok(replica)
 }
 
-/// Has the replica of the first batches, so many, catch up with the head by the batches between. Returns `Missing` if
-/// those aren't as many as the head says. After an error nothing is said of the replica.
+/// Makes the replica of the first batches, so many, catch up with the head by the batches in between. Returns `Missing`
+/// if those aren't as many as the head says. After an error nothing is said about the replica.
 pub fn catch_up<Q: Drop, R: Copy + Drop, M: StoreMachine<Q, R>>(
     alloc: Global,
     replica: &mut Replica<M, R>,

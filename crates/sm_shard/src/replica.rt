@@ -18,19 +18,19 @@ pub enum ReplayFault {
     /// Memory was refused.
     #[error("out of memory")]
     Memory,
-    /// The number of a request isn't above those of its client before it, or the client is forgotten.
+    /// The number of a request isn't above those of its client's earlier requests, or the client was forgotten.
     #[error("a request's number isn't above those of its client, or the client is forgotten")]
     OutOfOrder,
     /// There are as many batches as a head can count.
     #[error("there are as many batches as a head can count")]
     TooMany,
-    /// A batch, or a part of the base, isn't there. The log is to be read again.
+    /// A batch, or a part of the base, is missing. The log must be read again.
     #[error("a batch, or a part of the base, isn't there")]
     Missing,
-    /// The bytes of a base stand for no machine.
+    /// The bytes of a base don't encode a machine.
     #[error("the bytes of a base stand for no machine")]
     Unreadable,
-    /// The store hasn't so many shards.
+    /// The store doesn't have so many shards.
     #[error("there is no such shard")]
     UnknownShard,
 }
@@ -60,7 +60,7 @@ pub struct MadeReply<R> {
     pub reply: R,
 }
 
-/// The answer to a client's request that only reads. None if the request changes something.
+/// The answer to a client's request that only reads. There is none if the request changes something.
 #[derive(Drop)]
 pub struct ReadReply<R> {
     pub client: u64,
@@ -87,7 +87,7 @@ pub struct Replica<M, R> {
     pub floor: u64,
 }
 
-/// The replica of no requests.
+/// Returns the replica of no requests.
 pub fn empty<Q: Drop, R: Copy + Drop, M: StoreMachine<Q, R>>(alloc: Global) -> Replica<M, R>
     ensures { IsReplica M.service [] result }
 {
@@ -108,7 +108,7 @@ fn found_in<R: Copy + Drop>(
     lasts.get(&client).copied()
 }
 
-/// The client's last request, if it has one.
+/// Returns the client's last request, if it has one.
 pub fn last_request<Q: Drop, R: Copy + Drop, M: StoreMachine<Q, R>>(
     replica: &Replica<M, R>,
     client: u64,
@@ -124,7 +124,7 @@ pub fn last_request<Q: Drop, R: Copy + Drop, M: StoreMachine<Q, R>>(
     last
 }
 
-// The number of the client's last request, 0 where it has none.
+// Returns the number of the client's last request, or 0 if it has none.
 fn last_number<Q: Drop, R: Copy + Drop, M: StoreMachine<Q, R>>(
     replica: &Replica<M, R>,
     client: u64,
@@ -167,7 +167,7 @@ fn note<R: Copy + Drop>(
     Ok(())
 }
 
-/// The greater of two numbers.
+/// Returns the greater of two numbers.
 pub fn greater(first: u64, second: u64) -> u64
     ensures { result ≡ max first second }
 {

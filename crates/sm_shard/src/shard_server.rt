@@ -18,7 +18,7 @@ use sm_store::item::Item;
 use sm_store::store_key::PassingKey;
 use std::alloc::{AllocError, Global};
 
-/// What one server keeps of one shard: nothing, until it has read the store.
+/// A server's state for one shard. It has nothing until it has read the store.
 #[derive(Drop)]
 pub struct ShardServer<M, Q, R> {
     pub me: ServerId,
@@ -32,7 +32,7 @@ pub struct ShardServer<M, Q, R> {
     pub ghost named: { me ≢ 0 },
 }
 
-/// Requests that are to be decided again, and those that only read.
+/// Requests that must be decided again, and those that only read.
 #[derive(Drop)]
 pub struct Undecided<Q> {
     pub sent: Vec<Item<Q>>,
@@ -41,16 +41,16 @@ pub struct Undecided<Q> {
     pub asking: Vec<Item<Q>>,
 }
 
-/// What is to be told once a transaction was made, or has held.
+/// The answers after a transaction was made, or has held.
 #[derive(Drop)]
 pub struct StoreAnswers<R> {
     pub made: Vec<MadeReply<R>>,
     pub read: Vec<ReadReply<R>>,
 }
 
-/// A transaction for the store: it compares both revisions, and adds the requests to the shard's log. Where there are
-/// none, the head comes to name the base, and the head's revision is compared; where there is no base either, it
-/// compares both alone.
+/// A transaction for the store: it compares both revisions, and adds the requests to the shard's log. If there are no
+/// requests, the head names the base, and the head's revision is compared. If there is no base either, it only compares
+/// both.
 #[derive(Drop)]
 pub struct BatchSending<'a, Q> {
     pub shard: ShardId,
@@ -92,7 +92,8 @@ impl<Q: Drop, R: Copy + Drop, M: StoreMachine<Q, R>> ShardServer<M, Q, R> {
     ghost use Rattle.sm_shard.specs.ShardServers.{sent_transaction};
     ghost use Rattle.sm_shard.specs.Steps.{ArePast, GoesBy, IsLogRead, IsLogReadOn};
 
-    /// A server that has just started knows nothing. None where the store hasn't so many shards.
+    /// Makes a server that has just started and knows nothing. Returns nothing if the store doesn't have so many
+    /// shards.
     pub fn new(
         me: ServerId,
         shard: ShardId,
@@ -120,8 +121,8 @@ impl<Q: Drop, R: Copy + Drop, M: StoreMachine<Q, R>> ShardServer<M, Q, R> {
         }
     }
 
-    /// The shard's record was read, and its log: its head, the parts of the base that this names, and the batches after
-    /// it, each as it was at some moment. It is read where the server knows nothing, so nothing waits.
+    /// Notes that the shard's record was read, and its log: its head, the parts of the base that the head names, and
+    /// the batches after it, each as it was at some moment. The server must know nothing before, so nothing waits.
     pub fn on_read(
         &mut self,
         alloc: Global,
@@ -163,10 +164,11 @@ impl<Q: Drop, R: Copy + Drop, M: StoreMachine<Q, R>> ShardServer<M, Q, R> {
         Ok(())
     }
 
-    /// The shard's record was read, and its log from where the server's replica of it ends: the head, and the batches
-    /// after those that the replica has, each as it was at some moment. The server goes on by them, and what was sent
-    /// or waits is to be decided again: what was made of it is among those batches. Returns `Missing` if not all of
-    /// them were there, or the server has read nothing. After an error it has forgotten what it read.
+    /// Notes that the shard's record was read, and its log from the end of the server's replica on: the head, and the
+    /// batches after those that the replica has, each as it was at some moment. The server goes on from them, and
+    /// requests that were sent or wait must be decided again, because those that were made are among the batches.
+    /// Returns `Missing` if not all of them were there, or if the server has read nothing. After an error it has
+    /// forgotten its readings.
     pub fn on_append(
         &mut self,
         alloc: Global,
@@ -211,7 +213,7 @@ impl<Q: Drop, R: Copy + Drop, M: StoreMachine<Q, R>> ShardServer<M, Q, R> {
         Ok(again)
     }
 
-    /// A request came.
+    /// Decides on a request that came.
     pub fn on_request(&mut self, item: Item<Q>) -> Result<Decision<R>, AllocError>
         ensures me { self.new.me ≡ self.old.me }
         ensures shard { self.new.shard ≡ self.old.shard }
@@ -225,7 +227,7 @@ impl<Q: Drop, R: Copy + Drop, M: StoreMachine<Q, R>> ShardServer<M, Q, R> {
             → IsAsked asked self.old.shard item → AreRequestsAsked asked self.new }
         ensures decision { IfOk result (λ decision. decision
             ≡ server_decision self.old.limits M.size self.old.ready self.old.me item) }
-        // What forgets enough isn't refused so.
+        // A request that forgets enough clients isn't refused for that.
         ensures crowded { IfOk result (λ decision. decision ≡ TooManyClients → IfSome self.old.ready (λ ready.
             self.old.limits.clients ≤ length (kept_from item.forgets ready.replica.lasts.entries))) }
         ensures told { IfOk result (λ decision. (system : StoreSystem Q R)
@@ -243,7 +245,8 @@ impl<Q: Drop, R: Copy + Drop, M: StoreMachine<Q, R>> ShardServer<M, Q, R> {
         }
     }
 
-    /// A request that only reads came. It is answered by the next transaction, as one that came later.
+    /// Takes a request that only reads. The next transaction answers it, because it came later than the transactions
+    /// before.
     pub fn on_question(&mut self, item: Item<Q>) -> Result<Decision<R>, AllocError>
         ensures me { self.new.me ≡ self.old.me }
         ensures shard { self.new.shard ≡ self.old.shard }
@@ -269,8 +272,8 @@ impl<Q: Drop, R: Copy + Drop, M: StoreMachine<Q, R>> ShardServer<M, Q, R> {
         }
     }
 
-    /// Lets what waits be sent, as far as the limits allow, where nothing is under way. Whether anything is to be sent
-    /// now.
+    /// Makes waiting requests ready to be sent, as far as the limits allow, if nothing is under way. Returns whether
+    /// there is anything to send now.
     pub fn flush(&mut self, alloc: Global) -> Result<bool, AllocError>
         ensures me { self.new.me ≡ self.old.me }
         ensures shard { self.new.shard ≡ self.old.shard }
@@ -295,7 +298,7 @@ impl<Q: Drop, R: Copy + Drop, M: StoreMachine<Q, R>> ShardServer<M, Q, R> {
         }
     }
 
-    /// The transaction of what was sent.
+    /// Returns the transaction that was sent.
     pub fn sending(&self) -> Option<BatchSending<'_, Q>>
         ensures own { IfSome result (λ sending. IfSome self.now.ready (λ ready.
             sending_transaction sending ≡ sent_transaction self.now.me self.now.shard ready)) }
@@ -318,7 +321,8 @@ impl<Q: Drop, R: Copy + Drop, M: StoreMachine<Q, R>> ShardServer<M, Q, R> {
         }
     }
 
-    /// The transaction was made, or where it only compares has held, at this revision. The answers are to be told.
+    /// Notes that the transaction was made at this revision, or has held there if it only compares. Returns the
+    /// answers.
     pub fn on_made(&mut self, alloc: Global, revision: u64) -> Result<StoreAnswers<R>, ReplayFault>
         ensures me { self.new.me ≡ self.old.me }
         ensures shard { self.new.shard ≡ self.old.shard }
@@ -370,9 +374,9 @@ impl<Q: Drop, R: Copy + Drop, M: StoreMachine<Q, R>> ShardServer<M, Q, R> {
         Ok(StoreAnswers { made, read })
     }
 
-    /// The shard's record was read, and the server's own log is still the last one that it knows of. It goes on by the
-    /// new record, and what was sent or waits is to be decided again. If a transaction was under way, the server is to
-    /// catch up with the log first.
+    /// Notes that the shard's record was read, and the server's own log is still the last one that it knows. The server
+    /// goes on with the new record, and requests that were sent or wait must be decided again. If a transaction was
+    /// under way, the server must first catch up with the log.
     pub fn on_record(&mut self, alloc: Global, state: Record, stood: u64) -> Undecided<Q>
         ensures me { self.new.me ≡ self.old.me }
         ensures shard { self.new.shard ≡ self.old.shard }
@@ -400,8 +404,8 @@ impl<Q: Drop, R: Copy + Drop, M: StoreMachine<Q, R>> ShardServer<M, Q, R> {
         again
     }
 
-    /// Begins a base of all that is made, where none is made and there are batches that the last one doesn't stand for.
-    /// Whether its parts are to be written now.
+    /// Begins a base of all requests that were made, if none is being made and there are batches that the last one
+    /// doesn't replace. Returns whether its parts must be written now.
     pub fn begin_base(&mut self, alloc: Global) -> Result<bool, AllocError>
         ensures me { self.new.me ≡ self.old.me }
         ensures shard { self.new.shard ≡ self.old.shard }
@@ -420,7 +424,7 @@ impl<Q: Drop, R: Copy + Drop, M: StoreMachine<Q, R>> ShardServer<M, Q, R> {
         }
     }
 
-    /// The parts of the base that the server makes, if it makes one.
+    /// Returns the parts of the base that the server makes, if it makes one.
     pub fn parts(&self) -> Option<PartsSending<'_, R>>
         ensures own { IfSome result (λ sending. IfSome self.now.ready (λ ready.
             parts_transactions {Q = Q} sending ≡ basing_by self.now.shard ready.work)) }
@@ -460,8 +464,8 @@ impl<Q: Drop, R: Copy + Drop, M: StoreMachine<Q, R>> ShardServer<M, Q, R> {
         }
     }
 
-    /// Whether what lies at the key is behind the base that the head names, and may be deleted: a batch that the base
-    /// stands for, or a part of an older base.
+    /// Returns whether the base that the head names has replaced the value at this key, which may be deleted then: a
+    /// batch that the base replaces, or a part of an older base.
     pub fn is_behind(&self, key: &PassingKey) -> bool
         ensures exact { result ≡ server_behind self.now.shard self.now.ready key.now }
         ensures may { IsTrue result → (charter : Charter Q (Part R)) (log : StoreLog Q R)
@@ -474,7 +478,7 @@ impl<Q: Drop, R: Copy + Drop, M: StoreMachine<Q, R>> ShardServer<M, Q, R> {
         }
     }
 
-    /// Of how many clients the last request is kept: of none before the shard was read.
+    /// Returns how many clients' last requests are kept: none before the shard was read.
     pub fn clients(&self) -> usize
         ensures { result ≡ clients_kept self.now.ready }
     {
@@ -494,9 +498,9 @@ impl<Q: Drop, R: Copy + Drop, M: StoreMachine<Q, R>> ShardServer<M, Q, R> {
         }
     }
 
-    /// The transaction's compares didn't hold, or what became of it is unknown. The server keeps what it has read and
-    /// made, and decides nothing before it has caught up with the log. What was sent or waits is to be decided again
-    /// then.
+    /// Notes that the transaction's compares didn't hold, or that its outcome is unknown. The server keeps the requests
+    /// that it has read and made, and decides nothing until it has caught up with the log. Requests that were sent or
+    /// wait must then be decided again.
     pub fn on_lost(&mut self, alloc: Global) -> Undecided<Q>
         ensures me { self.new.me ≡ self.old.me }
         ensures shard { self.new.shard ≡ self.old.shard }
@@ -521,7 +525,7 @@ impl<Q: Drop, R: Copy + Drop, M: StoreMachine<Q, R>> ShardServer<M, Q, R> {
     }
 }
 
-// Nothing is to be decided again.
+// Returns that nothing must be decided again.
 fn none_undecided<Q: Drop>(alloc: Global) -> Undecided<Q> {
     Undecided {
         sent: Vec::new(alloc),
@@ -531,7 +535,7 @@ fn none_undecided<Q: Drop>(alloc: Global) -> Undecided<Q> {
     }
 }
 
-// Takes back what was sent or waits, which is to be decided again.
+// Takes back the requests that were sent or wait, which must be decided again.
 fn taken_back<Q: Drop, R: Copy + Drop, M: StoreMachine<Q, R>>(
     alloc: Global,
     ready: &mut ShardState<M, Q, R>,

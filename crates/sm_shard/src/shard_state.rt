@@ -33,14 +33,14 @@ use sm_store::store_key::PassingKey;
 use std::alloc::{AllocError, Global};
 use std::collections::{BTreeMap, VecDeque};
 
-/// What a server does with a request that comes.
+/// A server's decision about a request.
 #[derive(Clone, Copy, Drop)]
 pub enum Decision<R> {
     /// It is made already, and this is its reply.
     Replied(R),
     /// A later request of its client is made, so this one won't be made any more.
     Passed,
-    /// Its client is forgotten, so it won't be made any more.
+    /// Its client was forgotten, so it won't be made any more.
     Forgotten,
     /// It waits for the next transaction, or is in one.
     Waits,
@@ -48,32 +48,32 @@ pub enum Decision<R> {
     Forwards(ServerId, u8),
     /// Another server executes it, but it was forwarded as often as it may be: [`MOST_HOPS`] times.
     TooFar,
-    /// Not here and now, or another number of its client waits here, or what does will let its client be forgotten.
-    /// This isn't final.
+    /// It isn't executed here and now, or another number of its client waits here, or the waiting requests will let its
+    /// client be forgotten. This isn't final.
     Refused,
     /// The server hasn't read the shard. This isn't final.
     NotRead,
     /// It takes more bytes than a batch may.
     TooLarge,
-    /// As many wait as may. This isn't final.
+    /// As many wait as allowed. This isn't final.
     Busy,
-    /// As many clients are kept as may, also without those that it lets be forgotten, and its client isn't among them.
+    /// As many clients are kept as allowed, even without those that may be forgotten, and its client isn't among them.
     /// This isn't final.
     TooManyClients,
 }
 
-/// The shard as the server last read it, and what it does there.
+/// The shard as the server last read it, and the server's work there.
 #[derive(Drop)]
 pub struct ShardState<M, Q, R> {
     pub state: Record,
     /// The revision of the record that was read.
     pub stood: u64,
     pub replica: Replica<M, R>,
-    /// The head of the log of which this is the replica.
+    /// The head of the log of this replica.
     pub head: Head,
     /// The revision of that head.
     pub logged: u64,
-    /// What is in the transaction that was sent, if one was.
+    /// The requests in the transaction that was sent, if one was.
     pub sent: Vec<Item<Q>>,
     pub waiting: Vec<Item<Q>>,
     /// The reads that are answered when the transaction that was sent holds.
@@ -82,8 +82,8 @@ pub struct ShardState<M, Q, R> {
     pub asking: Vec<Item<Q>>,
     /// The base that is made.
     pub work: Option<BaseWork<R>>,
-    /// Whether the server decides by it. After a transaction that was lost, or of which nothing is known, it has to
-    /// catch up with the log first.
+    /// Whether the server decides with it. After a transaction that was lost, or whose outcome is unknown, it must
+    /// first catch up with the log.
     pub decides: bool,
 }
 
@@ -100,7 +100,7 @@ fn client_number<Q: Drop>(items: &[Item<Q>], client: u64) -> Option<u64>
     None
 }
 
-// What is decided of a request whose client has one of this number here.
+// Returns the decision about a request whose client has a request with this number here.
 fn repeated<R: Copy + Drop>(number: u64, other: Option<u64>) -> Option<Decision<R>>
     ensures { result ≡ decided_by_number number other }
 {
@@ -114,7 +114,7 @@ fn repeated<R: Copy + Drop>(number: u64, other: Option<u64>) -> Option<Decision<
     }
 }
 
-// What is decided of a request that was forwarded so often, and that the record doesn't accept here.
+// Returns the decision about a request that was forwarded so often, and that the record doesn't accept here.
 fn forwarded<R: Copy + Drop>(state: &Record, me: ServerId, hops: u8) -> Decision<R>
     ensures { result ≡ decided_by_forward hops (forward_to state.now me) }
 {
@@ -128,7 +128,7 @@ fn forwarded<R: Copy + Drop>(state: &Record, me: ServerId, hops: u8) -> Decision
     }
 }
 
-/// What is known of a client's request by the requests that are made: none, where its number comes next.
+/// Returns the knowledge about a client's request from the requests that were made: nothing, if its number comes next.
 fn known<Q: Drop, R: Copy + Drop, M: StoreMachine<Q, R>>(
     replica: &Replica<M, R>,
     client: u64,
@@ -171,7 +171,7 @@ fn floor_among<Q: Drop>(items: &[Item<Q>]) -> u64
     floor
 }
 
-// Whether at least so many clients are kept once those below a number are forgotten.
+// Returns whether at least so many clients are kept once those below a number are forgotten.
 fn are_kept_from<R: Copy + Drop>(
     lasts: &BTreeMap<u64, LastRequest<R>>,
     floor: u64,
@@ -186,8 +186,8 @@ fn are_kept_from<R: Copy + Drop>(
     }
 }
 
-// Whether it would be one client more than may be kept, also once those are forgotten that the request itself lets be
-// forgotten.
+// Returns whether it would be one client more than allowed, even once those are forgotten that the request itself lets
+// be forgotten.
 fn is_crowded<Q: Drop, R: Copy + Drop, M: StoreMachine<Q, R>>(
     limits: ShardLimits,
     replica: &Replica<M, R>,
@@ -199,7 +199,7 @@ fn is_crowded<Q: Drop, R: Copy + Drop, M: StoreMachine<Q, R>>(
         && are_kept_from(&replica.lasts, item.forgets, limits.clients)
 }
 
-/// Decides on a request, which waits where it is to be made.
+/// Decides about a request. If it will be made, it waits.
 pub fn take<Q: Drop, R: Copy + Drop, M: StoreMachine<Q, R>>(
     ready: &mut ShardState<M, Q, R>,
     limits: ShardLimits,
@@ -254,7 +254,7 @@ pub fn take<Q: Drop, R: Copy + Drop, M: StoreMachine<Q, R>>(
     Ok(Decision::Waits)
 }
 
-/// Decides on a request that only reads, which waits where it is to be answered.
+/// Decides about a request that only reads. If it will be answered, it waits.
 pub fn ask<Q: Drop, R: Copy + Drop, M: StoreMachine<Q, R>>(
     ready: &mut ShardState<M, Q, R>,
     limits: ShardLimits,
@@ -286,7 +286,7 @@ pub fn ask<Q: Drop, R: Copy + Drop, M: StoreMachine<Q, R>>(
     Ok(Decision::Waits)
 }
 
-// Whether one more request goes into a batch that has so many, and has so much room.
+// Returns whether one more request fits into a batch that has so many, and has so much room.
 fn goes_with(limits: ShardLimits, count: usize, room: u64, bytes: u64) -> bool
     ensures { result ≡ goes_with limits count room bytes }
 {
@@ -314,7 +314,7 @@ fn count_of<Q: Drop, R: Copy + Drop, M: StoreMachine<Q, R>>(
     count
 }
 
-// Whether a base is there, and is to be named.
+// Returns whether a base is there, and must be named.
 fn is_named_next<R: Copy + Drop>(work: &Option<BaseWork<R>>) -> bool
     ensures { result ≡ is_named_next work.now }
 {
@@ -327,7 +327,7 @@ fn is_named_next<R: Copy + Drop>(work: &Option<BaseWork<R>>) -> bool
     }
 }
 
-/// The base that the head comes to name by the transaction that was sent, if it does.
+/// Returns the base that the sent transaction makes the head name, if it does.
 pub fn named<R: Copy + Drop>(work: &Option<BaseWork<R>>) -> Option<NamedBase>
     ensures { result ≡ named_by work.now }
 {
@@ -343,7 +343,7 @@ pub fn named<R: Copy + Drop>(work: &Option<BaseWork<R>>) -> Option<NamedBase>
     }
 }
 
-/// Whether a transaction was sent.
+/// Returns whether a transaction was sent.
 pub fn is_under_way<Q: Drop, R: Copy + Drop, M: StoreMachine<Q, R>>(
     ready: &ShardState<M, Q, R>,
 ) -> bool
@@ -398,8 +398,8 @@ fn take_front<T: Drop>(alloc: Global, items: &mut Vec<T>, at: usize) -> Result<V
     }
 }
 
-/// Lets the reads that wait be sent, and as many requests as go into one batch, or the name of a base that is there,
-/// where nothing is under way.
+/// Makes the waiting reads ready to be sent, and as many requests as fit into one batch, or the name of a base that is
+/// there, if nothing is under way.
 pub fn flush<Q: Drop, R: Copy + Drop, M: StoreMachine<Q, R>>(
     alloc: Global,
     ready: &mut ShardState<M, Q, R>,
@@ -432,7 +432,7 @@ pub fn flush<Q: Drop, R: Copy + Drop, M: StoreMachine<Q, R>>(
     Ok(true)
 }
 
-/// Makes what was sent.
+/// Makes the requests that were sent.
 pub fn commit<Q: Drop, R: Copy + Drop, M: StoreMachine<Q, R>>(
     alloc: Global,
     ready: &mut ShardState<M, Q, R>,
@@ -466,7 +466,8 @@ pub fn commit<Q: Drop, R: Copy + Drop, M: StoreMachine<Q, R>>(
     Ok(answers)
 }
 
-/// Has the server catch up with the log before it decides, if a transaction is under way: that one may be made.
+/// Makes the server catch up with the log before it decides, if a transaction is under way, because that transaction
+/// may be made.
 pub fn unsettle<Q: Drop, R: Copy + Drop, M: StoreMachine<Q, R>>(ready: &mut ShardState<M, Q, R>)
     ensures read { (ready.new.state ≡ ready.old.state) × (ready.new.stood ≡ ready.old.stood)
         × (ready.new.head ≡ ready.old.head) × (ready.new.logged ≡ ready.old.logged) }
@@ -483,7 +484,7 @@ pub fn unsettle<Q: Drop, R: Copy + Drop, M: StoreMachine<Q, R>>(ready: &mut Shar
     }
 }
 
-/// Has the server catch up with the log before it decides, and forget the base that it makes.
+/// Makes the server catch up with the log before it decides, and forget the base that it is making.
 pub fn stop_deciding<Q: Drop, R: Copy + Drop, M: StoreMachine<Q, R>>(
     ready: &mut ShardState<M, Q, R>,
 )
@@ -493,8 +494,8 @@ pub fn stop_deciding<Q: Drop, R: Copy + Drop, M: StoreMachine<Q, R>>(
     ready.decides = false;
 }
 
-/// Begins a base of all that is made, where none is made and there are batches that the last one doesn't stand for.
-/// Whether it begins one.
+/// Begins a base of all requests that were made, if none is being made and there are batches that the last one doesn't
+/// replace. Returns whether it begins one.
 pub fn begin_base<Q: Drop, R: Copy + Drop, M: StoreMachine<Q, R>>(
     alloc: Global,
     ready: &mut ShardState<M, Q, R>,
@@ -531,7 +532,7 @@ pub fn write_base<Q: Drop, R: Copy + Drop, M: StoreMachine<Q, R>>(ready: &mut Sh
     }
 }
 
-/// Names the base by the head, at this revision, where the transaction that was sent did.
+/// Names the base in the head, at this revision, if the transaction that was sent did so.
 pub fn name_base<Q: Drop, R: Copy + Drop, M: StoreMachine<Q, R>>(
     ready: &mut ShardState<M, Q, R>,
     revision: u64,
@@ -546,7 +547,7 @@ pub fn name_base<Q: Drop, R: Copy + Drop, M: StoreMachine<Q, R>>(
     }
 }
 
-/// Whether the base that the head names stands for what lies at the key, or is newer.
+/// Returns whether the base that the head names replaces the value at this key, or is newer than it.
 pub fn is_behind(shard: ShardId, head: &Head, key: &PassingKey) -> bool
     ensures { result ≡ is_behind shard head.now key.now }
 {

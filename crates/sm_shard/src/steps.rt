@@ -13,7 +13,7 @@ use sm_store::item::Item;
 use sm_store::store_key::PassingKey;
 use std::alloc::Global;
 
-/// What comes to a server.
+/// An input of a server.
 #[derive(Drop)]
 pub enum ShardInput<'a, Q, R> {
     /// The shard's record and the head of its log were read, and the revision of each; and the parts of the base that
@@ -35,7 +35,7 @@ pub enum ShardInput<'a, Q, R> {
         logged: u64,
         batches: &'a [Vec<Item<Q>>],
     },
-    /// The shard's record alone was read, or seen by the watch.
+    /// Only the shard's record was read, or seen by the watch.
     Record {
         state: Record,
         stood: u64,
@@ -44,11 +44,11 @@ pub enum ShardInput<'a, Q, R> {
     Request(Item<Q>),
     /// A request came that only reads, from a client or forwarded.
     Question(Item<Q>),
-    /// It is time to send what waits.
+    /// It is time to send the waiting requests.
     Flush,
-    /// The transaction that was sent was made, or where it only compares has held, at this revision.
+    /// The transaction that was sent was made at this revision, or has held there if it only compares.
     Made(u64),
-    /// Its compares didn't hold, or what became of it isn't known.
+    /// Its compares didn't hold, or its outcome isn't known.
     Lost,
     /// It is time to make a base.
     Base,
@@ -58,7 +58,7 @@ pub enum ShardInput<'a, Q, R> {
     Clear(PassingKey),
 }
 
-/// What a server does.
+/// An output of a server.
 #[derive(Drop)]
 pub enum ShardOutput<Q, R> {
     Nothing,
@@ -66,17 +66,17 @@ pub enum ShardOutput<Q, R> {
     Sends,
     /// It has decided on the request.
     Decided(Decision<R>),
-    /// It tells these answers.
+    /// It gives these answers.
     Answers(StoreAnswers<R>),
-    /// These requests are to be decided again.
+    /// These requests must be decided again.
     Decides(Undecided<Q>),
     /// It writes the parts of a base.
     Bases,
-    /// It deletes what lies at the key.
+    /// It deletes the value at this key.
     Clears(PassingKey),
 }
 
-/// One step of a server.
+/// Makes one step of a server.
 pub fn step<Q: Drop, R: Copy + Drop, M: StoreMachine<Q, R>>(
     alloc: Global,
     server: &mut ShardServer<M, Q, R>,

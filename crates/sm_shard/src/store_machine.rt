@@ -6,7 +6,7 @@ ghost use Rattle.sm_shard.specs.Replicas.{answer_parts, read_answer};
 
 use std::alloc::{AllocError, Global};
 
-/// The answer to a request that only reads: the reply, and the text that is told beside it.
+/// The answer to a request that only reads: the reply, and the text beside it.
 #[derive(Drop)]
 pub struct ReadAnswer<R> {
     pub reply: R,
@@ -15,8 +15,8 @@ pub struct ReadAnswer<R> {
 
 /// A state that answers requests one at a time.
 pub trait StoreMachine<Q: Drop, R: Copy + Drop>: Drop {
-    /// The machine before any request, after a request, its reply to a request, the requests that only read, which are
-    /// answered without being made, the text that they are told, and the bytes that stand for the machine.
+    /// The machine before any request, the machine after a request, its reply to a request, the requests that only read
+    /// and are answered without being made, the texts in their answers, and the bytes that encode the machine.
     ghost service: { Automaton Self Q R };
 
     /// The bytes that a request takes in a batch.
@@ -25,26 +25,26 @@ pub trait StoreMachine<Q: Drop, R: Copy + Drop>: Drop {
     fn new(alloc: Global) -> Self
         ensures { result ≡ service.start };
 
-    /// Answers the request. Where memory is refused nothing is said of the machine.
+    /// Answers the request. If memory is refused, nothing is said about the machine.
     fn answer(&mut self, alloc: Global, request: &Q) -> Result<R, AllocError>
         ensures reply { IfOk result (λ made. made ≡ service.reply self.old request.now) }
         ensures after { OnOk result (self.new ≡ service.after self.old request.now) };
 
-    /// Answers a request that only reads: its reply and its text. None for any other request.
+    /// Answers a request that only reads, with its reply and its text. Returns nothing for any other request.
     fn peek(&self, alloc: Global, request: &Q) -> Result<Option<ReadAnswer<R>>, AllocError>
         ensures { IfOk result (λ found. option_map answer_parts found
             ≡ read_answer service self.now request.now) };
 
-    /// The bytes that the request takes in a batch.
+    /// Returns the bytes that the request takes in a batch.
     fn size_of(request: &Q) -> u64
         ensures { result ≡ size request.now };
 
-    /// The bytes that stand for the machine.
+    /// Returns the bytes that encode the machine.
     fn save(&self, alloc: Global) -> Result<Vec<u8>, AllocError>
         ensures { IfOk result (λ bytes. bytes.items ≡ service.spelled self.now) };
 
-    /// The machine after some requests, by the bytes that stand for it. None, or any machine, where the bytes stand for
-    /// none.
+    /// Returns the machine after some requests, from the bytes that encode it. If the bytes encode no machine, returns
+    /// nothing, or any machine.
     fn load(alloc: Global, bytes: &[u8]) -> Result<Option<Self>, AllocError>
         ensures { (items : List (ItemValue Q)) → bytes.now ≡ service.spelled (state_after service service.start items)
             → IfOk result (λ found. found ≡ Some (state_after service service.start items)) };

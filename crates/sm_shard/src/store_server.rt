@@ -8,10 +8,10 @@ use sm_ranges::server_id::ServerId;
 use sm_ranges::shard_id::ShardId;
 use std::alloc::{AllocError, Global};
 
-/// What one server keeps of all shards of a store.
+/// A server's state for all shards of a store.
 #[derive(Drop)]
 pub struct StoreServer<M, Q, R> {
-    /// What it keeps of each, in their order.
+    /// Its state for each shard, in their order.
     pub servers: Vec<ShardServer<M, Q, R>>,
 }
 
@@ -20,7 +20,8 @@ impl<Q: Drop, R: Copy + Drop, M: StoreMachine<Q, R>> StoreServer<M, Q, R> {
     ghost use Rattle.sm_shard.specs.declared.replica.ReplayFault.TheVariants.{UnknownShard};
     ghost use Rattle.sm_shard.specs.StoreServers.{AreAllShards, IsStoreStep};
 
-    /// A server that has just started knows nothing of any shard. None where there can't be so many shards.
+    /// Makes a server that has just started and knows nothing about any shard. Returns nothing if there can't be so
+    /// many shards.
     pub fn new(
         alloc: Global,
         me: ServerId,
@@ -47,7 +48,7 @@ impl<Q: Drop, R: Copy + Drop, M: StoreMachine<Q, R>> StoreServer<M, Q, R> {
         Ok(Some(StoreServer { servers }))
     }
 
-    /// What the server keeps of the shard; none where the store hasn't so many shards.
+    /// Returns the server's state for the shard, or nothing if the store doesn't have so many shards.
     pub fn shard(&self, shard: ShardId) -> Option<&ShardServer<M, Q, R>>
         ensures one { IfSome result (λ server. slice_get self.now.servers.items shard ≡ Some server.now) }
         ensures exact { IsSome result ↔ shard < length self.now.servers.items }
@@ -55,8 +56,8 @@ impl<Q: Drop, R: Copy + Drop, M: StoreMachine<Q, R>> StoreServer<M, Q, R> {
         self.servers.get(shard.index())
     }
 
-    /// One step for the shard, exactly as [`step`] makes it; nothing else changes. `UnknownShard` where the store
-    /// hasn't so many shards, and then nothing at all does.
+    /// Makes one step for the shard, exactly as [`step`] does; nothing else changes. Returns `UnknownShard` if the
+    /// store doesn't have so many shards, and then nothing changes at all.
     pub fn step(
         &mut self,
         alloc: Global,

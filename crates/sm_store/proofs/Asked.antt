@@ -1,4 +1,4 @@
--- What is made was asked, and a read is of a moment at which it was.
+-- Each request that is made was asked, and a read belongs to a moment at which it was asked.
 use Rattle.std.proofs.Common.{◌≡◌, ℕ, ◌≤◌, List, [], ◌∷◌, ◌++◌, length, refl, sym, ap, subst, ◌∙◌, arith}
 use Rattle.std.proofs.Common.{⊎_elim, inl, inr, length-append}
 use Rattle.std.specs.Prelude.{Option, Some, None, IfSome, ◌⊎◌, slice_get}
@@ -13,7 +13,7 @@ use Rattle.sm_store.specs.Linear.{DidAsk, AreAskedFor, Operation, Update, Query,
 use Rattle.sm_store.specs.lemmas.Logs.{all_map, at_place, asked_reached, asked_step}
 use Rattle.sm_store.proofs.Orders.{all_append, among_back, tails}
 
--- what is asked
+-- the requests that are asked
 module _ {Q : Type 0} where
   asked_more : (more asked : List (Ask Q)) (shard client number : ℕ) (request : Q)
       → DidAsk asked shard client number request → DidAsk (more ++ asked) shard client number request
@@ -38,7 +38,7 @@ module _ {Q : Type 0} where
       (λ item was. asked_more more asked shard item.client item.number item.request was) items all
 
 module _ {Q P : Type 0} where
-  -- each request of what is sent was asked
+  -- each request of the sent transaction was asked
   abbrev SentAsked : List (Ask Q) → SentTransaction Q P → Type 0
   SentAsked asked sent = (shard : ℕ) → AllByRecursion (ItemAsked asked shard) (made_by shard sent.txn.writes)
 
@@ -51,7 +51,7 @@ module _ {Q P : Type 0} where
       (λ (grown : List (Transaction Q P)). AllByRecursion (ItemAsked asked shard) (made shard grown))
       (λ _. all_append (ItemAsked asked shard) (made shard log) (made_by shard txn.writes) old new) (λ _. old)
 
-  -- a step of the store adds one transaction at most
+  -- a step of the store adds at most one transaction
   abbrev IsStep : List (Transaction Q P) → List (Transaction Q P) → Type 0
   IsStep new old = (new ≡ old) ⊎ ((txn : Transaction Q P) × (new ≡ txn ∷ old))
 
@@ -147,7 +147,7 @@ module _ {Q P R : Type 0} where
       system (λ (new : System Q P R). IsStep new.log system.log)
       (λ _. extended_step (made_at revision sent.txn) system.log) (λ _. inl refl)
 
-  -- the moment at which the store was what was read
+  -- the moment at which the store had the values that were read
   pub record Moment (events : List (Event Q P R)) (past : List (Transaction Q P)) (ask : Ask Q) : Type 0 where
     pub late : List (Event Q P R)
     pub early : List (Event Q P R)

@@ -1,4 +1,4 @@
--- What transactions make, as operations of all shards.
+-- The requests that transactions make, as operations of all shards.
 use Rattle.std.proofs.Common.{◌≡◌, ℕ, Bool, true, false, List, [], ◌∷◌, ◌++◌, refl, sym, ap, subst, ◌∙◌}
 use Rattle.std.proofs.Common.{append_assoc, append-nil}
 use Rattle.std.specs.Prelude.{◌==◌, if◌then◌else◌}
@@ -21,7 +21,7 @@ module _ {Q : Type 0} where
   if_joined false xs ys = refl
 
 module _ {Q P : Type 0} where
-  -- the shard of a batch, and its requests; none for any other write
+  -- the shard of a batch, and its requests; no requests for any other write
   abbrev batch_shard : Write Q P → ℕ
   batch_shard (Executes shard number server items) = shard
   batch_shard _ = 0
@@ -45,7 +45,7 @@ module _ {Q P : Type 0} where
   executed_step shard (Deletes keys) writes = none_first (0 == shard) (executed_by shard writes)
   executed_step shard Elsewhere writes = none_first (0 == shard) (executed_by shard writes)
 
-  -- what is made of a shard when its head is written too
+  -- the requests of a shard that are made when its head is written too
   abbrev headed_by : List (Write Q P) → ℕ → List (Item Q) → List (Item Q)
   headed_by all shard items = if touches (head_key shard) all then items else []
 
@@ -122,11 +122,11 @@ module _ {S Q P R : Type 0} (service : Automaton S Q R) where
       ∙ headed_step (at == shard) all at shard (batch_items write) (executed_by shard writes) refl)
       (of_writes all (λ shard. if at == shard then state_after service (states at) new else states shard) writes)
 
-  -- a shard's state after all that is made of it
+  -- a shard's state after all requests that are made of it
   abbrev pub state_in : List (Transaction Q P) → ℕ → S
   state_in log shard = state_after service service.start (made shard log)
 
-  -- operations that are what the later transactions make
+  -- the operations that the later transactions make
   pub record Grown (new log : List (Transaction Q P)) : Type 0 where
     pub order : List (Operation Q R)
     pub items : ℕ → List (Item Q)

@@ -1,4 +1,4 @@
--- A server is failed while its key isn't there.
+-- A server fails only while its key isn't there.
 use Rattle.std.proofs.Common.{◌≡◌, ◌≢◌, ℕ, List, ◌∷◌, ◌++◌, ap, sym, subst, ◌∙◌, ⊎_elim}
 use Rattle.std.specs.Prelude.{◌==◌}
 use Rattle.std.proofs.lemmas.Bool.{cases_eq, cond-true, cond-false, eq-eqb, ne_eqb}
@@ -6,11 +6,12 @@ use Rattle.sm_place.specs.declared.server_state.ServerState.TheVariants.{Failed}
 use Rattle.sm_store.specs.declared.server_run.ServerRun.{ServerRun}
 use Rattle.sm_store.specs.Store.{Transaction, revision_of, server_key, stored_run, stored_state}
 use Rattle.sm_store.specs.Deeds.{AreRight, Charter, Deed, Electing, Expiring, Changing, Restarting, Settling, Executing}
+use Rattle.sm_store.specs.Deeds.{Resettling}
 use Rattle.sm_store.specs.Deeds.{Basing, Naming, Clearing, Following, Checking, Foreign, IsRight, transaction_of}
 use Rattle.sm_store.specs.lemmas.Heads.{right_past}
 
 module _ {Q P : Type 0} (charter : Charter Q P) where
-  -- the step is of this server, or leaves its state
+  -- if a step of a restart has made this server fail, the server's key wasn't there
   absent_step : (log : List (Transaction Q P)) (process at server : ℕ) (run : ServerRun) (elected placed : ℕ)
       → IsRight charter log (Restarting process at run elected placed) → stored_state server log ≢ Failed
       → stored_state server (transaction_of (Restarting process at run elected placed) ∷ log) ≡ Failed
@@ -35,6 +36,7 @@ module _ {Q P : Type 0} (charter : Charter Q P) where
   absent_one log (Restarting process at run elected placed) server right was now =
       absent_step log process at server run elected placed right was now
   absent_one log (Settling settings) server right was now = absurd (was now)
+  absent_one log (Resettling process settings elected placed) server right was now = absurd (was now)
   absent_one log (Executing shard at items head stood logged) server right was now = absurd (was now)
   absent_one log (Basing shard number place part) server right was now = absurd (was now)
   absent_one log (Naming shard head number parts logged) server right was now = absurd (was now)

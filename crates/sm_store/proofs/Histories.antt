@@ -1,4 +1,4 @@
--- What a store stands for is a legal history.
+-- The history that a store stands for is legal.
 use Rattle.std.proofs.Common.{◌≡◌, ◌≢◌, ℕ, ◌+◌, ◌<◌, ◌≤◌, Bool, true, false, List, [], ◌∷◌, length, refl, sym, ap}
 use Rattle.std.proofs.Common.{subst, ◌∙◌, arith, ⊎_elim}
 use Rattle.std.specs.Prelude.{is_some, unwrap_or, not, nat_lt, nat_le, ◌==◌, ◌&&◌, ◌||◌}
@@ -19,6 +19,7 @@ use Rattle.sm_ownership.specs.Rules.{stand_after, accepts, accepts_at}
 use Rattle.sm_store.specs.declared.item.Item.{Item}
 use Rattle.sm_store.specs.Deeds.{AreRight, Charter, Deed, Electing, Expiring, Changing, Executing, Basing, Naming}
 use Rattle.sm_store.specs.Deeds.{Clearing, Following, Restarting, Settling, Checking, Foreign, IsRight, transaction_of}
+use Rattle.sm_store.specs.Deeds.{Resettling}
 use Rattle.sm_store.specs.Histories.{history_of, with_requests, with_write}
 use Rattle.sm_store.specs.Store.{Transaction, left_by, stored_record}
 
@@ -56,7 +57,7 @@ module _ {Q P : Type 0} (charter : Charter Q P) (ceiling : ℕ) where
       (others k apart))
       (cases_eq k entry.shard)
 
-  -- the history is legal, and each shard stands so, idle
+  -- the history is legal, and each shard is idle and has this stand
   pub record Agrees (history : List (Entry Q)) (stands : ℕ → Stand) : Type 0 where
     pub legal : IsLegalLatest count ceiling history
     pub idle : (k : ℕ) → (record_at (table history) k).admitted ≡ false
@@ -216,6 +217,7 @@ module _ {Q P : Type 0} (charter : Charter Q P) (ceiling : ℕ) where
   deed_step log (Clearing keys) earlier right room agrees = agrees
   deed_step log (Restarting process server run elected placed) earlier right room agrees = agrees
   deed_step log (Settling settings) earlier right room agrees = agrees
+  deed_step log (Resettling process settings elected placed) earlier right room agrees = agrees
   deed_step log (Following server revision acks told) earlier right room agrees = agrees
   deed_step log (Checking compares) earlier right room agrees = agrees
   deed_step log Foreign earlier right room agrees = agrees
@@ -230,6 +232,7 @@ module _ {Q P : Type 0} (charter : Charter Q P) (ceiling : ℕ) where
   no_shorter (Clearing keys) earlier = omega arith
   no_shorter (Restarting process server run elected placed) earlier = omega arith
   no_shorter (Settling settings) earlier = omega arith
+  no_shorter (Resettling process settings elected placed) earlier = omega arith
   no_shorter (Following server revision acks told) earlier = omega arith
   no_shorter (Checking compares) earlier = omega arith
   no_shorter Foreign earlier = omega arith

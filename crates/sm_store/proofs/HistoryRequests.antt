@@ -15,6 +15,7 @@ use Rattle.sm_ownership.specs.History.{request_of}
 use Rattle.sm_store.specs.declared.item.Item.{Item}
 use Rattle.sm_store.specs.Deeds.{AreRight, Charter, Deed, Electing, Expiring, Changing, Executing, Basing, Naming}
 use Rattle.sm_store.specs.Deeds.{Clearing, Following, Restarting, Settling, Checking, Foreign, transaction_of}
+use Rattle.sm_store.specs.Deeds.{Resettling}
 use Rattle.sm_store.specs.Histories.{history_of, with_requests, with_write}
 use Rattle.sm_store.specs.Store.{Deletes, Transaction, head_key, left_by, made, made_by, stored_record, touches}
 use Rattle.sm_store.proofs.Histories.{agrees, with_deed}
@@ -25,7 +26,7 @@ twice (x ∷ xs) = ap reverse (reverse-append (x ∷ []) xs) ∙ reverse-append 
     ∙ ap (λ (list : List _). x ∷ list) (twice xs)
 
 module _ {Q : Type 0} where
-  -- the request of an entry, if it is of the shard
+  -- the request of an entry, if the entry belongs to the shard
   abbrev request_at : ℕ → Entry Q → Option Q
   request_at shard entry = if entry.shard == shard then request_of (ending_of entry.kind) else None
 
@@ -116,6 +117,8 @@ module _ {Q P : Type 0} (charter : Charter Q P) where
   requests_of_deed k (Restarting process server run elected placed) earlier =
       sym (append-nil (all_of (reverse earlier) k))
   requests_of_deed k (Settling settings) earlier = sym (append-nil (all_of (reverse earlier) k))
+  requests_of_deed k (Resettling process settings elected placed) earlier =
+      sym (append-nil (all_of (reverse earlier) k))
   requests_of_deed k (Following server revision acks told) earlier = sym (append-nil (all_of (reverse earlier) k))
   requests_of_deed k (Checking compares) earlier = sym (append-nil (all_of (reverse earlier) k))
   requests_of_deed k Foreign earlier = sym (append-nil (all_of (reverse earlier) k))

@@ -3,12 +3,12 @@ mod Batches
 mod Failures
 mod Histories
 mod HistoryRequests
+mod Joined
 mod Linear
 mod Once
 mod Orders
 mod Right
 mod Runs
-mod Settings
 mod Stops
 mod Told
 mod Woven

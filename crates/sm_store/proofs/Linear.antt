@@ -34,7 +34,7 @@ own_ask asked shard client number item request from did only =
     sym did.2 ∙ only did.0 was
 
 module _ {Q R S : Type 0} (P : Type 0) (service : Automaton S Q R) where
-  -- every operation holds of nothing more than its shard
+  -- a fact about every operation that says nothing
   abbrev Any : Operation Q R → Type 0
   Any one = Unit {0}
 
@@ -42,7 +42,7 @@ module _ {Q R S : Type 0} (P : Type 0) (service : Automaton S Q R) where
   all_any [] = tt
   all_any (one ∷ order) = (tt, all_any order)
 
-  -- a reply that was told has its place among what was made by then
+  -- a reply that a client was told has its place among the requests made by then
   reply_place : (charter : Charter Q P) (events later moment : List (Event Q P R)) → events ≡ later ++ moment
       → MightHappen service charter events → (reads : List (Told P service))
       → AllByRecursion (InRun P service events) reads
@@ -152,7 +152,7 @@ module _ {Q R S : Type 0} (P : Type 0) (service : Automaton S Q R) where
         in_time = λ later moment is. cut_at charter events later moment is might asked all.reads all.within;
       }
 
--- what was told before a request came stands before it
+-- an operation that a client was told of before a request came is before that request in the order
 module _ {Q P R : Type 0} where
   not_both : (moment : List (Event Q P R)) (op : Operation Q R) → IsTold moment op → IsUntold moment op → ⊥
   not_both moment (Update shard item reply) told untold = untold told.0 told.1 told.2

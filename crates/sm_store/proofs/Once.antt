@@ -1,4 +1,4 @@
--- A client's number is made once, and what a greater one has overtaken isn't made later.
+-- A client's number is made at most once, and a number that a greater one has overtaken isn't made later.
 use Rattle.std.proofs.Common.{◌≡◌, ℕ, ◌+◌, ◌<◌, ◌≤◌, Bool, true, false, List, [], ◌∷◌, ◌++◌, refl, sym, ap, subst}
 use Rattle.std.proofs.Common.{◌∙◌, arith, ⊎_elim, append_assoc, append-nil}
 use Rattle.std.specs.Prelude.{◌==◌, ◌&&◌, if◌then◌else◌}
@@ -21,7 +21,7 @@ forgotten_step true e t none rest = absurd (none refl)
 forgotten_step false e t none rest = omega arith
 
 module _ {Q : Type 0} where
-  -- one that is passed over is not made later
+  -- a number that is passed over is not made later
   pub passed : (client number : ℕ) (before items : List (Item Q)) → AreNext before items
       → number ≤ last_of client before → times client number items ≡ 0
   passed client number before [] next below = refl
@@ -34,7 +34,7 @@ module _ {Q : Type 0} where
       (eqb-true item.number number)
       (passed client number (before ++ item ∷ []) items next.1 (omega arith))
 
-  -- nor is one of a client that is forgotten
+  -- nor is a number of a client that is forgotten
   pub forgotten : (client number : ℕ) (before items : List (Item Q)) → AreNext before items
       → client < floor_of before → times client number items ≡ 0
   forgotten client number before [] next below = refl
@@ -63,7 +63,7 @@ module _ {Q : Type 0} where
       omega arith)
       (cases_Bool (is_from client number item))
 
-  -- nothing is made twice
+  -- no number is made twice
   pub once_from : (client number : ℕ) (before items : List (Item Q)) → AreNext before items
       → times client number before ≤ 1 → times client number (before ++ items) ≤ 1
   once_from client number before [] next once = subst (λ (list : List (Item Q)). times client number list ≤ 1)
@@ -77,7 +77,7 @@ module _ {Q : Type 0} where
   once client number items next = once_from client number [] items next (omega arith)
 
 module _ {Q P : Type 0} (charter : Charter Q P) where
-  -- what is over is not made from then on
+  -- a number that is over is not made from then on
   pub overtaken_grows : (shard client number : ℕ) (more log : List (Transaction Q P)) → AreRight charter (more ++ log)
       → IsOver client number (made shard log)
       → times client number (made shard (more ++ log)) ≡ times client number (made shard log)

@@ -1,4 +1,4 @@
--- Orders of operations: what one thread answers, and what stands where.
+-- Orders of operations: the answers of one thread, and the places of operations.
 use Rattle.std.proofs.Common.{◌≡◌, ℕ, ◌<◌, ◌+◌, Bool, true, false, List, [], ◌∷◌, ◌++◌, length, refl, sym, ap, subst}
 use Rattle.std.proofs.Common.{◌∙◌, arith}
 use Rattle.std.proofs.Common.{⊎_elim, inl, inr, append_assoc, length-append}
@@ -45,7 +45,7 @@ module _ {A : Type 0} where
   pub tails : (x y : A) (xs ys : List A) → x ∷ xs ≡ y ∷ ys → xs ≡ ys
   tails x y xs ys is = cc
 
-  -- two ends of one list that are as long are the same
+  -- two ends of one list with the same length are the same
   pub same_end : (xs ys a b : List A) → xs ++ a ≡ ys ++ b → length a ≡ length b → a ≡ b
   same_end [] [] a b is long = is
   same_end [] (y ∷ ys) a b is long =
@@ -56,7 +56,7 @@ module _ {A : Type 0} where
       absurd (omega (arith, length-append xs a))
   same_end (x ∷ xs) (y ∷ ys) a b is long = same_end xs ys a b (tails x y (xs ++ a) (ys ++ b) is) long
 
--- one stands before another
+-- one element is before another
 module _ {A : Type 0} where
   pub among_either : (one : A) (xs ys : List A) → IsAmong one (xs ++ ys) → IsAmong one xs ⊎ IsAmong one ys
   among_either one [] ys among = inr among
@@ -110,7 +110,7 @@ module _ {Q R : Type 0} where
   all_of_if F true one xs first rest = (first refl, rest)
   all_of_if F false one xs first rest = rest
 
-  -- what holds of all holds of those of a shard, whose shard it is
+  -- if a fact holds of all operations, it holds of a shard's operations
   pub all_of : (F : Operation Q R → Type 0) (shard : ℕ) (xs : List (Operation Q R)) → AllByRecursion F xs
       → AllByRecursion (λ one. (operation_shard one ≡ shard) × F one) (of_shard shard xs)
   all_of F shard [] all = tt
@@ -123,7 +123,7 @@ module _ {Q R : Type 0} where
   all_rest F true one xs all = all.1
   all_rest F false one xs all = all
 
-  -- what holds of those of each shard holds of all
+  -- if a fact holds of each shard's operations, it holds of all
   pub all_shards : (F : Operation Q R → Type 0) (xs : List (Operation Q R))
       → ((shard : ℕ) → AllByRecursion F (of_shard shard xs)) → AllByRecursion F xs
   all_shards F [] all = tt
@@ -155,7 +155,7 @@ module _ {Q R : Type 0} where
       ap (λ (rest : List (Item Q)). item ∷ rest) (updates_append xs ys)
   updates_append (Query shard client number request reply text told ∷ xs) ys = updates_append xs ys
 
--- what one thread answers
+-- the answers of one thread
 module _ {S Q R : Type 0} (service : Automaton S Q R) where
   -- one thread, which starts from this state and runs the updates, gives each operation its reply
   abbrev pub AreAnswered : S → List (Operation Q R) → Type 0
@@ -190,7 +190,7 @@ module _ {S Q R : Type 0} (service : Automaton S Q R) where
       ap (λ (rest : List (Operation Q R)). Update shard item (service.reply state item.request) ∷ rest)
       (makes_append shard (service.after state item.request) xs ys)
 
-  -- they are all of their shard, and none of another
+  -- the requests made are all operations of their shard, and of no other
   pub makes_own : (shard : ℕ) (state : S) (items : List (Item Q))
       → of_shard shard (makes shard state items) ≡ makes shard state items
   makes_own shard state [] = refl
@@ -254,7 +254,7 @@ module _ {S Q R : Type 0} (service : Automaton S Q R) where
   some_none true n given rest reply later found = omega arith
   some_none false n given rest reply later found = let l = later found in omega arith
 
-  -- what has a reply is made
+  -- a request with a reply is made
   pub found_made : (state : S) (items : List (Item Q)) (client number : ℕ) (reply : R)
       → reply_in service state items client number ≡ Some reply → 0 < times client number items
   found_made state [] client number reply found = absurd cc
@@ -281,7 +281,7 @@ module _ {S Q R : Type 0} (service : Automaton S Q R) where
     queries_answered states shard order all.1,
   )
 
-  -- where reads leave each state, one thread runs all
+  -- if reads don't change a state, one thread runs all operations
   pub thread : ReadsLeave service → (state : S) (order : List (Operation Q R)) → AreAnswered state order
       → IsThread service state order
   thread leave state [] answered = tt

@@ -1,4 +1,4 @@
--- What is made of an honest store was right when it was made.
+-- Each transaction of an honest store was right when it was made.
 use Rattle.std.proofs.Common.{◌≡◌, ℕ, ◌≤◌, true, List, [], ◌∷◌, ◌++◌, Some, length, refl, sym, ap, subst, ◌∙◌, arith}
 use Rattle.std.proofs.Common.{append-nil, inl, inr}
 use Rattle.std.specs.Prelude.{IsTrue, None, slice_get}
@@ -12,19 +12,22 @@ use Rattle.sm_store.specs.declared.store_key.PassingKey.TheVariants.{Leader, Ser
 use Rattle.sm_store.specs.Store.{Ack, Transaction, all_hold, head_key, head_of, leader_key, leader_of, made, part_at}
 use Rattle.sm_store.specs.Store.{Placement, placement_key, placement_of, record_key, revision_of, settings_key}
 use Rattle.sm_store.specs.Store.{IsRising, made_at, server_key, stored_settings, stored_record}
+use Rattle.sm_store.specs.Settings.{Footing, MayReplace}
 use Rattle.sm_store.specs.Deeds.{Charter, Deed, Electing, Expiring, Changing, Executing, Basing, Naming, Clearing}
 use Rattle.sm_store.specs.Deeds.{Following, Restarting, Settling, Checking, Foreign, transaction_of, at, AreAccepted}
+use Rattle.sm_store.specs.Deeds.{Resettling}
 use Rattle.sm_store.specs.Deeds.{absence_compares, done_at}
 use Rattle.sm_store.specs.Deeds.{IsChanged, MayAck, ShardLog, is_next_run, read_run}
 use Rattle.sm_store.specs.Deeds.{shard_log, WasFound, MayDo, MayName, MayClear, IsHonest, IsBehind, IsRight}
 use Rattle.sm_store.specs.Deeds.{HasLed, IsRightBase, AreRight}
 use Rattle.sm_store.specs.Waits.{HasWaited, HaveLetGo, MayLetGo}
 use Rattle.sm_store.specs.lemmas.Heads.{read_until, risen}
-use Rattle.sm_store.specs.lemmas.Heart.{first_held, stands, stands_among, unwritten}
+use Rattle.sm_store.specs.lemmas.Footing.{footing_stands}
+use Rattle.sm_store.specs.lemmas.Heart.{first_held, stands, unwritten}
 use Rattle.sm_store.specs.lemmas.Logs.{all_map}
 use Rattle.sm_store.specs.lemmas.Parts.{part_is, part_stays}
 use Rattle.sm_store.specs.lemmas.Records.{IsSince, record_since}
-use Rattle.sm_store.specs.lemmas.Views.{IsOfDeed, deeds_of_right, head_view, leader_view, log_view, placement_view}
+use Rattle.sm_store.specs.lemmas.Views.{head_view, leader_view, log_view}
 use Rattle.sm_store.specs.lemmas.Views.{record_view, rising_of_right, settings_view}
 
 module _ {Q P : Type 0} (charter : Charter Q P) where
@@ -78,13 +81,6 @@ module _ {Q P : Type 0} (charter : Charter Q P) where
   leads_still log process elected rising led now =
       stands leader_of leader_key leader_view log process elected rising (inr led.was_elected) led.leads now
 
-  placement_stands : (log : List (Transaction Q P)) (read : Placement) (placed : ℕ) → AreRight charter log
-      → WasFound placement_of placement_key log read placed → revision_of placement_key log ≡ placed
-      → placement_of log ≡ read
-  placement_stands log read placed right found now =
-      stands_among IsOfDeed placement_of placement_key placement_view log read placed
-      (rising_of_right charter log right) (deeds_of_right charter log right) (inl refl) found now
-
   never_settled : (log : List (Transaction Q P)) → IsRising log → revision_of settings_key log ≡ 0
       → stored_settings log ≡ None
   never_settled log rising now =
@@ -97,7 +93,7 @@ module _ {Q P : Type 0} (charter : Charter Q P) where
       → all_hold log (absence_compares server Failed) ≡ true → revision_of (server_key server) log ≡ 0
   absent_then log server held = (first_held log (server_key server) 0 [] held).0
 
-  -- a server that might let go by a record may by the same one later, or by one that replaced it
+  -- a server that may let go by a record may still do so later by the same record, or by one that replaced it
   lets_since : (server generation : ℕ) (was held : Record) → IsSince was held → MayLetGo server generation was
       → MayLetGo server generation held
   lets_since server generation was held (inl same) may = subst (MayLetGo server generation) (sym same) may
@@ -123,11 +119,15 @@ module _ {Q P : Type 0} (charter : Charter Q P) where
   right_one log (Changing process shard change next elected placed) right held may =
       let first = first_held log leader_key elected (at placement_key placed ∷ []) held in
       let second = first_held log placement_key placed [] first.1 in
-      let now = placement_stands log may.read placed right may.placement_was second.0 in
+      let footing = footing_stands charter log may.read may.settings placed right may.footing second.0 in
+      let now : placement_of log ≡ may.read = ap (λ (f : Footing). f.placement) footing in
       record {
         within = may.within;
         leads = leads_still log process elected (rising_of_right charter log right) may.led first.0;
-        allowed = subst (λ (p : Placement). IsTrue (charter.allows_change p shard change)) (sym now) may.allowed;
+        settings = may.settings;
+        settings_are = ap (λ (f : Footing). f.settings) footing;
+        allowed = subst (λ (p : Placement). IsTrue (charter.allows_change may.settings p shard change)) (sym now)
+            may.allowed;
         changed = subst (λ (p : Placement). IsChanged charter.ceiling (p.records shard) change next) (sym now)
             may.changed;
         waited = λ waits. subst (λ (p : Placement). HasWaited log p shard change) (sym now) (may.waited waits);
@@ -168,10 +168,14 @@ module _ {Q P : Type 0} (charter : Charter Q P) where
       let absences = absence_compares server run.state in
       let first = first_held log leader_key elected (at placement_key placed ∷ absences) held in
       let second = first_held log placement_key placed absences first.1 in
-      let now = placement_stands log may.read placed right may.placement_was second.0 in
+      let footing = footing_stands charter log may.read may.settings placed right may.footing second.0 in
+      let now : placement_of log ≡ may.read = ap (λ (f : Footing). f.placement) footing in
       record {
         leads = leads_still log process elected (rising_of_right charter log right) may.led first.0;
-        allowed = subst (λ (p : Placement). IsTrue (charter.allows_state p server run.state)) (sym now) may.allowed;
+        settings = may.settings;
+        settings_are = ap (λ (f : Footing). f.settings) footing;
+        allowed = subst (λ (p : Placement). IsTrue (charter.allows_state may.settings p server run.state)) (sym now)
+            may.allowed;
         next = subst (λ (p : Placement). IsTrue (is_next_run (read_run p server) run)) (sym now) may.next;
         absent = λ is. absent_then log server (subst (λ (s : ServerState).
             all_hold log (absence_compares server s) ≡ true) is second.1);
@@ -180,6 +184,19 @@ module _ {Q P : Type 0} (charter : Charter Q P) where
       }
   right_one log (Settling settings) right held may =
       never_settled log (rising_of_right charter log right) (first_held log settings_key 0 [] held).0
+  right_one log (Resettling process settings elected placed) right held may =
+      let first = first_held log leader_key elected (at placement_key placed ∷ []) held in
+      let second = first_held log placement_key placed [] first.1 in
+      let now = footing_stands charter log may.read may.old placed right may.footing second.0 in
+      record {
+        leads = leads_still log process elected (rising_of_right charter log right) may.led first.0;
+        old = may.old;
+        old_are = ap (λ (f : Footing). f.settings) now;
+        new = may.new;
+        new_are = may.new_are;
+        replaces = subst (λ (p : Placement). MayReplace p may.old may.new)
+            (sym (ap (λ (f : Footing). f.placement) now)) may.replaces;
+      }
   right_one log (Following server revision acks told) right held may =
       record {
         compared = (first_held log (server_key server) told [] held).0;

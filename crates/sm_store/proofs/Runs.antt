@@ -22,7 +22,7 @@ use Rattle.sm_store.specs.lemmas.Views.{made_view, rising_of_right}
 use Rattle.sm_store.specs.lemmas.Whole.{whole}
 
 module _ {Q P : Type 0} where
-  -- each compare of those that hold
+  -- each of the compares holds
   compare_held : (log : List (Transaction Q P)) (compares : List Compare) → all_hold log compares ≡ true
       → AllByRecursion (λ compare. revision_of compare.key log ≡ compare.revision) compares
   compare_held log [] held = tt
@@ -30,13 +30,13 @@ module _ {Q P : Type 0} where
       let parts = and_parts (revision_of compare.key log == compare.revision) (all_hold log compares) held in
       (eqb-true (revision_of compare.key log) compare.revision parts.0, compare_held log compares parts.1)
 
-  -- what was sent may be sent, and was sent in the past
+  -- a transaction that was sent may be sent, and was sent in the past
   pub record IsSendable (charter : Charter Q P) (log : List (Transaction Q P))
       (sent : SentTransaction Q P) : Type 0 where
     pub may : MaySend charter log sent.txn
     pub since : sent.since ≤ length log
 
-  -- what held did so in the past, after it was sent
+  -- a transaction that held did so in the past, after it was sent
   pub record DidHold (log : List (Transaction Q P)) (held : Carried Q P) : Type 0 where
     pub later : List (Transaction Q P)
     pub is : log ≡ later ++ held.moment

@@ -1,4 +1,4 @@
--- A server is stopped of a process that is named, and up again by one that began later.
+-- A server that is stopped names a process, and is up again only by a process that began later.
 use Rattle.std.proofs.Common.{◌≡◌, ◌≢◌, ◌<◌, ◌≤◌, ℕ, Bool, true, List, [], ◌∷◌, ◌++◌, refl, sym, ap, subst, ◌∙◌, arith}
 use Rattle.std.proofs.Common.{⊎_elim, inl, inr}
 use Rattle.std.specs.Prelude.{nat_le, nat_lt, ◌==◌, ◌&&◌, ◌⊎◌, if◌then◌else◌}
@@ -8,6 +8,7 @@ use Rattle.sm_place.specs.ServerState.{is_stopped, is_up}
 use Rattle.sm_store.specs.declared.server_run.ServerRun.{ServerRun}
 use Rattle.sm_store.specs.Store.{Transaction, stored_process, stored_run, stored_state}
 use Rattle.sm_store.specs.Deeds.{AreRight, Charter, Deed, Electing, Expiring, Changing, Restarting, Settling, Executing}
+use Rattle.sm_store.specs.Deeds.{Resettling}
 use Rattle.sm_store.specs.Deeds.{Basing, Naming, Clearing, Following, Checking, Foreign, IsRight, is_next_run}
 use Rattle.sm_store.specs.Deeds.{transaction_of}
 use Rattle.sm_store.specs.lemmas.Heads.{right_past}
@@ -18,7 +19,7 @@ if_so b x so is = sym (cond-true b x true so) ∙ is
 is_both : (a b : Bool) → a ≡ true → b ≡ true → (a && b) ≡ true
 is_both a b one other = rw one other
 
--- what it means that a state may be said of a process after the one before
+-- the facts by which a state may come after the one before
 record IsNextRun (before next : ServerRun) : Type 0 where
   pub rises : before.process ≤ next.process
   pub back : before.state ≡ Stopped → next.state ≡ Up → before.process < next.process
@@ -41,7 +42,7 @@ next_is before next is =
     }
 
 module _ {Q P : Type 0} (charter : Charter Q P) (server : ℕ) where
-  -- the deed leaves how the server runs, or it comes to run so
+  -- the deed doesn't change how the server runs, or changes it to this
   abbrev RunsOn : List (Transaction Q P) → Transaction Q P → Type 0
   RunsOn log txn =
       (stored_run server (txn ∷ log) ≡ stored_run server log)
@@ -64,6 +65,7 @@ module _ {Q P : Type 0} (charter : Charter Q P) (server : ℕ) where
       inl (cond-false (at == server) run (stored_run server log) (ne_eqb at server apart)))
       (cases_eq at server)
   runs_on log (Settling settings) right = inl refl
+  runs_on log (Resettling process settings elected placed) right = inl refl
   runs_on log (Executing shard at items head stood logged) right = inl refl
   runs_on log (Basing shard number place part) right = inl refl
   runs_on log (Naming shard head number parts logged) right = inl refl

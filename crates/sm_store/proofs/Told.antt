@@ -1,4 +1,4 @@
--- The reads that were told, each with the moment that it is of.
+-- The reads that clients were told, each with the moment to which it belongs.
 use Rattle.std.proofs.Common.{◌≡◌, ℕ, ◌≤◌, List, [], ◌∷◌, ◌++◌, length, refl, sym, ap, ◌∙◌, arith}
 use Rattle.std.proofs.Common.{inl, inr, length-append}
 use Rattle.std.specs.Prelude.{IsTrue}
@@ -19,7 +19,7 @@ module _ {Q R S : Type 0} (P : Type 0) (service : Automaton S Q R) where
   abbrev pub state_at : List (Event Q P R) → ℕ → S
   state_at moment shard = state_in service (system_after moment).log shard
 
-  -- a read that was told, and the moment that it is of
+  -- a read that a client was told, and the moment to which it belongs
   pub record Told : Type 0 where
     pub early : List (Event Q P R)
     pub shard : ℕ
@@ -38,7 +38,7 @@ module _ {Q R S : Type 0} (P : Type 0) (service : Automaton S Q R) where
   abbrev pub InRun : List (Event Q P R) → Told → Type 0
   InRun events one = (late : List (Event Q P R)) × (events ≡ late ++ one.early)
 
-  -- it is the read that is claimed
+  -- this is the read that is claimed
   pub record IsThat (one : Told) (shard client number : ℕ) (request : Q) (reply : R) (text : List ℕ)
       (told : ℕ) : Type 0 where
     pub shard_is : one.shard ≡ shard
@@ -49,7 +49,7 @@ module _ {Q R S : Type 0} (P : Type 0) (service : Automaton S Q R) where
     pub text_is : one.text ≡ text
     pub told_is : one.told ≡ told
 
-  -- it is among these
+  -- the claim's read is among these
   abbrev pub HasRead : List Told → ℕ → Claim Q R → Type 0
   HasRead reads told (Reads shard client number request reply text) =
       (one : Told) × IsAmong one reads × IsThat one shard client number request reply text told

@@ -1,4 +1,4 @@
--- The order: at each moment what is made then, and then the reads that are of it.
+-- The order: at each moment the requests that are made then, and after them the reads of that moment.
 use Rattle.std.proofs.Common.{◌≡◌, ℕ, ◌≤◌, ◌<◌, ◌+◌, List, [], ◌∷◌, ◌++◌, length, refl, sym, ap, subst, ◌∙◌, arith}
 use Rattle.std.proofs.Common.{⊎_elim, append_assoc, append-nil, length-append}
 use Rattle.std.specs.Prelude.{◌==◌, if◌then◌else◌}
@@ -24,7 +24,7 @@ use Rattle.sm_store.proofs.Runs.{lawful, sound}
 use Rattle.sm_store.proofs.Told.{InRun, Told, state_at}
 
 module _ {Q R : Type 0} where
-  -- it is a query
+  -- the operation is a query
   abbrev IsQuery : Operation Q R → Type 0
   IsQuery (Update shard item reply) = ⊥
   IsQuery (Query shard client number request reply text told) = Unit {0}
@@ -43,12 +43,12 @@ module _ {Q R S : Type 0} (P : Type 0) (service : Automaton S Q R) where
   abbrev query : Told P service → Operation Q R
   query one = Query one.shard one.client one.number one.request one.reply one.text one.told
 
-  -- the reads of the moment that has so many events
+  -- the reads of the moment with this many events
   abbrev looks : ℕ → List (Told P service) → List (Operation Q R)
   looks now [] = []
   looks now (one ∷ reads) = (if length one.early == now then query one ∷ [] else []) ++ looks now reads
 
-  -- what is made by an event
+  -- the operations that an event makes
   pub added : (event : Event Q P R) (earlier : List (Event Q P R))
       → Grown service (log_step (system_after earlier) event).0 (system_after earlier).log
   added event earlier = grown service (log_step (system_after earlier) event).0 (system_after earlier).log
@@ -68,7 +68,7 @@ module _ {Q R S : Type 0} (P : Type 0) (service : Automaton S Q R) where
   woven reads [] = looks 0 reads
   woven reads (event ∷ earlier) = woven reads earlier ++ next reads event earlier
 
-  -- each read of a moment, and what holds of it
+  -- a fact that holds of each read of a moment
   all_looks : (F : Operation Q R → Type 0) (now : ℕ) (reads : List (Told P service))
       → AllByRecursion (λ (one : Told P service). length one.early ≡ now → F (query one)) reads
       → AllByRecursion F (looks now reads)
@@ -89,7 +89,7 @@ module _ {Q R S : Type 0} (P : Type 0) (service : Automaton S Q R) where
       no_updates shard (of_shard shard (looks now reads))
       (all_of IsQuery shard (looks now reads) (all_looks IsQuery now reads (every now IsQuery (λ one. tt) reads)))
 
-  -- a shard's part of what comes next
+  -- a shard's part of the next operations
   next_of : (shard : ℕ) (reads : List (Told P service)) (event : Event Q P R) (earlier : List (Event Q P R))
       → of_shard shard (next reads event earlier)
       ≡ makes service shard (state_at P service earlier shard) (items_of event earlier shard)
@@ -152,7 +152,7 @@ module _ {Q R S : Type 0} (P : Type 0) (service : Automaton S Q R) where
       → events ≡ (later ++ event ∷ []) ++ moment
   shift event events later moment is = is ∙ sym (append_assoc later (event ∷ []) moment)
 
-  -- what comes next is answered, from the state of then
+  -- the next operations have their answers, from the state at that moment
   next_answered : (events later : List (Event Q P R)) (event : Event Q P R) (earlier : List (Event Q P R))
       → events ≡ later ++ event ∷ earlier → (reads : List (Told P service))
       → AllByRecursion (InRun P service events) reads → (shard : ℕ)
@@ -186,7 +186,7 @@ module _ {Q R S : Type 0} (P : Type 0) (service : Automaton S Q R) where
       (sym (woven_updates shard reads earlier))
       (next_answered events later event earlier is reads within shard)))
 
-  -- all in the order was asked by then
+  -- all requests in the order were asked by then
   makes_came : (moment : List (Event Q P R)) (shard : ℕ) (state : S) (items : List (Item Q))
       → AllByRecursion (ItemAsked (system_after moment).asked shard) items
       → AllByRecursion (HasCome moment) (makes service shard state items)
@@ -215,7 +215,7 @@ module _ {Q R S : Type 0} (P : Type 0) (service : Automaton S Q R) where
   asked_then [] moment asked = asked
   asked_then (event ∷ later) moment asked = asked_then later moment (asked_before event (later ++ moment) asked)
 
-  -- what is made by an event was asked
+  -- the requests that an event makes were asked
   added_came : (event : Event Q P R) (earlier : List (Event Q P R)) → AreAskedFor (event ∷ earlier)
       → AllByRecursion (HasCome (event ∷ earlier)) (added event earlier).order
   added_came event earlier asked =
@@ -240,7 +240,7 @@ module _ {Q R S : Type 0} (P : Type 0) (service : Automaton S Q R) where
       (all_append (HasCome now) (added event earlier).order (looks (length now) reads)
       (added_came event earlier asked) (looks_came events later now is reads within))
 
-  -- what is told is made
+  -- a request that a client was told of is made
   told_made : (charter : Charter Q P) (moment : List (Event Q P R)) → MightHappen service charter moment
       → (shard client number : ℕ) (request : Q) (reply : R)
       → IsAmong (Replies shard client number request reply) (system_after moment).claims
@@ -287,7 +287,7 @@ module _ {Q R S : Type 0} (P : Type 0) (service : Automaton S Q R) where
   did_before charter [] moment might = might
   did_before charter (event ∷ later) moment might = did_before charter later moment might.1
 
-  -- what an event makes wasn't told at an earlier moment, since nothing is made twice
+  -- no client was told, at an earlier moment, of the requests that an event makes, because no request is made twice
   added_untold : (charter : Charter Q P) (event : Event Q P R) (later moment : List (Event Q P R))
       → MightHappen service charter (event ∷ later ++ moment)
       → AllByRecursion (IsUntold moment) (added event (later ++ moment)).order
@@ -311,7 +311,7 @@ module _ {Q R S : Type 0} (P : Type 0) (service : Automaton S Q R) where
       (ap (times client number) more.1 ∙ times-append client number (made_at moment shard) more.0) in
       absurd (omega (arith)))))
 
-  -- the order goes on with what wasn't told by now
+  -- the order goes on with operations of which no client was told by now
   abbrev pub GoesOn : List (Told P service) → List (Event Q P R) → List (Event Q P R) → Type 0
   GoesOn reads later moment = (back : List (Operation Q R))
       × (woven reads (later ++ moment) ≡ woven reads moment ++ back)
@@ -333,7 +333,7 @@ module _ {Q R S : Type 0} (P : Type 0) (service : Automaton S Q R) where
             (looks_untold (length now) moment (omega (arith, length-append later moment)) reads)),
       )
 
-  -- what was told has its place
+  -- a read that a client was told has its place
   looks_among : (reads : List (Told P service)) (one : Told P service) → IsAmong one reads
       → IsAmong (query one) (looks (length one.early) reads)
   looks_among [] one among = absurd among

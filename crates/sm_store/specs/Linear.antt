@@ -29,7 +29,8 @@ AreAskedFor (_ ∷ earlier) = AreAskedFor earlier
 pub data Operation (Q R : Type 0) : Type 0 where
   -- the store makes a request of the shard, which has this reply
   Update : (shard : ℕ) (item : Item Q) (reply : R) → Operation Q R
-  -- a request of the shard only reads, and has this reply and this text, told when so many events had happened
+  -- a request of the shard only reads, and has this reply and this text, which the client got when this many events had
+  -- happened
   Query : (shard client number : ℕ) (request : Q) (reply : R) (text : List ℕ) (told : ℕ) → Operation Q R
 
 -- the shard of an operation
@@ -76,8 +77,8 @@ abbrev pub IsOnlyAsk : {Q : Type 0} → List (Ask Q) → ℕ → ℕ → ℕ →
 IsOnlyAsk asked shard client number request =
     (ask : Ask _) → WasAsked asked shard client number ask → ask.request ≡ request
 
--- a reply that was told when so many events had happened has its place in the order, at the request that it was told
--- for: a read always, an update if its client asked no other request under its number
+-- a reply that a client got when this many events had happened has its place in the order, at its own request: a read
+-- always, an update if its client asked no other request under its number
 abbrev pub HasPlace : {Q R : Type 0} → List (Ask Q) → List (Operation Q R) → ℕ → Claim Q R → Type 0
 HasPlace asked order told (Replies shard client number request reply) =
     (item : Item _) × IsTrue (is_from client number item)
@@ -87,7 +88,7 @@ HasPlace asked order told (Reads shard client number request reply text) =
     IsAmong (Query shard client number request reply text told) order
 HasPlace asked order told (Overtaken shard client number) = Unit {0}
 
--- each reply that was told has its place in the order
+-- each reply that a client got has its place in the order
 abbrev pub HavePlaces : {Q P R : Type 0} → List (Ask Q) → List (Operation Q R) → List (Event Q P R) → Type 0
 HavePlaces asked order [] = Unit {0}
 HavePlaces asked order (Claims claim ∷ earlier) =
@@ -108,7 +109,8 @@ IsUntold moment (Update shard item reply) =
     → IsAmong (Replies shard item.client item.number request any) (system_after moment).claims → ⊥
 IsUntold moment (Query shard client number request reply text told) = length moment ≤ told
 
--- at this moment the order has a front, which was asked by then, and a back, which nobody was told of by then
+-- at this moment the order can be cut: all requests of its first part were asked by then, and no client was told of its
+-- second part by then
 pub record Cut {Q P R : Type 0} (order : List (Operation Q R)) (moment : List (Event Q P R)) : Type 0 where
   pub front : List (Operation Q R)
   pub back : List (Operation Q R)
@@ -119,15 +121,15 @@ pub record Cut {Q P R : Type 0} (order : List (Operation Q R)) (moment : List (E
 -- the run's requests have one order, in time
 pub record IsLinear {Q P R S : Type 0} (service : Automaton S Q R) (events : List (Event Q P R)) : Type 0 where
   pub order : List (Operation Q R)
-  -- one thread for each shard, which goes by this order, gives these replies
+  -- one thread for each shard gives these replies in this order
   pub answered : (shard : ℕ) → IsThread service service.start (of_shard shard order)
   -- the updates are the requests that the store made, in the order in which it made them
   pub updates : (shard : ℕ) → updates_of (of_shard shard order) ≡ made shard (system_after events).log
-  -- each reply that a client was told is in it
+  -- each reply that a client was told is in the order
   pub places : HavePlaces (system_after events).asked order events
-  -- nothing is in it that nobody asked
+  -- each request in the order was asked
   pub came : AllByRecursion (HasCome events) order
-  -- at each moment it can be cut in two
+  -- at each moment the order can be cut in two
   pub in_time : (later moment : List (Event Q P R)) → events ≡ later ++ moment → Cut order moment
 
 -- a client was told of the operation by this moment
@@ -137,7 +139,7 @@ IsTold moment (Update shard item reply) =
     × IsAmong (Replies shard item.client item.number request any) (system_after moment).claims
 IsTold moment (Query shard client number request reply text told) = told < length moment
 
--- the one stands before the other
+-- the first comes before the other in the order
 pub record StandsBefore {A : Type 0} (one other : A) (order : List A) : Type 0 where
   pub first : List A
   pub between : List A
@@ -150,7 +152,7 @@ AreFresh asked =
     (shard client number : ℕ) (one other : Ask _) → WasAsked asked shard client number one
     → WasAsked asked shard client number other → one.request ≡ other.request
 
--- whatever request the client asked under the operation's number, it is the operation's
+-- any request that the client asked under the operation's number is the operation's request
 abbrev pub IsOwn : {Q R : Type 0} → List (Ask Q) → Operation Q R → Type 0
 IsOwn asked (Update shard item reply) = IsOnlyAsk asked shard item.client item.number item.request
 IsOwn asked (Query shard client number request reply text told) = IsOnlyAsk asked shard client number request

@@ -1,5 +1,5 @@
--- The store: its transactions, the latest first, and what they leave. Each has its own revision, and revisions rise
--- along the log.
+-- The store: its transactions, the latest first, and the values after them. Each has its own revision, and revisions
+-- rise along the log.
 use Rattle.std.specs.Prelude.{ℕ, Bool, true, false, Option, Some, None, nat_lt, ◌==◌, ◌&&◌, ◌<◌, List, [], ◌∷◌, ◌++◌}
 use Rattle.std.specs.Prelude.{if◌then◌else◌, max}
 use Rattle.std.specs.List.{list_all, list_any}
@@ -21,19 +21,19 @@ use Rattle.sm_store.specs.declared.store_key.PassingKey.TheVariants.{Leader, Ser
 use Rattle.sm_store.specs.declared.store_key.StoreKey.{StoreKey}
 use Rattle.sm_store.specs.declared.store_key.StoreKey.TheVariants.{Lasting, Passing}
 
--- of a shard: a process has let go of its records up to this generation, or is prepared for the latest of them
+-- for a shard: a process has let go of its records up to this generation, or is prepared for the latest of them
 pub record Ack : Type 0 where
   pub shard : ℕ
   pub generation : ℕ
 
--- what a transaction writes to one key or to those of acks, or which keys it deletes
+-- a write of a transaction: to one key, or to the keys of acks, or a deletion of keys
 pub data Write (Q P : Type 0) : Type 0 where
   -- a process leads
   Leads : (process : ℕ) → Write Q P
   -- a shard's record becomes this one, by a change that this process makes
   Stands : (process shard : ℕ) (change : Change) (next : Record) → Write Q P
-  -- a server's state becomes this one, which is said of a process of the server, by a step of its restart that this
-  -- process makes
+  -- a server's state becomes this one, and it names a process of the server, by a step of its restart that this process
+  -- makes
   Enters : (process server : ℕ) (run : ServerRun) → Write Q P
   -- this process made a command
   Commands : (process : ℕ) → Write Q P
@@ -43,7 +43,7 @@ pub data Write (Q P : Type 0) : Type 0 where
   Heads : (shard : ℕ) (head : Head) → Write Q P
   -- the shard's batch of this number holds these requests, which this server executed
   Executes : (shard number server : ℕ) (items : List (Item Q)) → Write Q P
-  -- the shard's base of so many batches has this part at this place
+  -- the shard's base of this many batches has this part at this place
   Bases : (shard number place : ℕ) (part : P) → Write Q P
   -- a server is there, and has read the store up to this revision
   Follows : (server revision : ℕ) → Write Q P
@@ -54,13 +54,14 @@ pub data Write (Q P : Type 0) : Type 0 where
   -- something else is written
   Elsewhere : Write Q P
 
--- it is made as a whole, if each compare holds, and else not at all; the store gives it its revision then, 0 before
+-- a transaction is made as a whole if each compare holds, and otherwise not at all; the store gives it its revision
+-- then, and before that its revision is 0
 pub record Transaction (Q P : Type 0) : Type 0 where
   pub revision : ℕ
   pub compares : List Compare
   pub writes : List (Write Q P)
 
--- one that the store hasn't made
+-- a transaction that the store hasn't made
 abbrev pub unmade : {Q P : Type 0} → List Compare → List (Write Q P) → Transaction Q P
 unmade compares writes = record { revision = 0; compares = compares; writes = writes }
 
@@ -68,18 +69,18 @@ unmade compares writes = record { revision = 0; compares = compares; writes = wr
 abbrev pub made_at : {Q P : Type 0} → ℕ → Transaction Q P → Transaction Q P
 made_at revision txn = record { revision = revision; compares = txn.compares; writes = txn.writes }
 
--- the revision of the latest transaction, 0 where there is none
+-- the revision of the latest transaction, or 0 if there is none
 abbrev pub last_revision : {Q P : Type 0} → List (Transaction Q P) → ℕ
 last_revision [] = 0
 last_revision (txn ∷ earlier) = txn.revision
 
--- each transaction has a revision above that of the one before it: above, and not the next one, because the store's
--- revision also rises by what isn't in this log
+-- each transaction has a revision above that of the one before it. It need not be the next one, because the store's
+-- revision also rises by transactions that aren't in this log
 abbrev pub IsRising : {Q P : Type 0} → List (Transaction Q P) → Type 0
 IsRising [] = Unit {0}
 IsRising (txn ∷ earlier) = (last_revision earlier < txn.revision) × IsRising earlier
 
--- the key of who leads
+-- the key of the leader
 abbrev pub leader_key : StoreKey
 leader_key = Passing Leader
 
@@ -140,12 +141,12 @@ same_store_key (Lasting a) (Lasting b) = same_lasting a b
 same_store_key (Passing a) (Passing b) = same_passing a b
 same_store_key _ _ = false
 
--- acks of the server are of this key
+-- the key belongs to one of the server's acks
 abbrev pub acks_key : ℕ → List Ack → StoreKey → Bool
 acks_key server acks (Passing (AckKey shard by)) = by == server && list_any (λ ack. ack.shard == shard) acks
 acks_key server acks _ = false
 
--- the write is one of this key
+-- the write is a write of this key
 abbrev pub is_write_of : {Q P : Type 0} → StoreKey → Write Q P → Bool
 is_write_of key (Leads process) = same_store_key leader_key key
 is_write_of key (Stands process shard change next) = same_store_key (record_key shard) key
@@ -165,21 +166,21 @@ abbrev pub is_deletion : {Q P : Type 0} → Write Q P → Bool
 is_deletion (Deletes keys) = true
 is_deletion _ = false
 
--- a deletion of these keys is one of this key
+-- a deletion of these keys deletes this key
 abbrev pub deletes_key : List PassingKey → PassingKey → Bool
 deletes_key keys key = list_any (λ one. same_passing one key) keys
 
--- the writes leave this of a value, one after the other
+-- a value after the writes, one after the other
 abbrev pub left_by : {A W : Type 0} → (A → W → A) → A → List W → A
 left_by one before [] = before
 left_by one before (write ∷ writes) = left_by one (one before write) writes
 
--- a write of the key leaves it at this revision, or at none where it is deleted
+-- the revision of the key after a write of it, or none if the write deletes it
 abbrev pub revised : {Q P : Type 0} → StoreKey → ℕ → ℕ → Write Q P → ℕ
 revised key now before write =
     if is_write_of key write then (if is_deletion write then 0 else now) else before
 
--- the revision at which the key was last written, 0 where it isn't there
+-- the revision at which the key was last written, or 0 if it isn't there
 abbrev pub revision_of : {Q P : Type 0} → StoreKey → List (Transaction Q P) → ℕ
 revision_of key [] = 0
 revision_of key (txn ∷ earlier) = left_by (revised key txn.revision) (revision_of key earlier) txn.writes
@@ -188,18 +189,18 @@ revision_of key (txn ∷ earlier) = left_by (revised key txn.revision) (revision
 abbrev pub all_hold : {Q P : Type 0} → List (Transaction Q P) → List Compare → Bool
 all_hold log compares = list_all (λ compare. revision_of compare.key log == compare.revision) compares
 
--- what the transactions leave of a value, of which each write leaves this
+-- a value after the transactions, by how each write changes it
 abbrev pub view_from : {A Q P : Type 0} → (A → Write Q P → A) → A → List (Transaction Q P) → A
 view_from one start [] = start
 view_from one start (txn ∷ earlier) = left_by one (view_from one start earlier) txn.writes
 
--- who leads after a write, 0 where nobody does
+-- the leader after a write, or 0 if there is none
 abbrev pub led : {Q P : Type 0} → ℕ → Write Q P → ℕ
 led before (Leads process) = process
 led before (Deletes keys) = if deletes_key keys Leader then 0 else before
 led before _ = before
 
--- who leads, 0 where nobody does
+-- the leader, or 0 if there is none
 abbrev pub leader_of : {Q P : Type 0} → List (Transaction Q P) → ℕ
 leader_of log = view_from led 0 log
 
@@ -217,7 +218,7 @@ abbrev pub entered : {Q P : Type 0} → ℕ → ServerRun → Write Q P → Serv
 entered server before (Enters process at run) = if at == server then run else before
 entered server before _ = before
 
--- the state of a server, and the process of which that is said
+-- the state of a server, and the process that it names
 abbrev pub stored_run : {Q P : Type 0} → ℕ → List (Transaction Q P) → ServerRun
 stored_run server log = view_from (entered server) (record { state = Up; process = 0 }) log
 
@@ -225,11 +226,12 @@ stored_run server log = view_from (entered server) (record { state = Up; process
 abbrev pub stored_state : {Q P : Type 0} → ℕ → List (Transaction Q P) → ServerState
 stored_state server log = (stored_run server log).state
 
--- the process that a server's state names, 0 where it names none
+-- the process that a server's state names, or 0 if it names none
 abbrev pub stored_process : {Q P : Type 0} → ℕ → List (Transaction Q P) → ℕ
 stored_process server log = (stored_run server log).process
 
--- what a command rests on: the record of each shard, and the state of each server, with the process that it names
+-- the records and states on which a command rests: the record of each shard, and the state of each server, with the
+-- process that it names
 pub record Placement : Type 0 where
   pub records : ℕ → Record
   pub states : ℕ → ServerState
@@ -244,19 +246,19 @@ placement_of log =
       processes = λ server. stored_process server log;
     }
 
--- the greatest generation of these acks of the shard and of this one
+-- the greatest generation among this one and these acks of the shard
 abbrev pub acked_among : ℕ → List Ack → ℕ → ℕ
 acked_among shard [] generation = generation
 acked_among shard (ack ∷ acks) generation =
     if ack.shard == shard then max ack.generation (acked_among shard acks generation)
     else acked_among shard acks generation
 
--- the greatest generation up to which a server has acked a shard, after a write: an ack that was made counts for good
+-- the greatest generation up to which a server has acked a shard, after a write: an ack that was made counts forever
 abbrev pub acked : {Q P : Type 0} → ℕ → ℕ → ℕ → Write Q P → ℕ
 acked shard server before (Acks by acks) = if by == server then acked_among shard acks before else before
 acked shard server before _ = before
 
--- the greatest generation up to which any process of the server has acked the shard, also if its lease ended since
+-- the greatest generation up to which any process of the server has acked the shard, even if its lease has ended since
 abbrev pub acked_of : {Q P : Type 0} → ℕ → ℕ → List (Transaction Q P) → ℕ
 acked_of shard server log = view_from (acked shard server) 0 log
 
@@ -265,7 +267,7 @@ abbrev pub settled : {Q P : Type 0} → Option (List ℕ) → Write Q P → Opti
 settled before (Settles settings) = Some settings
 settled before _ = before
 
--- the settings, where they are written
+-- the settings, if they were written
 abbrev pub stored_settings : {Q P : Type 0} → List (Transaction Q P) → Option (List ℕ)
 stored_settings log = view_from settled None log
 
@@ -284,7 +286,7 @@ batched shard number before (Executes at n server items) = if at == shard && n =
 batched shard number before (Deletes keys) = if deletes_key keys (Batch shard number) then None else before
 batched shard number before _ = before
 
--- the batch that stands at a number
+-- the batch at a number
 abbrev pub batch_at : {Q P : Type 0} → ℕ → ℕ → List (Transaction Q P) → Option (List (Item Q))
 batch_at shard number log = view_from (batched shard number) None log
 
@@ -295,7 +297,7 @@ based_on shard number place before (Bases at n i part) =
 based_on shard number place before (Deletes keys) = if deletes_key keys (Part shard number place) then None else before
 based_on shard number place before _ = before
 
--- the part of a base that stands at a place
+-- the part of a base at a place
 abbrev pub part_at : {Q P : Type 0} → ℕ → ℕ → ℕ → List (Transaction Q P) → Option P
 part_at shard number place log = view_from (based_on shard number place) None log
 
@@ -310,7 +312,8 @@ executed_by shard (Executes at number server items ∷ writes) =
     (if at == shard then items else []) ++ executed_by shard writes
 executed_by shard (_ ∷ writes) = executed_by shard writes
 
--- the requests of a shard that a transaction makes: those of a batch that is written with the head of the shard's log
+-- the requests of a shard that a transaction makes: the requests of a batch that is written together with the head of
+-- the shard's log
 abbrev pub made_by : {Q P : Type 0} → ℕ → List (Write Q P) → List (Item Q)
 made_by shard writes = if touches (head_key shard) writes then executed_by shard writes else []
 
@@ -319,7 +322,7 @@ abbrev pub made : {Q P : Type 0} → ℕ → List (Transaction Q P) → List (It
 made shard [] = []
 made shard (txn ∷ earlier) = made shard earlier ++ made_by shard txn.writes
 
--- those of its first batches, so many
+-- the requests of this many first batches of the shard
 abbrev pub made_until : {Q P : Type 0} → ℕ → ℕ → List (Transaction Q P) → List (Item Q)
 made_until shard number [] = []
 made_until shard number (txn ∷ earlier) =

@@ -1,4 +1,4 @@
--- For whom a change of a record waits, and a step of a restart, and when a server has let go.
+-- The server that a change of a record must wait for, or a step of a restart, and when a server has let go.
 use Rattle.std.specs.Prelude.{ℕ, Bool, Option, Some, None, IfSome, ◌≡◌, ◌≢◌, ◌<◌, ◌≤◌, ◌⊎◌, ◌||◌, List, nat_le}
 use Rattle.sm_ranges.specs.declared.stand.Stand.{Stand}
 use Rattle.sm_ranges.specs.declared.stand.Stand.TheVariants.{Forwarding, Paused}
@@ -9,7 +9,8 @@ use Rattle.sm_ownership.specs.Rules.{executor}
 use Rattle.sm_place.specs.declared.server_state.ServerState.TheVariants.{Failed}
 use Rattle.sm_store.specs.Store.{Placement, Transaction, acked_of}
 
--- for whom a change of a record with this stand waits: a process of that server may execute by it
+-- the server that a change of a record with this stand must wait for, because a process of that server may execute by
+-- the record
 abbrev pub gives_up : Stand → Change → Option ℕ
 gives_up (Forwarding owner next) AddShard = Some owner
 gives_up (Forwarding owner next) Cancel = Some next
@@ -21,21 +22,21 @@ abbrev pub HasLetGo : {Q P : Type 0} → List (Transaction Q P) → Placement �
 HasLetGo log read shard server =
     ((read.records shard).generation ≤ acked_of shard server log) ⊎ (read.states server ≡ Failed)
 
--- whoever the change waits for has let go
+-- the server that the change must wait for has let go
 abbrev pub HasWaited : {Q P : Type 0} → List (Transaction Q P) → Placement → ℕ → Change → Type 0
 HasWaited log read shard change = IfSome (gives_up (read.records shard).stand change) (HasLetGo log read shard)
 
--- the server has let go of each of the first shards, so many, that is paused for it
+-- the server has let go of each shard, among this many first ones, that is paused for it
 abbrev pub HaveLetGo : {Q P : Type 0} → List (Transaction Q P) → Placement → ℕ → ℕ → Type 0
 HaveLetGo log read count server =
     (shard : ℕ) → shard < count → (read.records shard).stand ≡ Paused server → HasLetGo log read shard server
 
--- it has let go, as far as was read of the server: the generation up to which it acked, and whether it failed
+-- the server has let go, by the values that were read of it: the generation up to which it acked, and whether it failed
 abbrev pub has_let_go : Record → ℕ → Bool → Bool
 has_let_go state acked failed = nat_le state.generation acked || failed
 
--- a server may let go of the records up to this generation, if the latest is this one: that generation is replaced, or
--- the server doesn't execute by it
+-- a server may let go of the records up to this generation, if the latest record is this one: that generation is
+-- replaced, or the server doesn't execute by it
 abbrev pub MayLetGo : ℕ → ℕ → Record → Type 0
 MayLetGo server generation state =
     (generation < state.generation) ⊎ ((generation ≡ state.generation) × (executor state ≢ Some server))

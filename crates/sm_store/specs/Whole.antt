@@ -1,11 +1,11 @@
--- What lies at a shard's keys is all that is made: the base that the head names, and the batches after it.
+-- The values at a shard's keys are all requests that are made: the base that the head names, and the batches after it.
 use Rattle.std.specs.Prelude.{ℕ, Some, ◌≡◌, ◌<◌, ◌≤◌, ◌+◌, List, [], ◌∷◌, ◌++◌, length, slice_get}
 use Rattle.sm_store.specs.declared.head.Head.{Head}
 use Rattle.sm_store.specs.declared.item.Item.{Item}
 use Rattle.sm_store.specs.Store.{Transaction, batch_at, head_of, made, made_until, part_at}
 use Rattle.sm_store.specs.Deeds.{Charter}
 
--- the parts of the base that stands for the first batches, so many
+-- the parts of the base for this many first batches
 abbrev pub base_parts : {Q P : Type 0} → Charter Q P → ℕ → ℕ → List (Transaction Q P) → List P
 base_parts charter shard number log = charter.parts (made_until shard number log)
 
@@ -17,7 +17,7 @@ pub record IsBased {Q P : Type 0} (charter : Charter Q P) (shard : ℕ) (log : L
   pub there : 0 < head.base → (place : ℕ) → place < head.parts
       → part_at shard head.base place log ≡ slice_get (base_parts charter shard head.base log) place
 
--- the batch after so many is there, and holds the requests that come next
+-- the batch after this many is there, and holds the requests that come next
 pub record IsBatchThere {Q P : Type 0} (shard : ℕ) (log : List (Transaction Q P)) (number : ℕ) : Type 0 where
   pub items : List (Item Q)
   pub stands : batch_at shard (number + 1) log ≡ Some items
@@ -27,7 +27,7 @@ pub record IsBatchThere {Q P : Type 0} (shard : ℕ) (log : List (Transaction Q 
 abbrev pub AreThere : {Q P : Type 0} → ℕ → List (Transaction Q P) → Head → Type 0
 AreThere shard log head = (number : ℕ) → head.base ≤ number → number < head.batches → IsBatchThere shard log number
 
--- from nothing, or from the base, the batches after it lead to all that is made
+-- from nothing, or from the base, the batches after it lead to all requests that are made
 pub record IsLogWhole {Q P : Type 0} (charter : Charter Q P) (shard : ℕ) (log : List (Transaction Q P)) : Type 0 where
   pub none : made_until shard 0 log ≡ []
   pub based : IsBased charter shard log (head_of shard log)
@@ -42,7 +42,7 @@ pub record WasSeen {Q P A : Type 0} (view : List (Transaction Q P) → A) (log :
   pub is : log ≡ later ++ past
   pub was : view past ≡ value
 
--- these are the shard's batches after so many, each as it was at some moment
+-- these are the shard's batches after this many, each as it was at some moment
 abbrev pub AreBatches : {Q P : Type 0} → ℕ → List (Transaction Q P) → ℕ → List (List (Item Q)) → Type 0
 AreBatches shard log number [] = Unit {0}
 AreBatches shard log number (items ∷ others) =

@@ -1,5 +1,6 @@
 -- Lemmas that the proofs of crates above cite.
 pub mod Acks
+pub mod Footing
 pub mod Growth
 pub mod Heads
 pub mod Heart

@@ -1,6 +1,7 @@
 use crate::store_key::StoreKey;
 
-/// What a transaction demands: that the key was last written at this revision, or isn't there, for 0.
+/// A demand of a transaction: that the key was last written at this revision, or, if the revision is 0, that it isn't
+/// there.
 #[derive(Clone, Copy, Debug, PartialEq, Eq, Drop)]
 pub struct Compare {
     pub key: StoreKey,

@@ -1,10 +1,10 @@
-/// The head of a shard's log: what of it is kept, and where.
+/// The head of a shard's log: how much of the log is kept, and in which form.
 #[derive(Clone, Copy, Debug, PartialEq, Eq, Drop)]
 pub struct Head {
-    /// How many batches there are, which are numbered from 1 on.
+    /// How many batches there are. They are numbered from 1 on.
     pub batches: u64,
-    /// How many of them the base stands for, 0 where there is none. The later ones are kept as batches.
+    /// How many of them the base includes, or 0 if there is no base. The later ones are kept as batches.
     pub base: u64,
-    /// In how many parts the base lies.
+    /// The number of the base's parts.
     pub parts: u64,
 }

@@ -1,7 +1,7 @@
 use sm_ownership::mode::Mode;
 
-/// A request as it stands in a batch: whose it is, its number among that client's, how it came, how often it was
-/// forwarded, and the number below which it makes its shard forget clients: 0, where it forgets none.
+/// A request in a batch: its client, its number among that client's requests, how it came, how often it was forwarded,
+/// and the number below which it makes its shard forget clients, or 0 if it makes it forget none.
 #[derive(Drop)]
 pub struct Item<Q> {
     pub client: u64,

@@ -1,9 +1,9 @@
-//! A store that several machines share: its transactions in one order, what a process may send to it and claim of it,
-//! and the laws that then hold of every run.
+//! A store that several machines share: its transactions in one order, the transactions that a process may send to it
+//! and the claims that it may make, and the laws that then hold in every run.
 //!
-//! The store keeps a value at a key, and makes a transaction as a whole: it writes where each compare still holds. Of
-//! all this only two questions are asked while a control runs: for whom a change waits, and whether that server has let
-//! go.
+//! The store keeps a value at a key, and makes a transaction as a whole: it writes if each compare still holds. While a
+//! control runs, it asks only two questions of all this: which server a change must wait for, and whether that server
+//! has let go.
 //!
 //! ```rust
 //! let shard = ShardId::new(7).expect(&rt, "a shard");

@@ -1,9 +1,9 @@
 use sm_place::ServerState;
 
-/// How far a server's restart has come, and of which process of the server that is said.
+/// How far a server's restart has come, and the process of the server that this state names.
 #[derive(Clone, Copy, PartialEq, Eq, Drop)]
 pub struct ServerRun {
     pub state: ServerState,
-    /// The process that ran the server; 0 where none was named.
+    /// The process that ran the server, or 0 if none was named.
     pub process: u64,
 }

@@ -1,7 +1,7 @@
 use sm_ranges::server_id::ServerId;
 use sm_ranges::shard_id::ShardId;
 
-/// A key that is never deleted, so its revision tells all that was ever written to it.
+/// A key that is never deleted, so its revision rises with every write to it.
 #[derive(Clone, Copy, Debug, PartialEq, Eq, Drop)]
 pub enum LastingKey {
     /// The record of a shard.
@@ -10,9 +10,9 @@ pub enum LastingKey {
     Head(ShardId),
     /// How far the restart of a server has come.
     State(ServerId),
-    /// What each command of a control writes, so that its revision is that of all records and states.
+    /// The key that each command of a control writes, so that its revision is the revision of all records and states.
     Placement,
-    /// What all processes go by.
+    /// The settings by which all processes go.
     Settings,
 }
 
@@ -23,11 +23,11 @@ pub enum PassingKey {
     Leader,
     /// A server, for as long as its lease.
     Server(ServerId),
-    /// What a server acks of a shard, for as long as its lease.
+    /// The ack of a server for a shard, for as long as its lease.
     Ack(ShardId, ServerId),
     /// A batch of a shard's requests, by its number.
     Batch(ShardId, u64),
-    /// A part of a shard's base: of so many batches, and its place among the parts.
+    /// A part of a shard's base: the number of the base's batches, and the place among the parts.
     Part(ShardId, u64, u64),
     /// Any other key.
     Other,

@@ -1,22 +1,22 @@
--- What a control knows stays so as the store goes on, and so does each step of it.
+-- The knowledge of a control stays true as the store goes on, and after each of its steps.
 use Rattle.std.proofs.Common.{◌≡◌, ℕ, Bool, List, ◌++◌, Option, Some, None, refl, sym, subst, ◌∙◌}
 use Rattle.std.specs.Option.{option_or}
 use Rattle.sm_place.specs.Sound.{AreSound}
-use Rattle.sm_tasks.specs.Caps.{RestartCaps}
 use Rattle.sm_desk.specs.declared.command.Command.{Command}
 use Rattle.sm_desk.specs.Desk.{DeskView, commanded, desk_fault}
 use Rattle.sm_store.specs.declared.item.Item.{Item}
-use Rattle.sm_store.specs.Deeds.{Charter, MaySend}
+use Rattle.sm_store.specs.Settings.{ControlSettings}
+use Rattle.sm_store.specs.Deeds.{MaySend}
 use Rattle.sm_store.specs.Store.{Transaction}
 use Rattle.sm_store.specs.lemmas.Growth.{found_grows}
 use Rattle.sm_lead.specs.declared.command_write.CommandWrite.{CommandWrite}
 use Rattle.sm_lead.specs.declared.sent_command.SentCommand.{SentCommand}
 use Rattle.sm_lead.specs.declared.store_control.StoreControl.{StoreControl}
 use Rattle.sm_lead.specs.Commands.{IsAfter, command_fault, write_of}
-use Rattle.sm_lead.specs.Controls.{CommandWasMade, KnowsStore}
-use Rattle.sm_lead.specs.Placements.{HasRowsOf, SettingsRows, charter_of, rows_of}
+use Rattle.sm_lead.specs.Controls.{CommandWasMade, GoesByStore, KnowsStore}
+use Rattle.sm_lead.specs.Placements.{charter_of}
 use Rattle.sm_lead.specs.Sendings.{command_transaction, sending_of}
-use Rattle.sm_whole.specs.Runs.{Given, command_sent, first_books, desk_given}
+use Rattle.sm_whole.specs.Runs.{Given, command_sent}
 
 none_first : {A : Type 0} (a b : Option A) → option_or a b ≡ None → a ≡ None
 none_first None b is = refl
@@ -40,12 +40,18 @@ module _ {Q P : Type 0} where
     run_count = knows.run_count;
   }
 
-  -- a control that knows the store, and goes by what was given
+  pub goes_by_grows : (reading : List ℕ → Option ControlSettings) (more log : List (Transaction Q P))
+      (control : StoreControl) → GoesByStore reading log control → GoesByStore reading (more ++ log) control
+  unfolding knows_grows
+  goes_by_grows reading more log control by = record {
+    knows = knows_grows more log control by.knows;
+    footing = found_grows _ _ more log _ _ by.footing;
+  }
+
+  -- a control whose settings are those of the store, and that waits as configured
   pub record IsGoodControl (given : Given) (log : List (Transaction Q P)) (control : StoreControl) : Type 0 where
-    pub knows : KnowsStore log control
+    pub goes_by : GoesByStore given.reading.settings log control
     pub sound : AreSound control.desk.books
-    pub rows : HasRowsOf (desk_given given) control.desk
-    pub ceiling : control.ceiling ≡ given.ceiling
     pub waits : control.waits ≡ given.waits
 
   -- a command that such a control sent
@@ -58,10 +64,8 @@ module _ {Q P : Type 0} where
   pub control_grows : (given : Given) (more log : List (Transaction Q P)) (control : StoreControl)
       → IsGoodControl given log control → IsGoodControl given (more ++ log) control
   control_grows given more log control good = record {
-    knows = knows_grows more log control good.knows;
+    goes_by = goes_by_grows given.reading.settings more log control good.goes_by;
     sound = good.sound;
-    rows = good.rows;
-    ceiling = good.ceiling;
     waits = good.waits;
   }
 
@@ -77,53 +81,37 @@ module _ {Q P : Type 0} where
   -- a command that was judged may be sent by the charter
   pub sent_may : (parts : List (Item Q) → List P) (given : Given) (log : List (Transaction Q P))
       (sent : SentCommand) → (good : IsGoodCommand given log sent)
-      → MaySend (charter_of (rows_of sent.control.desk.books) sent.control.desk.caps sent.control.ceiling
-      sent.control.waits parts) log
+      → MaySend (charter_of given.reading sent.control.waits parts) log
       (command_transaction (sending_of sent.control (write_of sent.control good.process sent.command)))
-      → MaySend (charter_of (rows_of (first_books given.rows)) given.caps given.ceiling given.waits parts) log
-      (command_sent sent)
+      → MaySend (charter_of given.reading given.waits parts) log (command_sent sent)
   sent_may parts given log sent good may =
       let control = sent.control in
-      let first = rows_of (first_books given.rows) in
-      subst (λ (write : CommandWrite). MaySend (charter_of first given.caps given.ceiling given.waits parts) log
+      subst (λ (write : CommandWrite). MaySend (charter_of given.reading given.waits parts) log
       (command_transaction (sending_of control write))) (sym good.write)
-      (subst (λ (waits : Bool). MaySend (charter_of first given.caps given.ceiling waits parts) log
-      (command_transaction (sending_of control (write_of control good.process sent.command)))) good.by.waits
-      (subst (λ (ceiling : ℕ). MaySend (charter_of first given.caps ceiling control.waits parts) log
-      (command_transaction (sending_of control (write_of control good.process sent.command)))) good.by.ceiling
-      (subst (λ (caps : RestartCaps). MaySend (charter_of first caps control.ceiling control.waits parts) log
-      (command_transaction (sending_of control (write_of control good.process sent.command)))) good.by.rows.caps
-      (subst (λ (rows : SettingsRows). MaySend
-      (charter_of rows control.desk.caps control.ceiling control.waits parts) log
-      (command_transaction (sending_of control (write_of control good.process sent.command)))) good.by.rows.rows may))))
+      (subst (λ (waits : Bool). MaySend (charter_of given.reading waits parts) log
+      (command_transaction (sending_of control (write_of control good.process sent.command)))) good.by.waits may)
 
   -- the control that sent a command knows the store once it is told that this was made
-  pub left_knows : (charter : Charter Q P) (given : Given) (log : List (Transaction Q P)) (sent : SentCommand)
+  pub left_knows : (given : Given) (log : List (Transaction Q P)) (sent : SentCommand)
       (revision : ℕ) (new : StoreControl) (good : IsGoodCommand given log sent)
       → ((desk : DeskView) (command : Command) → AreSound desk.books → desk_fault desk command ≡ None
       → AreSound (commanded desk command).books)
-      → HasRowsOf sent.control.desk new.desk
       → (IsAfter sent.control sent.command (write_of sent.control good.process sent.command) revision new
       → CommandWasMade log
       (command_transaction {Q = Q} {P = P} (sending_of sent.control (write_of sent.control good.process sent.command)))
       revision
-      → KnowsStore log new)
+      → GoesByStore given.reading.settings log new)
       → CommandWasMade log (command_sent {Q = Q} {P = P} sent) revision
       → IsAfter sent.control sent.command sent.write revision new → IsGoodControl given log new
-  left_knows charter given log sent revision new good keeps rows known made after =
+  left_knows given log sent revision new good keeps known made after =
       let control = sent.control in
       let command = sent.command in
       record {
-        knows = known
+        goes_by = known
             (subst (λ (write : CommandWrite). IsAfter control command write revision new) good.write after)
             (subst (λ (write : CommandWrite). CommandWasMade log
             (command_transaction {Q = Q} {P = P} (sending_of control write)) revision) good.write made);
         sound = subst (λ (desk : DeskView). AreSound desk.books) (sym after.desk)
             (keeps control.desk command good.by.sound (none_first _ _ good.allowed));
-        rows = record {
-          rows = rows.rows ∙ good.by.rows.rows;
-          caps = rows.caps ∙ good.by.rows.caps;
-        };
-        ceiling = after.ceiling ∙ good.by.ceiling;
         waits = after.waits ∙ good.by.waits;
       }

@@ -1,4 +1,4 @@
--- Each batch of a right store was executed by the one server that the shard's record then had execute.
+-- Each batch of a right store was executed by the one server that was the executor in the shard's record at that time.
 use Rattle.std.proofs.Common.{◌≡◌, ℕ, true, List, [], ◌∷◌, Option, Some, None, sym, ap, subst}
 use Rattle.std.specs.Prelude.{IsTrue}
 use Rattle.std.specs.List.{AllByRecursion}
@@ -7,6 +7,7 @@ use Rattle.sm_ownership.specs.declared.record.Record.{Record}
 use Rattle.sm_ownership.specs.Rules.{accepts, executor, is_server}
 use Rattle.sm_store.specs.declared.item.Item.{Item}
 use Rattle.sm_store.specs.Deeds.{AreRight, Charter, Deed, Electing, Expiring, Changing, Restarting, Settling}
+use Rattle.sm_store.specs.Deeds.{Resettling}
 use Rattle.sm_store.specs.Deeds.{Executing, Basing, Naming, Clearing, Following, Checking, Foreign, IsRight}
 use Rattle.sm_store.specs.Deeds.{transaction_of}
 use Rattle.sm_store.specs.Store.{Transaction, stored_record}
@@ -30,6 +31,7 @@ module _ {Q P : Type 0} (charter : Charter Q P) where
   by_deed past (Changing process shard change next elected placed) right = (tt, (tt, tt))
   by_deed past (Restarting process server run elected placed) right = (tt, (tt, tt))
   by_deed past (Settling settings) right = (tt, tt)
+  by_deed past (Resettling process settings elected placed) right = (tt, (tt, tt))
   by_deed past (Executing shard server items head stood logged) right = (
     tt,
     (

@@ -4,23 +4,20 @@ use Rattle.std.proofs.Common.{◌∙◌}
 use Rattle.std.specs.Prelude.{IfSome, if◌then◌else◌}
 use Rattle.std.specs.List.{AllByRecursion}
 use Rattle.std.proofs.lemmas.Bool.{true≢false}
-use Rattle.sm_place.specs.Books.{new_books}
 use Rattle.sm_place.specs.Sound.{AreSound}
-use Rattle.sm_rows.specs.declared.domain_row.DomainRow.{DomainRow}
-use Rattle.sm_rows.specs.declared.group_row.GroupRow.{GroupRow}
-use Rattle.sm_rows.specs.declared.server_row.ServerRow.{ServerRow}
-use Rattle.sm_rows.specs.declared.shard_row.ShardRow.{ShardRow}
-use Rattle.sm_tasks.specs.Caps.{MeetsCaps, RestartCaps}
+use Rattle.sm_tasks.specs.Caps.{MeetsCaps}
 use Rattle.sm_desk.specs.declared.command.Command.{Command}
 use Rattle.sm_desk.specs.Desk.{DeskView, commanded, desk_fault}
 use Rattle.sm_store.specs.declared.item.Item.{Item}
 use Rattle.sm_store.specs.declared.server_run.ServerRun.{ServerRun}
 use Rattle.sm_store.specs.Clients.{Automaton}
 use Rattle.sm_store.specs.Deeds.{AreRight, Charter, Deed, Electing, Expiring, Changing, Restarting, Settling}
+use Rattle.sm_store.specs.Deeds.{Resettling}
 use Rattle.sm_store.specs.Deeds.{Executing, Basing, Naming, Clearing, Following, Checking, Foreign, MaySend}
 use Rattle.sm_store.specs.Deeds.{transaction_of}
 use Rattle.sm_store.specs.Linear.{AsksFor, DidAsk, IsLinear}
-use Rattle.sm_store.specs.Store.{Deletes, Transaction, head_key, placement_of, touches}
+use Rattle.sm_store.specs.Settings.{ControlSettings}
+use Rattle.sm_store.specs.Store.{Deletes, Transaction, head_key, touches}
 use Rattle.sm_store.specs.System.{Ask, Event, Comes, Sends, Reaches, Claims, IsLawful, May, System, system_after}
 use Rattle.sm_store.specs.lemmas.Logs.{GoesOnFrom, all_among, all_map, log_step}
 use Rattle.sm_shard.specs.Bases.{Part, base_of}
@@ -37,49 +34,65 @@ use Rattle.sm_lead.specs.declared.sent_command.SendOutcome.TheVariants.{Made, Lo
 use Rattle.sm_lead.specs.declared.sent_command.SentCommand.{SentCommand}
 use Rattle.sm_lead.specs.declared.store_control.StoreControl.{StoreControl}
 use Rattle.sm_lead.specs.Commands.{IsAfter, command_fault, may_name, write_of}
-use Rattle.sm_lead.specs.Controls.{CommandWasMade, IsLoaded, IsReadOf, KnowsStore}
-use Rattle.sm_lead.specs.Placements.{HasRowsOf, books_in, charter_of, rows_of}
+use Rattle.sm_lead.specs.Controls.{CommandWasMade, GoesByStore, IsLoaded, IsReadBy, IsReadOf, KnowsStore, written_desk}
+use Rattle.sm_lead.specs.Controls.{settings_held}
+use Rattle.sm_lead.specs.Placements.{AreKeptBy, SettingsReading, charter_of}
+use Rattle.sm_lead.specs.Resettlings.{resettle_fault, resettling as resettling_of}
 use Rattle.sm_lead.specs.Sendings.{command_transaction, sending_of}
 use Rattle.sm_lead.specs.Waits.{AreAcksMade, has_waited}
 use Rattle.sm_whole.specs.Runs.{AreGivenAsked, Given, IsRun, MayBeActed, MayOccur, WholeAct, charter_given}
-use Rattle.sm_whole.specs.Runs.{Serves, Loads, Judges, Hears, command_sent, desk_given, fleet_acts, is_of_world}
-use Rattle.sm_whole.specs.Runs.{AreByExecutors, IsGivenAsked, IsConcluded, IsToldSo, MayServe, first_books}
+use Rattle.sm_whole.specs.Runs.{Serves, Loads, Judges, Resettles, Hears, MaySendSettings, command_sent, fleet_acts}
+use Rattle.sm_whole.specs.Runs.{is_of_world}
+use Rattle.sm_whole.specs.Runs.{AreByExecutors, IsGivenAsked, IsConcluded, IsToldSo, MayServe}
 use Rattle.sm_whole.specs.Runs.{whole_after, with_left}
 use Rattle.sm_whole.proofs.Executors.{by_executors}
 use Rattle.sm_whole.proofs.Controls.{IsGoodCommand, IsGoodControl, command_grows, control_grows, left_knows, sent_may}
 
--- what the laws of the crates below say of controls
+-- the laws of the crates below about controls
 pub record ControlLaws (Q R : Type 0) : Type 0 where
   pub sound : (desk : DeskView) (command : Command) → AreSound desk.books → desk_fault desk command ≡ None
       → AreSound (commanded desk command).books
-  pub rows : (control new : StoreControl) (command : Command) (write : CommandWrite) (revision : ℕ)
-      → IsAfter control command write revision new → HasRowsOf control.desk new.desk
-  pub reading : (log : StoreLog Q R) (desk : DeskView) (lead : Leadership) (ceiling : ℕ)
+  pub knows : (log : StoreLog Q R) (desk : DeskView) (lead : Leadership) (ceiling : ℕ)
       (waits : Bool) (reads : List RecordRead) (runs : List ServerRun) (placed : ℕ) (control : StoreControl)
       → AreSound control.desk.books → IsLoaded desk lead ceiling waits reads runs placed control
       → IsReadOf log desk lead reads runs placed → KnowsStore log control
-  pub sending : (parts : List (Item Q) → List (Part R)) (log : StoreLog Q R) (control : StoreControl)
-      (acks : List AckRead) (process : ℕ) (command : Command) → AreSound control.desk.books → KnowsStore log control
+  pub reading : (reading : List ℕ → Option ControlSettings) (log : StoreLog Q R) (settings : ControlSettings)
+      (lead : Leadership) (waits : Bool) (reads : List RecordRead) (runs : List ServerRun) (placed : ℕ)
+      (control : StoreControl) → AreSound control.desk.books
+      → IsLoaded (written_desk settings) lead settings.ceiling waits reads runs placed control
+      → IsReadBy reading log settings lead reads runs placed → GoesByStore reading log control
+  pub held : (settings : ControlSettings) (lead : Leadership) (waits : Bool) (reads : List RecordRead)
+      (runs : List ServerRun) (placed : ℕ) (control : StoreControl)
+      → IsLoaded (written_desk settings) lead settings.ceiling waits reads runs placed control
+      → settings_held control ≡ settings
+  pub sending : (reading : SettingsReading) (parts : List (Item Q) → List (Part R)) (log : StoreLog Q R)
+      (control : StoreControl) (acks : List AckRead) (process : ℕ) (command : Command)
+      → AreSound control.desk.books → GoesByStore reading.settings log control
       → AreAcksMade log acks → command_fault control command ≡ None → has_waited control acks command ≡ true
       → may_name control (write_of control process command) ≡ true
-      → MaySend (charter_of (rows_of control.desk.books) control.desk.caps control.ceiling control.waits parts) log
+      → MaySend (charter_of reading control.waits parts) log
       (command_transaction (sending_of control (write_of control process command)))
+  pub resettling : (reading : SettingsReading) (parts : List (Item Q) → List (Part R)) (log : StoreLog Q R)
+      (control other : StoreControl) (settings : List ℕ) → AreRight (charter_of reading control.waits parts) log
+      → AreSound control.desk.books → GoesByStore reading.settings log control → AreSound other.desk.books
+      → MeetsCaps other.desk.caps other.desk.books → KnowsStore log other
+      → reading.settings settings ≡ Some (settings_held other) → resettle_fault control other ≡ None
+      → MaySend (charter_of reading control.waits parts) log (resettling_of control settings)
   pub outcome : (charter : Charter Q (Part R)) (log : StoreLog Q R) (control new : StoreControl) (process : ℕ)
       (command : Command) (revision : ℕ) → AreRight charter log → AreSound control.desk.books
-      → KnowsStore log control → command_fault control command ≡ None
+      → GoesByStore charter.settings log control → command_fault control command ≡ None
       → CommandWasMade log (command_transaction (sending_of control (write_of control process command))) revision
-      → IsAfter control command (write_of control process command) revision new → KnowsStore log new
+      → IsAfter control command (write_of control process command) revision new
+      → GoesByStore charter.settings log new
   pub asks : (asked : List (Ask Q)) (control : StoreControl) (process : ℕ) (command : Command)
       (txn : Transaction Q (Part R))
       → txn ≡ command_transaction (sending_of control (write_of control process command)) → AsksFor asked txn
-  pub caps : (servers : List ServerRow) (groups : List GroupRow) (shards : List ShardRow) (domains : List DomainRow)
-      (caps : RestartCaps) (ceiling : ℕ) (waits : Bool) (parts : List (Item Q) → List (Part R)) (log : StoreLog Q R)
-      → AreSound (new_books servers groups shards domains)
-      → AreRight (charter_of (rows_of (new_books servers groups shards domains)) caps ceiling waits parts) log
-      → AreSound (books_in (rows_of (new_books servers groups shards domains)) (placement_of log))
-      × MeetsCaps caps (books_in (rows_of (new_books servers groups shards domains)) (placement_of log))
+  pub asks_not : (asked : List (Ask Q)) (control : StoreControl) (settings : List ℕ)
+      → AsksFor {P = Part R} asked (resettling_of control settings)
+  pub caps : (reading : SettingsReading) (waits : Bool) (parts : List (Item Q) → List (Part R)) (log : StoreLog Q R)
+      → AreRight (charter_of reading waits parts) log → AreKeptBy reading log
 
--- and those of servers
+-- and those about servers
 pub record FleetLaws {M Q R : Type 0} (service : Automaton M Q R) : Type 0 where
   pub lawful : (charter : Charter Q (Part R)) (acts : List (Act M Q R)) → charter.parts ≡ base_of service
       → MightAct service charter acts → IsLawful service charter (fleet_after acts).system
@@ -110,6 +123,7 @@ module _ {Q P : Type 0} (asked : List (Ask Q)) where
   world_asks Foreign so = λ shard. tt
   world_asks (Changing process shard change next elected placed) so = absurd (true≢false (sym so))
   world_asks (Restarting process server run elected placed) so = absurd (true≢false (sym so))
+  world_asks (Resettling process settings elected placed) so = absurd (true≢false (sym so))
   world_asks (Executing shard server items head stood logged) so = absurd (true≢false (sym so))
   world_asks (Basing shard number place part) so = absurd (true≢false (sym so))
   world_asks (Naming shard head number parts logged) so = absurd (true≢false (sym so))
@@ -120,10 +134,13 @@ module _ {M Q R : Type 0} where
   pub fleet_is : (acts : List (WholeAct M Q R)) → (whole_after acts).fleet ≡ fleet_after (fleet_acts acts)
   fleet_is [] = refl
   fleet_is (Serves act ∷ acts) = ap (λ (fleet : Fleet M Q R). fleet_acted fleet act) (fleet_is acts)
-  fleet_is (Loads lead reads runs placed control ∷ acts) = fleet_is acts
+  fleet_is (Loads settings lead reads runs placed control ∷ acts) = fleet_is acts
   fleet_is (Judges control acks process command (Sent sent) ∷ acts) =
       ap (λ (fleet : Fleet M Q R). fleet_acted fleet (Otherwise (Sends (command_sent sent)))) (fleet_is acts)
   fleet_is (Judges control acks process command (Refused kept fault) ∷ acts) = fleet_is acts
+  fleet_is (Resettles control other settings ∷ acts) =
+      ap (λ (fleet : Fleet M Q R). fleet_acted fleet (Otherwise (Sends (resettling_of control settings))))
+      (fleet_is acts)
   fleet_is (Hears sent outcome left ∷ acts) = fleet_is acts
 
   fleet_grows : (fleet : Fleet M Q R) (act : Act M Q R)
@@ -149,7 +166,7 @@ module _ {M Q R : Type 0} (service : Automaton M Q R) (given : Given) where
   serve_may fleet (Steps which old input result new) may = may.0
   serve_may fleet (Otherwise event) may = occur_may fleet.system event may
 
-  -- the run is one of a fleet, and what each control holds is so
+  -- the run is one of a fleet, and each control's knowledge is true
   pub record IsGoodRun (acts : List (WholeAct M Q R)) : Type 0 where
     pub might : MightAct service charter (fleet_acts acts)
     pub controls : AllByRecursion (IsGoodControl given (whole_after acts).fleet.system.log) (whole_after acts).controls
@@ -183,15 +200,37 @@ module _ {M Q R : Type 0} (service : Automaton M Q R) (given : Given) where
       → IsConcluded sent outcome left → IfSome left (IsGoodControl given log)
   left_good laws log right sent good (Made revision) None told left = tt
   left_good laws log right sent good (Made revision) (Some new) told left =
-      left_knows charter given log sent revision new good laws.sound
-      (laws.rows sent.control new sent.command sent.write revision left)
+      left_knows given log sent revision new good laws.sound
       (λ after made. laws.outcome charter log sent.control new good.process sent.command revision right good.by.sound
-      good.by.knows good.allowed made after)
+      good.by.goes_by good.allowed made after)
       told left
   left_good laws log right sent good Lost left told is =
       subst (λ (o : Option StoreControl). IfSome o (IsGoodControl given log)) (sym is) tt
   left_good laws log right sent good Unknown left told is =
       subst (λ (o : Option StoreControl). IfSome o (IsGoodControl given log)) (sym is) tt
+
+  run_right : FleetLaws service → (acts : List (WholeAct M Q R)) → IsGoodRun acts
+      → AreRight charter (whole_after acts).fleet.system.log
+  run_right fleets acts run =
+      subst (λ (fleet : Fleet M Q R). AreRight charter fleet.system.log) (sym (fleet_is acts))
+      (fleets.lawful charter (fleet_acts acts) refl run.might).right
+
+  -- settings that a control doesn't refuse may be sent by the charter
+  settings_may : ControlLaws Q R → (log : StoreLog Q R) → AreRight charter log → (control other : StoreControl)
+      (settings : List ℕ) → IsGoodControl given log control → MaySendSettings given log control other settings
+      → MaySend charter log (resettling_of control settings)
+  settings_may laws log right control other settings good may =
+      let draft = may.draft in
+      let one = may.settings in
+      let held = laws.held one draft.lead given.waits draft.reads draft.runs draft.placed other draft.loaded in
+      let knew =
+      laws.knows log (written_desk one) draft.lead one.ceiling given.waits draft.reads draft.runs draft.placed
+      other draft.sound draft.loaded draft.read in
+      subst (λ (waits : Bool). MaySend (charter_of given.reading waits (base_of service)) log
+      (resettling_of control settings)) good.waits
+      (laws.resettling given.reading (base_of service) log control other settings
+      (subst (λ (waits : Bool). AreRight (charter_of given.reading waits (base_of service)) log) (sym good.waits) right)
+      good.sound good.goes_by draft.sound draft.caps knew (may.are_read ∙ ap Some (sym held)) may.allowed)
 
   run_acts : ControlLaws Q R → FleetLaws service → (acts : List (WholeAct M Q R)) (act : WholeAct M Q R)
       → IsGoodRun acts → MayBeActed service given (whole_after acts) act → IsGoodRun (act ∷ acts)
@@ -210,19 +249,16 @@ module _ {M Q R : Type 0} (service : Automaton M Q R) (given : Given) where
         commands = commands_grow log (fleet_acted whole.fleet act).system.log grown.0 grown.1 whole.commands
             run.commands;
       }
-  run_acts laws fleets acts (Loads lead reads runs placed control) run may =
+  run_acts laws fleets acts (Loads settings lead reads runs placed control) run may =
       let log = (whole_after acts).fleet.system.log in
       let loaded = may.1 in
       record {
         might = run.might;
         controls = (
           record {
-            knows = laws.reading log (desk_given given) lead given.ceiling given.waits reads runs placed control may.0
-                loaded
-                may.2;
+            goes_by = laws.reading given.reading.settings log settings lead given.waits reads runs placed control may.0
+                loaded may.2;
             sound = may.0;
-            rows = loaded.rows;
-            ceiling = loaded.ceiling_is;
             waits = loaded.waits_is;
           },
           run.controls,
@@ -246,7 +282,8 @@ module _ {M Q R : Type 0} (service : Automaton M Q R) (given : Given) where
       } in
       let sends : MaySend charter log (command_sent sent) =
       sent_may (base_of service) given log sent mine
-      (laws.sending (base_of service) log sent.control acks process sent.command mine.by.sound mine.by.knows may.1
+      (laws.sending given.reading (base_of service) log sent.control acks process sent.command mine.by.sound
+      mine.by.goes_by may.1
       mine.allowed
       (subst (λ (c : StoreControl). has_waited c acks sent.command ≡ true) (sym judged.1)
       (subst (λ (c : Command). has_waited control acks c ≡ true) (sym judged.2) may.2))
@@ -265,14 +302,26 @@ module _ {M Q R : Type 0} (service : Automaton M Q R) (given : Given) where
     controls = run.controls;
     commands = run.commands;
   }
+  run_acts laws fleets acts (Resettles control other settings) run may =
+      let log = (whole_after acts).fleet.system.log in
+      let good : IsGoodControl given log control =
+      all_among (IsGoodControl given log) (whole_after acts).controls control run.controls may.0 in
+      let sends = settings_may laws log (run_right fleets acts run) control other settings good may.1 in
+      record {
+        might = (
+          subst (λ (fleet : Fleet M Q R). MaySend charter fleet.system.log (resettling_of control settings))
+              (fleet_is acts) sends,
+          run.might,
+        );
+        controls = run.controls;
+        commands = run.commands;
+      }
   run_acts laws fleets acts (Hears sent outcome left) run may =
       let whole = whole_after acts in
       let log = whole.fleet.system.log in
       let good : IsGoodCommand given log sent =
       all_among (IsGoodCommand given log) whole.commands sent run.commands may.0 in
-      let right : AreRight charter log =
-      subst (λ (fleet : Fleet M Q R). AreRight charter fleet.system.log) (sym (fleet_is acts))
-      (fleets.lawful charter (fleet_acts acts) refl run.might).right in
+      let right = run_right fleets acts run in
       record {
         might = run.might;
         controls = with_one log left whole.controls (left_good laws log right sent good outcome left may.1 may.2)
@@ -311,7 +360,7 @@ module _ {M Q R : Type 0} (service : Automaton M Q R) (given : Given) where
         (act_asks (whole_after acts).fleet act run.0 asked.0),
     all_ask laws acts run.1 asked.1,
   )
-  all_ask laws (Loads lead reads runs placed control ∷ acts) run asked = all_ask laws acts run.1 asked
+  all_ask laws (Loads settings lead reads runs placed control ∷ acts) run asked = all_ask laws acts run.1 asked
   all_ask laws (Judges control acks process command (Sent sent) ∷ acts) run asked =
       let judged = run.0.4 in (
         laws.asks (fleet_after (fleet_acts acts)).system.asked control process command (command_sent sent)
@@ -321,9 +370,13 @@ module _ {M Q R : Type 0} (service : Automaton M Q R) (given : Given) where
       )
   all_ask laws (Judges control acks process command (Refused kept fault) ∷ acts) run asked =
       all_ask laws acts run.1 asked
+  all_ask laws (Resettles control other settings ∷ acts) run asked = (
+    laws.asks_not (fleet_after (fleet_acts acts)).system.asked control settings,
+    all_ask laws acts run.1 asked,
+  )
   all_ask laws (Hears sent outcome left ∷ acts) run asked = all_ask laws acts run.1 asked
 
-  -- what holds of all runs of servers holds with controls
+  -- a property of all runs of servers also holds with controls
   pub lawful : ControlLaws Q R → FleetLaws service → (acts : List (WholeAct M Q R)) → IsRun service given acts
       → IsLawful service charter (whole_after acts).fleet.system
   lawful laws fleets acts run =
@@ -331,14 +384,10 @@ module _ {M Q R : Type 0} (service : Automaton M Q R) (given : Given) where
       (fleets.lawful charter (fleet_acts acts) refl (good_run laws fleets acts run).might)
 
   pub keeps_caps : ControlLaws Q R → FleetLaws service → (acts : List (WholeAct M Q R))
-      → AreSound (first_books given.rows) → IsRun service given acts
-      → AreSound (books_in (rows_of (first_books given.rows)) (placement_of (whole_after acts).fleet.system.log))
-      × MeetsCaps given.caps
-      (books_in (rows_of (first_books given.rows)) (placement_of (whole_after acts).fleet.system.log))
-  keeps_caps laws fleets acts sound run =
-      let rows = given.rows in
-      laws.caps rows.servers rows.groups rows.shards rows.domains given.caps given.ceiling given.waits (base_of service)
-      (whole_after acts).fleet.system.log sound (lawful laws fleets acts run).right
+      → IsRun service given acts → AreKeptBy given.reading (whole_after acts).fleet.system.log
+  keeps_caps laws fleets acts run =
+      laws.caps given.reading given.waits (base_of service) (whole_after acts).fleet.system.log
+      (lawful laws fleets acts run).right
 
   pub executed : ControlLaws Q R → FleetLaws service → (acts : List (WholeAct M Q R)) → IsRun service given acts
       → AreByExecutors (whole_after acts).fleet.system.log
@@ -354,15 +403,16 @@ module _ {M Q R : Type 0} (service : Automaton M Q R) (given : Given) where
   pub all_known : ControlLaws Q R → FleetLaws service → (acts : List (WholeAct M Q R)) → IsRun service given acts
       → AllByRecursion (λ (running : Running M Q R). IsTrueOf service (whole_after acts).fleet.system.log
       running.server) (whole_after acts).fleet.servers
-      × AllByRecursion (KnowsStore (whole_after acts).fleet.system.log) (whole_after acts).controls
+      × AllByRecursion (GoesByStore given.reading.settings (whole_after acts).fleet.system.log)
+      (whole_after acts).controls
   all_known laws fleets acts run =
       let good = good_run laws fleets acts run in
       let log = (whole_after acts).fleet.system.log in (
         subst (λ (fleet : Fleet M Q R). AllByRecursion (λ (running : Running M Q R). IsTrueOf service
             fleet.system.log running.server) fleet.servers) (sym (fleet_is acts))
             (fleets.known charter (fleet_acts acts) refl good.might),
-        all_map (IsGoodControl given log) (KnowsStore log) (λ control one. one.knows) (whole_after acts).controls
-            good.controls,
+        all_map (IsGoodControl given log) (GoesByStore given.reading.settings log) (λ control one. one.goes_by)
+            (whole_after acts).controls good.controls,
       )
 
 module _ {M Q R : Type 0} where

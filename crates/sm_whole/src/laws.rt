@@ -2,10 +2,7 @@
 
 ghost use Rattle.std.specs.Prelude.{◌≡◌, ℕ, List, Result, Some, slice_get};
 ghost use Rattle.std.specs.List.{AllByRecursion};
-ghost use Rattle.sm_place.specs.Sound.{AreSound};
-ghost use Rattle.sm_tasks.specs.Caps.{MeetsCaps};
 ghost use Rattle.sm_store.specs.Deeds.{Charter};
-ghost use Rattle.sm_store.specs.Store.{placement_of};
 ghost use Rattle.sm_store.specs.Linear.{IsLinear};
 ghost use Rattle.sm_store.specs.System.{IsLawful, system_after};
 ghost use Rattle.sm_shard.specs.declared.replica.ReplayFault.{ReplayFault};
@@ -17,33 +14,30 @@ ghost use Rattle.sm_shard.specs.Fleet.{Fleet, Running, Steps, events_of};
 ghost use Rattle.sm_shard.specs.ShardServers.{IsTrueOf};
 ghost use Rattle.sm_shard.specs.Steps.{IsInput};
 ghost use Rattle.sm_shard.specs.StoreServers.{IsStoreStep};
-ghost use Rattle.sm_lead.specs.Controls.{KnowsStore};
-ghost use Rattle.sm_lead.specs.Placements.{books_in, rows_of};
+ghost use Rattle.sm_lead.specs.Controls.{GoesByStore};
+ghost use Rattle.sm_lead.specs.Placements.{AreKeptBy};
 ghost use Rattle.sm_whole.specs.Runs.{AreByExecutors, AreGivenAsked, Given, IsRun, MayServe, WholeAct, charter_given};
-ghost use Rattle.sm_whole.specs.Runs.{first_books, fleet_acts, whole_after};
+ghost use Rattle.sm_whole.specs.Runs.{fleet_acts, whole_after};
 
 use sm_desk::laws::commands_keep_soundness;
 use sm_lead::laws::{
-    commands_ask_for_nothing, commands_keep_rows, commands_may_be_sent, controls_keep_caps,
-    outcomes_are_known, reading_is_known,
+    commands_ask_for_nothing, commands_may_be_sent, controls_keep_caps, outcomes_are_known,
+    reading_is_known, settings_may_be_sent,
 };
 use sm_shard::base_part::BasePart;
 use sm_shard::laws::{fleets_are_lawful, fleets_are_linear};
 use sm_shard::store_machine::StoreMachine;
 
 /// The law of all that runs. Take any run of any number of servers and controls over one store: each step of either is
-/// one of the code, messages come late, twice or never, and processes stop, forget and start. Then the store is lawful,
-/// the caps of approved restarts hold and there is room, and each batch was executed by the one server that the
-/// shard's record then named. What servers and controls hold is so in the store. If servers are given only requests
-/// that came, replies are linearizable.
+/// one of the code, messages come late, twice or never, processes stop, forget and start, and leading controls write
+/// other settings. Then the store is lawful, the caps of approved restarts hold and there is room, by the settings in
+/// force, and each batch was executed by the one server that the shard's record then named. All that servers and
+/// controls hold is true of the store. If servers are given only requests that came, replies are linearizable.
 pub fn servers_and_controls_are_lawful<Q: Drop, R: Copy + Drop, M: StoreMachine<Q, R>>()
     ensures lawful { (given : Given) (acts : List (WholeAct M Q R)) → IsRun M.service given acts
         → IsLawful M.service (charter_given M.service given) (whole_after acts).fleet.system }
-    ensures caps { (given : Given) (acts : List (WholeAct M Q R)) → AreSound (first_books given.rows)
-        → IsRun M.service given acts
-        → let placement = placement_of (whole_after acts).fleet.system.log in
-        let books = books_in (rows_of (first_books given.rows)) placement in
-        AreSound books × MeetsCaps given.caps books }
+    ensures caps { (given : Given) (acts : List (WholeAct M Q R)) → IsRun M.service given acts
+        → AreKeptBy given.reading (whole_after acts).fleet.system.log }
     ensures executors { (given : Given) (acts : List (WholeAct M Q R)) → IsRun M.service given acts
         → AreByExecutors (whole_after acts).fleet.system.log }
     ensures linear { (given : Given) (acts : List (WholeAct M Q R)) → IsRun M.service given acts
@@ -55,12 +49,12 @@ pub fn servers_and_controls_are_lawful<Q: Drop, R: Copy + Drop, M: StoreMachine<
         → let whole = whole_after acts in
         let log = whole.fleet.system.log in
         AllByRecursion (λ running. IsTrueOf M.service log running.server) whole.fleet.servers
-        × AllByRecursion (KnowsStore log) whole.controls }
+        × AllByRecursion (GoesByStore given.reading.settings log) whole.controls }
 {
     commands_keep_soundness();
-    commands_keep_rows();
     reading_is_known::<Q, BasePart<R>>();
     commands_may_be_sent::<Q, BasePart<R>>();
+    settings_may_be_sent::<Q, BasePart<R>>();
     commands_ask_for_nothing::<Q, BasePart<R>>();
     outcomes_are_known::<Q, BasePart<R>>();
     controls_keep_caps::<Q, BasePart<R>>();

@@ -1,4 +1,4 @@
--- What was acked stays acked, and a control's wait is for that.
+-- An ack that was made stays, and a control must wait only for that.
 use Rattle.std.proofs.Common.{◌≡◌, ◌≤◌, ℕ, Bool, true, List, [], ◌∷◌, ◌++◌, arith, ⊎_elim, inl, inr}
 use Rattle.std.specs.Prelude.{◌==◌, IfSome, Option, Some, None, max, nat_le}
 use Rattle.std.proofs.lemmas.Bool.{cond_both, leb-true, or_cases}
@@ -41,7 +41,7 @@ module _ {Q P : Type 0} (shard server : ℕ) where
       let rest = acked_writes (acked shard server before write) writes in
       omega arith
 
-  -- what was acked stays acked
+  -- an ack that was made stays
   pub acks_grow : (later past : List (Transaction Q P))
       → acked_of shard server past ≤ acked_of shard server (later ++ past)
   acks_grow [] past = omega arith
@@ -73,7 +73,7 @@ module _ {Q P : Type 0} where
   waited_grows later past read shard change waited =
       waited_for later past read shard (gives_up (read.records shard).stand change) waited
 
-  -- an ack that was made stands, so what was read of it tells that the server has let go
+  -- an ack that was made stays, so if it was read, the server has let go
   pub let_go_as_read : (log : List (Transaction Q P)) (read : Placement) (shard server acked : ℕ) (failed : Bool)
       → acked ≤ acked_of shard server log → (failed ≡ true → read.states server ≡ Failed)
       → has_let_go (read.records shard) acked failed ≡ true → HasLetGo log read shard server

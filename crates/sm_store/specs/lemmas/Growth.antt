@@ -1,4 +1,4 @@
--- What the store's growth leaves: what was read, what may be sent, and what was claimed.
+-- The growth of the store doesn't undo the values that were read, the transactions that may be sent, and the claims.
 use Rattle.std.proofs.Common.{◌≡◌, ℕ, Bool, true, false, List, [], ◌∷◌, ◌++◌, refl, sym, ap, subst, ◌∙◌}
 use Rattle.std.proofs.Common.{⊎_elim, inr, append_assoc, append-nil}
 use Rattle.std.specs.Prelude.{◌==◌, if◌then◌else◌}
@@ -11,6 +11,7 @@ use Rattle.sm_store.specs.Clients.{Automaton, AreNext, reply_in}
 use Rattle.sm_store.specs.Store.{Ack, Deletes, Transaction, head_key, made, made_by, touches}
 use Rattle.sm_store.specs.Deeds.{AreRight, Charter, Deed, Electing, Expiring, Changing, Executing, Basing, Naming}
 use Rattle.sm_store.specs.Deeds.{Clearing, Following, Restarting, Settling, Checking, Foreign, HasLed, HasRequests}
+use Rattle.sm_store.specs.Deeds.{Resettling}
 use Rattle.sm_store.specs.Deeds.{IsRight, MayAck, MayClear, MayDo, MaySend}
 use Rattle.sm_store.specs.Deeds.{WasFound, transaction_of}
 use Rattle.sm_store.specs.System.{Ask, Claim, Replies, Overtaken, Reads, IsSo, WasAsked}
@@ -30,7 +31,7 @@ next_split {Q = Q} before (item ∷ items) ys next =
     (next_split (before ++ item ∷ []) items ys next.1)
 
 module _ {Q P : Type 0} where
-  -- what was read once was read, however the store goes on
+  -- a value that was read once was read, however the store goes on
   pub found_grows : {A : Type 0} (view : List (Transaction Q P) → A) (key : StoreKey)
       (more log : List (Transaction Q P))
       (value : A) (revision : ℕ) → WasFound view key log value revision → WasFound view key (more ++ log) value revision
@@ -94,7 +95,8 @@ module _ {Q P : Type 0} (charter : Charter Q P) where
     within = may.within;
     led = led_grows more log process elected may.led;
     read = may.read;
-    placement_was = found_grows _ _ more log _ _ may.placement_was;
+    settings = may.settings;
+    footing = found_grows _ _ more log _ _ may.footing;
     allowed = may.allowed;
     changed = may.changed;
     waited = λ waits. waited_grows more log may.read shard change (may.waited waits);
@@ -126,18 +128,28 @@ module _ {Q P : Type 0} (charter : Charter Q P) where
   may_grow more log (Restarting process server run elected placed) may = record {
     led = led_grows more log process elected may.led;
     read = may.read;
-    placement_was = found_grows _ _ more log _ _ may.placement_was;
+    settings = may.settings;
+    footing = found_grows _ _ more log _ _ may.footing;
     allowed = may.allowed;
     next = may.next;
     waited = λ waits stops. have_let_go_grows more log may.read charter.count server (may.waited waits stops);
   }
   may_grow more log (Settling settings) may = tt
+  may_grow more log (Resettling process settings elected placed) may = record {
+    led = led_grows more log process elected may.led;
+    read = may.read;
+    old = may.old;
+    footing = found_grows _ _ more log _ _ may.footing;
+    new = may.new;
+    new_are = may.new_are;
+    replaces = may.replaces;
+  }
   may_grow more log (Following server revision acks told) may =
       all_map (MayAck log server) (MayAck (more ++ log) server) (ack_grows more log server) acks may
   may_grow more log (Checking compares) may = tt
   may_grow more log Foreign may = tt
 
-  -- what may be sent once may be sent later
+  -- a transaction that may be sent once may be sent later
   pub send_grows : (more log : List (Transaction Q P)) (txn : Transaction Q P) → MaySend charter log txn
       → MaySend charter (more ++ log) txn
   send_grows more log txn may = record { deed = may.deed; is = may.is; may = may_grow more log may.deed may.may }
@@ -164,6 +176,7 @@ module _ {Q P : Type 0} (charter : Charter Q P) where
       next_none (made shard log) (touches {Q = Q} {P = P} (head_key shard) (Deletes keys ∷ [])) [] refl
   added_next shard log (Restarting process server run elected placed) right = tt
   added_next shard log (Settling settings) right = tt
+  added_next shard log (Resettling process settings elected placed) right = tt
   added_next shard log (Following server revision acks told) right = tt
   added_next shard log (Checking compares) right = tt
   added_next shard log Foreign right = tt
@@ -176,7 +189,7 @@ module _ {Q P : Type 0} (charter : Charter Q P) where
       (subst (λ (t : Transaction Q P). AreNext (made shard earlier) (made_by shard t.writes)) (sym right.0.is)
       (added_next shard earlier right.0.deed right.0.right))
 
--- what was asked was asked, whatever is asked later
+-- a request that was asked was asked, whatever is asked later
 pub asked_grows : {Q : Type 0} (new : Ask Q) (asked : List (Ask Q)) (shard client number : ℕ) (ask : Ask Q)
     → WasAsked asked shard client number ask → WasAsked (new ∷ asked) shard client number ask
 asked_grows new asked shard client number ask was = record {
@@ -187,7 +200,7 @@ asked_grows new asked shard client number ask was = record {
 }
 
 module _ {Q P R S : Type 0} (service : Automaton S Q R) where
-  -- what is so stays so as the store goes on
+  -- a claim that is true stays true as the store goes on
   pub so_grows : (asked : List (Ask Q)) (more log : List (Transaction Q P)) (claim : Claim Q R)
       → IsSo service asked log claim → IsSo service asked (more ++ log) claim
   so_grows asked more log (Replies shard client number request answer) so =
@@ -210,7 +223,7 @@ module _ {Q P R S : Type 0} (service : Automaton S Q R) where
     text_is = so.text_is;
   }
 
-  -- and as more is asked
+  -- a claim stays true as more is asked
   pub so_asked : (new : Ask Q) (asked : List (Ask Q)) (log : List (Transaction Q P)) (claim : Claim Q R)
       → IsSo service asked log claim → IsSo service (new ∷ asked) log claim
   so_asked new asked log (Replies shard client number request answer) so = so

@@ -1,4 +1,4 @@
--- The head of a log only rises, and the requests of its first batches stay what they are.
+-- The head of a log only rises, and the requests of its first batches never change.
 use Rattle.std.proofs.Common.{◌≡◌, ℕ, ◌+◌, ◌≤◌, Bool, true, false, List, [], ◌∷◌, ◌++◌, refl, sym, ap, subst, ◌∙◌}
 use Rattle.std.proofs.Common.{arith, ⊎_elim, inl, inr, append-nil}
 use Rattle.std.specs.Prelude.{nat_lt, ◌==◌, ◌⊎◌, if◌then◌else◌}
@@ -8,9 +8,10 @@ use Rattle.sm_store.specs.declared.item.Item.{Item}
 use Rattle.sm_store.specs.Store.{Transaction, Write, head_key, head_of, made, made_by, made_until, executed_by, touches}
 use Rattle.sm_store.specs.Deeds.{Charter, Deed, Electing, Expiring, Changing, Executing, Basing, Naming, Clearing}
 use Rattle.sm_store.specs.Deeds.{Following, Restarting, Settling, Checking, Foreign, transaction_of, HasRequests}
+use Rattle.sm_store.specs.Deeds.{Resettling}
 use Rattle.sm_store.specs.Deeds.{IsRight, AreRight, ShardLog}
 
--- there are as many batches, and as new a base
+-- there are at least as many batches, and the base isn't older
 pub record IsRisen (old new : Head) : Type 0 where
   pub batches : old.batches ≤ new.batches
   pub base : old.base ≤ new.base
@@ -18,7 +19,7 @@ pub record IsRisen (old new : Head) : Type 0 where
 risen_same : (head : Head) → IsRisen head head
 risen_same head = record { batches = omega arith; base = omega arith }
 
--- where no batch is added, or one
+-- a head after a step that adds one batch, or none
 abbrev pub GoesOn : {Q : Type 0} → Head → Head → List (Item Q) → Type 0
 GoesOn old new items = (items ≡ []) ⊎ (new.batches ≡ old.batches + 1)
 
@@ -60,6 +61,7 @@ module _ {Q P : Type 0} (charter : Charter Q P) (shard : ℕ) where
   risen_one log (Clearing keys) right = risen_same (before log)
   risen_one log (Restarting process server run elected placed) right = risen_same (before log)
   risen_one log (Settling settings) right = risen_same (before log)
+  risen_one log (Resettling process settings elected placed) right = risen_same (before log)
   risen_one log (Following server revision acks told) right = risen_same (before log)
   risen_one log (Checking compares) right = risen_same (before log)
   risen_one log Foreign right = risen_same (before log)
@@ -115,6 +117,8 @@ module _ {Q P : Type 0} (charter : Charter Q P) (shard : ℕ) where
       (transaction_of {Q = Q} {P = P} (Restarting process server run elected placed)).writes refl)
   goes_one log (Settling settings) right = inl (no_made
       (transaction_of {Q = Q} {P = P} (Settling settings)).writes refl)
+  goes_one log (Resettling process settings elected placed) right = inl (no_made
+      (transaction_of {Q = Q} {P = P} (Resettling process settings elected placed)).writes refl)
   goes_one log (Following server revision acks told) right = inl (no_made
       (transaction_of {Q = Q} {P = P} (Following server revision acks told)).writes refl)
   goes_one log (Checking compares) right = inl (no_made (transaction_of {Q = Q} {P = P} (Checking compares)).writes
@@ -128,7 +132,7 @@ module _ {Q P : Type 0} (charter : Charter Q P) (shard : ℕ) where
       (made_by shard t.writes))
       (sym right.0.is) (goes_one earlier right.0.deed right.0.right)
 
-  -- where nothing is added, the first batches are the same
+  -- if no batch is added, the first batches are the same
   pub until_none : (number : ℕ) (txn : Transaction Q P) (earlier : List (Transaction Q P)) → made_by shard txn.writes
       ≡ []
       → made_until shard number (txn ∷ earlier) ≡ made_until shard number earlier
@@ -140,7 +144,7 @@ module _ {Q P : Type 0} (charter : Charter Q P) (shard : ℕ) where
       ++ made_by shard txn.writes)
       (made_until shard number earlier) (λ items. items ≡ made_until shard number earlier) (λ _. same) (λ _. refl)
 
-  -- those that were there stay the first
+  -- the batches that were there stay the first
   pub until_there : (number : ℕ) (txn : Transaction Q P) (earlier : List (Transaction Q P))
       → number ≤ (head_of shard earlier).batches
       → made_until shard number (txn ∷ earlier) ≡ made_until shard number earlier
@@ -177,7 +181,7 @@ module _ {Q P : Type 0} (charter : Charter Q P) (shard : ℕ) where
       ∙ ap (λ (items : List (Item Q)). items ++ made_by shard txn.writes) rest)
       (goes_on txn earlier right)
 
-  -- what one has read of the first batches is so
+  -- if the requests of the first batches were read, they are still the requests of those batches
   pub read_until : (number : ℕ) (items : List (Item Q)) (log : List (Transaction Q P)) → AreRight charter log
       → HasRequests log shard number items
       → (number ≤ (head_of shard log).batches) × (made_until shard number log ≡ items)

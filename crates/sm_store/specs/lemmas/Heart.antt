@@ -1,4 +1,4 @@
--- A compare that holds means that what was read is what stands.
+-- If a compare holds, the value that was read is still the store's value.
 use Rattle.std.proofs.Common.{◌≡◌, ℕ, ◌<◌, ◌≤◌, Bool, true, false, List, [], ◌∷◌, ◌++◌, refl, sym, ap}
 use Rattle.std.proofs.Common.{subst, ◌∙◌, arith, ⊎_elim, inl, inr}
 use Rattle.std.specs.Prelude.{◌==◌, ◌||◌, ◌⊎◌, if◌then◌else◌}
@@ -27,16 +27,16 @@ or_neither : (a b : Bool) → (a || b) ≡ false → (a ≡ false) × (b ≡ fal
 or_neither true b none = absurd (true≢false none)
 or_neither false b none = (refl, none)
 
--- a compare of this revision tells of the key: it is never deleted, or is there
+-- a compare of this revision says something of the key: the key is never deleted, or is there
 abbrev pub IsTelling : StoreKey → ℕ → Type 0
 IsTelling key revision = (is_lasting key ≡ true) ⊎ (0 < revision)
 
--- a write of the key leaves it at this revision, or deletes it, where it may be deleted
+-- a write of the key gives it this revision, or deletes it, if it may be deleted
 abbrev pub IsRevised : StoreKey → ℕ → ℕ → Type 0
 IsRevised key now left = (left ≡ now) ⊎ ((left ≡ 0) × (is_lasting key ≡ false))
 
--- a key that is deleted may be
-deleted_apart : (keys : List PassingKey) (key : StoreKey)
+-- a key that is deleted is one that may be deleted
+pub deleted_apart : (keys : List PassingKey) (key : StoreKey)
     → list_any (λ one. same_store_key (Passing one) key) keys ≡ true → is_lasting key ≡ false
 deleted_apart [] key same = absurd (true≢false (sym same))
 deleted_apart (one ∷ keys) (Lasting key) same = deleted_apart keys (Lasting key) same
@@ -49,7 +49,7 @@ module _ {Q P : Type 0} where
       (txn : Transaction Q P) (earlier : List (Transaction Q P)) → touches key txn.writes ≡ false
       → view (txn ∷ earlier) ≡ view earlier
 
-  -- no write of another key by such a transaction does
+  -- no write of another key by such a transaction changes the view
   abbrev pub IsViewAmong : {A : Type 0} → (Transaction Q P → Type 0) → (List (Transaction Q P) → A) → StoreKey → Type 0
   IsViewAmong IsSuch view key =
       (txn : Transaction Q P) (earlier : List (Transaction Q P)) → IsSuch txn → touches key txn.writes ≡ false
@@ -170,7 +170,8 @@ module _ {Q P : Type 0} where
   all_front IsSuch [] past all = tt
   all_front IsSuch (txn ∷ later) past all = (all.0, all_front IsSuch later past all.1)
 
-  -- what was read stands, where all transactions are such, and its key's revision is the one that was read
+  -- a value that was read is still there, if all transactions are of this kind, and if its key's revision is the one
+  -- that was read
   pub stands_among : {A : Type 0} (IsSuch : Transaction Q P → Type 0) (view : List (Transaction Q P) → A)
       (key : StoreKey) → IsViewAmong IsSuch view key → (log : List (Transaction Q P)) (value : A) (revision : ℕ)
       → IsRising log → AllByRecursion IsSuch log → IsTelling key revision → WasFound view key log value revision
@@ -184,7 +185,7 @@ module _ {Q P : Type 0} where
       (subst (IsTelling key) (sym found.at) telling) same
       ∙ found.was
 
-  -- what was read stands, where its key's revision is the one that was read
+  -- a value that was read is still there if its key's revision is the one that was read
   pub stands : {A : Type 0} (view : List (Transaction Q P) → A) (key : StoreKey) → IsViewOf view key
       → (log : List (Transaction Q P)) (value : A) (revision : ℕ) → IsRising log → IsTelling key revision
       → WasFound view key log value revision → revision_of key log ≡ revision → view log ≡ value
@@ -197,7 +198,7 @@ module _ {Q P : Type 0} where
       ∙ found.was
 
   -- of two ends of one list, one is an end of the other
-  ends : (xs ys a b : List (Transaction Q P)) → xs ++ a ≡ ys ++ b
+  pub ends : (xs ys a b : List (Transaction Q P)) → xs ++ a ≡ ys ++ b
       → ((more : List (Transaction Q P)) × (a ≡ more ++ b)) ⊎ ((more : List (Transaction Q P)) × (b ≡ more ++ a))
   unfolding tail_of
   ends [] ys a b same = inl (ys, same)
@@ -209,7 +210,7 @@ module _ {Q P : Type 0} where
   all_back IsSuch [] past all = all
   all_back IsSuch (txn ∷ later) past all = all_back IsSuch later past all.1
 
-  -- what was read stood at each moment at which its key's revision was the one that was read
+  -- a value that was read was there at each moment at which its key's revision was the one that was read
   pub stood_among :
       {A : Type 0} (IsSuch : Transaction Q P → Type 0) (view : List (Transaction Q P) → A) (key : StoreKey)
       → IsViewAmong IsSuch view key → (log : List (Transaction Q P)) (value : A) (revision : ℕ)

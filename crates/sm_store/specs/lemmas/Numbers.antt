@@ -1,4 +1,4 @@
--- The numbers of a client's requests grow, so none is made twice, and what is passed over isn't made later.
+-- The numbers of a client's requests grow, so none is made twice, and a number that is passed over isn't made later.
 use Rattle.std.proofs.Common.{◌≡◌, ℕ, ◌+◌, ◌<◌, Bool, true, false, List, [], ◌∷◌, ◌++◌, refl, sym, subst, arith}
 use Rattle.std.proofs.Common.{◌∙◌, ap, inl, inr, ⊎_elim}
 use Rattle.std.proofs.Common.{append_assoc, append-nil}
@@ -33,7 +33,7 @@ module _ {Q : Type 0} where
   floor-append [] ys = omega arith
   floor-append (item ∷ items) ys = let rest = floor-append items ys in omega arith
 
-  -- what is over stays so
+  -- a number that is over stays over
   pub over_grows : (client number : ℕ) (items more all : List (Item Q)) → all ≡ items ++ more
       → IsOver client number items → IsOver client number all
   over_grows client number items more all is over =
@@ -77,7 +77,7 @@ module _ {Q R S : Type 0} (service : Automaton S Q R) where
   reply_step true found rest longer r goes is = is
   reply_step false found rest longer r goes is = goes is
 
-  -- a reply stays what it was
+  -- a reply never changes
   pub reply-append : (state : S) (xs ys : List (Item Q)) (client number : ℕ) (r : R)
       → reply_in service state xs client number ≡ Some r → reply_in service state (xs ++ ys) client number
       ≡ Some r

@@ -1,4 +1,4 @@
--- The parts of a base are what they should be, and stay while no newer base is named.
+-- The parts of a base are the ones of its requests, and stay while no newer base is named.
 use Rattle.std.proofs.Common.{◌≡◌, ℕ, ◌<◌, ◌≤◌, Bool, true, false, List, [], ◌∷◌, ◌++◌, Option, Some, None, refl, sym}
 use Rattle.std.proofs.Common.{ap, subst, ◌∙◌, arith, ⊎_elim, inl, inr}
 use Rattle.std.specs.Prelude.{IsTrue, ◌==◌, ◌&&◌, ◌⊎◌, slice_get, unwrap_or, if◌then◌else◌}
@@ -11,6 +11,7 @@ use Rattle.sm_store.specs.declared.store_key.PassingKey.TheVariants.{Leader, Ser
 use Rattle.sm_store.specs.Store.{Transaction, head_of, made_until, part_at, deletes_key, same_passing, Deletes, unmade}
 use Rattle.sm_store.specs.Deeds.{Charter, Deed, Electing, Expiring, Changing, Executing, Basing, Naming, Clearing}
 use Rattle.sm_store.specs.Deeds.{Following, Restarting, Settling, Checking, Foreign, transaction_of, is_leased}
+use Rattle.sm_store.specs.Deeds.{Resettling}
 use Rattle.sm_store.specs.Deeds.{IsBehind, IsRight, AreRight}
 use Rattle.sm_store.specs.lemmas.Heads.{risen_by, until_there}
 
@@ -23,7 +24,7 @@ pub none_or : {A : Type 0} (b : Bool) (y : A) (o : Option A) → (if b then None
 none_or true y o is = absurd (none-some _ is)
 none_or false y o is = is
 
--- a key isn't one of these, if each is another
+-- a key isn't one of these, if each of these is of another kind
 pub has_none : (key : PassingKey) (IsSuch : PassingKey → Type 0)
     → ((one : PassingKey) → IsSuch one → same_passing one key ≡ false) → (keys : List PassingKey)
     → AllByRecursion IsSuch keys → deletes_key keys key ≡ false
@@ -31,12 +32,12 @@ has_none key IsSuch apart [] all = refl
 has_none key IsSuch apart (one ∷ keys) all = rw (apart one all.0) (has_none key IsSuch apart keys all.1)
 
 module _ {Q P : Type 0} (charter : Charter Q P) (shard number place : ℕ) where
-  -- the part is the base's, of batches that are there
+  -- the part belongs to the base of batches that are there
   pub record IsPartOf (log : List (Transaction Q P)) (part : P) : Type 0 where
     pub within : number ≤ (head_of shard log).batches
     pub is : slice_get (charter.parts (made_until shard number log)) place ≡ Some part
 
-  -- what is there after a deed was there before it, or is written by it
+  -- a part that is there after a deed was there before it, or the deed writes it
   written : (log : List (Transaction Q P)) (deed : Deed Q P) (part : P) → IsRight charter log deed
       → part_at shard number place (transaction_of deed ∷ log) ≡ Some part
       → (part_at shard number place log ≡ Some part) ⊎ IsPartOf log part
@@ -66,6 +67,7 @@ module _ {Q P : Type 0} (charter : Charter Q P) (shard number place : ℕ) where
   written log (Clearing keys) part right is = inl (none_or (deletes_key keys (Part shard number place)) part _ is)
   written log (Restarting process server run elected placed) part right is = inl is
   written log (Settling settings) part right is = inl is
+  written log (Resettling process settings elected placed) part right is = inl is
   written log (Following server revision acks told) part right is = inl is
   written log (Checking compares) part right is = inl is
   written log Foreign part right is = inl is
@@ -81,7 +83,7 @@ module _ {Q P : Type 0} (charter : Charter Q P) (shard number place : ℕ) where
             (until_there charter shard number txn earlier was.within) ∙ was.is;
       }
 
-  -- each part that is there is the base's
+  -- each part that is there belongs to the base
   pub part_is : (log : List (Transaction Q P)) (part : P) → AreRight charter log
       → part_at shard number place log ≡ Some part → IsPartOf log part
   part_is [] part right is = absurd (none-some _ is)
@@ -150,6 +152,7 @@ module _ {Q P : Type 0} (charter : Charter Q P) (shard number place : ℕ) where
       (λ key behind. behind_apart log key behind newest) keys right) has
   stays_one log (Restarting process server run elected placed) right newest has = has
   stays_one log (Settling settings) right newest has = has
+  stays_one log (Resettling process settings elected placed) right newest has = has
   stays_one log (Following server revision acks told) right newest has = has
   stays_one log (Checking compares) right newest has = has
   stays_one log Foreign right newest has = has
@@ -160,7 +163,7 @@ module _ {Q P : Type 0} (charter : Charter Q P) (shard number place : ℕ) where
       subst (λ (t : Transaction Q P). HasPart (t ∷ earlier)) (sym right.0.is)
       (stays_one earlier right.0.deed right.0.right newest has)
 
-  -- a part that was there is there, while no newer base is named
+  -- a part that was there is still there, while no newer base is named
   pub part_stays : (later past : List (Transaction Q P)) → AreRight charter (later ++ past)
       → (head_of shard (later ++ past)).base ≤ number → HasPart past → HasPart (later ++ past)
   part_stays [] past right newest has = has

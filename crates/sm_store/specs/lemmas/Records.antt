@@ -1,5 +1,4 @@
--- What a right transaction leaves of a shard's record: a change as the rule says, for whose wait is seen, or the
--- record.
+-- A shard's record after a right transaction: it changes as the rule says, and the change has waited, or it stays.
 use Rattle.std.proofs.Common.{◌≡◌, ℕ, ◌+◌, ◌<◌, true, false, List, [], ◌∷◌, ◌++◌, refl, sym, ap}
 use Rattle.std.proofs.Common.{subst, ◌∙◌, arith, ⊎_elim, inl, inr}
 use Rattle.std.specs.Prelude.{Bool, IsTrue, ◌==◌, ◌⊎◌, Option, Some, None, is_some, nat_lt, not}
@@ -11,10 +10,12 @@ use Rattle.sm_ownership.specs.History.{after_change, change_fits}
 use Rattle.sm_ownership.specs.Rules.{stand_after}
 use Rattle.sm_store.specs.Store.{Transaction, placement_of, stored_record}
 use Rattle.sm_store.specs.Deeds.{AreRight, Charter, Deed, Electing, Expiring, Changing, Restarting, Settling, Executing}
+use Rattle.sm_store.specs.Deeds.{Resettling}
 use Rattle.sm_store.specs.Deeds.{Basing, Naming, Clearing, Following, Checking, Foreign, IsRight, WasRight, done_at}
 use Rattle.sm_store.specs.Waits.{HasWaited}
 
--- a transaction changes the shard's record as the rule says; if changes wait, whoever this one waits for has let go
+-- a transaction changes the shard's record as the rule says; if changes must wait, the server that this one waits for
+-- has let go
 pub record IsChange {Q P : Type 0} (waits : Bool) (shard : ℕ) (log : List (Transaction Q P))
     (txn : Transaction Q P) : Type 0 where
   pub change : Change
@@ -23,7 +24,7 @@ pub record IsChange {Q P : Type 0} (waits : Bool) (shard : ℕ) (log : List (Tra
   pub leads : stand_after (stored_record shard log).stand change ≡ Some after
   pub waited : IsTrue waits → HasWaited log (placement_of log) shard change
 
--- or leaves it
+-- a transaction doesn't change the shard's record, or changes it in this way
 abbrev pub RecordStep : {Q P : Type 0} → Bool → ℕ → List (Transaction Q P) → Transaction Q P → Type 0
 RecordStep waits shard log txn =
     (stored_record shard (txn ∷ log) ≡ stored_record shard log) ⊎ IsChange waits shard log txn
@@ -67,6 +68,7 @@ module _ {Q P : Type 0} (charter : Charter Q P) (shard revision : ℕ) where
   record_deed log (Expiring keys) right = inl refl
   record_deed log (Restarting process server run elected placed) right = inl refl
   record_deed log (Settling settings) right = inl refl
+  record_deed log (Resettling process settings elected placed) right = inl refl
   record_deed log (Executing at server items head stood logged) right = inl refl
   record_deed log (Basing at number place part) right = inl refl
   record_deed log (Naming at head number parts logged) right = inl refl

@@ -1,4 +1,5 @@
--- A log is read from what was seen at its keys, at any moments: the base that a head names, and the batches after it.
+-- A log is read from the values that were seen at its keys, at any moments: the base that a head names, and the batches
+-- after it.
 use Rattle.std.proofs.Common.{◌≡◌, ℕ, ◌+◌, ◌<◌, ◌≤◌, true, List, [], ◌∷◌, ◌++◌, length}
 use Rattle.std.proofs.Common.{Some, refl, sym, ap, subst, ◌∙◌, arith, ⊎_elim, inl, inr, append-nil, append_assoc}
 use Rattle.std.proofs.Common.{add-one}
@@ -13,6 +14,7 @@ use Rattle.sm_store.specs.Store.{Transaction, batch_at, head_key, head_of, made,
 use Rattle.sm_store.specs.Store.{deletes_key, last_revision}
 use Rattle.sm_store.specs.Deeds.{Charter, Deed, Electing, Expiring, Changing, Executing, Basing, Naming, Clearing}
 use Rattle.sm_store.specs.Deeds.{Following, Restarting, Settling, Checking, Foreign, transaction_of, IsRight, AreRight}
+use Rattle.sm_store.specs.Deeds.{Resettling}
 use Rattle.sm_store.specs.Deeds.{HasRequests, WasFound, done_at, shard_log}
 use Rattle.sm_store.specs.Whole.{AreBatches, AreParts, WasSeen, all_items, base_parts}
 use Rattle.sm_store.specs.lemmas.Growth.{made_next}
@@ -20,7 +22,7 @@ use Rattle.sm_store.specs.lemmas.Heads.{read_until, right_past, risen, until_all
 use Rattle.sm_store.specs.lemmas.Parts.{none_or, part_is, some_or}
 use Rattle.sm_store.specs.lemmas.Whole.{based, none}
 
--- what stands at each place of a list from this place on
+-- the elements at each place of a list, from this place on
 abbrev StandAt : {A : Type 0} → List A → ℕ → List A → Type 0
 StandAt all place [] = Unit {0}
 StandAt all place (x ∷ xs) = (slice_get all place ≡ Some x) × StandAt all (place + 1) xs
@@ -47,12 +49,12 @@ same_list (y ∷ ys) (x ∷ xs) stand long =
     cc
 
 module _ {Q P : Type 0} (charter : Charter Q P) (shard : ℕ) where
-  -- the batch after so many holds the requests that come next
+  -- the batch after this many holds the requests that come next
   record IsNextBatch (log : List (Transaction Q P)) (number : ℕ) (items : List (Item Q)) : Type 0 where
     pub within : number + 1 ≤ (head_of shard log).batches
     pub next : made_until shard (number + 1) log ≡ made_until shard number log ++ items
 
-  -- a batch that is there after a deed was there before it, or is written by it
+  -- a batch that is there after a deed was there before it, or the deed writes it
   written : (log : List (Transaction Q P)) (revision : ℕ) (deed : Deed Q P) (number : ℕ) (items : List (Item Q))
       → last_revision log < revision → IsRight charter log deed → AreRight charter log
       → batch_at shard (number + 1) (done_at revision deed ∷ log) ≡ Some items
@@ -94,6 +96,7 @@ module _ {Q P : Type 0} (charter : Charter Q P) (shard : ℕ) where
   written log revision (Following server seen acks told) number items above right rights is = inl is
   written log revision (Restarting process server run elected placed) number items above right rights is = inl is
   written log revision (Settling settings) number items above right rights is = inl is
+  written log revision (Resettling process settings elected placed) number items above right rights is = inl is
   written log revision (Checking compares) number items above right rights is = inl is
   written log revision Foreign number items above right rights is = inl is
 
@@ -109,7 +112,7 @@ module _ {Q P : Type 0} (charter : Charter Q P) (shard : ℕ) where
             (until_stays charter shard number later past right (omega arith)));
       }
 
-  -- each batch that is there is the next
+  -- each batch that is there holds the requests that come next
   batch_is : (log : List (Transaction Q P)) (number : ℕ) (items : List (Item Q)) → AreRight charter log
       → batch_at shard (number + 1) log ≡ Some items → IsNextBatch log number items
   batch_is [] number items right is = absurd (none-some _ is)
@@ -164,7 +167,8 @@ module _ {Q P : Type 0} (charter : Charter Q P) (shard : ℕ) where
     parts_were log number (place + 1) parts right seen.1,
   )
 
-  -- what was read is the log as it was with the head: the requests of the base, and those of the batches after it
+  -- the values that were read are the log as it was with the head: the requests of the base, and the requests of the
+  -- batches after it
   pub record IsReadWhole (log : List (Transaction Q P)) (head : Head) (logged : ℕ) (parts : List P)
       (batches : List (List (Item Q))) : Type 0 where
     pub first : List (Item Q)
@@ -220,7 +224,7 @@ module _ {Q P : Type 0} (charter : Charter Q P) (shard : ℕ) where
         next = subst (AreNext []) items (made_next charter shard past right_then);
       }
 
-  -- who has the requests of the first batches, so many, has those of a later head by the batches between
+  -- from the requests of this many first batches and the batches after them follow the requests of a later head
   pub read_on : (log : List (Transaction Q P)) (number : ℕ) (before : List (Item Q)) (head : Head) (logged : ℕ)
       (batches : List (List (Item Q))) → AreRight charter log → HasRequests log shard number before
       → WasFound (head_of shard) (head_key shard) log head logged

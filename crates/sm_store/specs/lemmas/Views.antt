@@ -1,4 +1,4 @@
--- Which key's writes change what is read of the store.
+-- Which key's writes change a value that is read from the store.
 use Rattle.std.proofs.Common.{◌≡◌, ℕ, false, List, [], ◌∷◌, ◌++◌, refl, sym, subst, ap, ◌∙◌, append-nil, Some, None}
 use Rattle.std.specs.Prelude.{◌==◌, ◌&&◌}
 use Rattle.std.specs.List.{AllByRecursion}
@@ -15,12 +15,13 @@ use Rattle.sm_store.specs.Store.{batched, batch_at, based_on, part_at, executed_
 use Rattle.sm_store.specs.Store.{placement_key, placement_of, settings_key, stored_settings, settled}
 use Rattle.sm_store.specs.Store.{IsRising, Transaction}
 use Rattle.sm_store.specs.Deeds.{AreRight, Charter, Deed, Electing, Expiring, Changing, Restarting, Settling, Executing}
+use Rattle.sm_store.specs.Deeds.{Resettling}
 use Rattle.sm_store.specs.Deeds.{Basing, Naming, Clearing, Following, Checking, Foreign, done_at, shard_log}
 use Rattle.sm_store.specs.Deeds.{transaction_of}
 use Rattle.sm_store.specs.lemmas.Heart.{IsViewAmong, IsViewOf, apart_writes}
 
 module _ {Q P : Type 0} where
-  -- a write of another key leaves the value
+  -- a write of another key doesn't change the value
   abbrev IsLocal : {A : Type 0} → (A → Write Q P → A) → StoreKey → Type 0
   IsLocal {A} one key =
       (before : A) (write : Write Q P) → is_write_of key write ≡ false → one before write
@@ -159,7 +160,7 @@ module _ {Q P : Type 0} where
   pub settings_view : IsViewOf (stored_settings {Q = Q} {P = P}) settings_key
   settings_view = local_view settled None settings_key settled_local
 
-  -- the transaction is that of a deed
+  -- the transaction belongs to a deed
   abbrev pub IsOfDeed : Transaction Q P → Type 0
   IsOfDeed txn = (deed : Deed Q P) × (txn ≡ done_at txn.revision deed)
 
@@ -184,6 +185,7 @@ module _ {Q P : Type 0} where
   placed_apart (Changing process shard change next elected placed) earlier apart = absurd (true≢false apart)
   placed_apart (Restarting process server run elected placed) earlier apart = absurd (true≢false apart)
   placed_apart (Settling settings) earlier apart = refl
+  placed_apart (Resettling process settings elected placed) earlier apart = absurd (true≢false apart)
   placed_apart (Executing shard server items head stood logged) earlier apart = refl
   placed_apart (Basing shard number place part) earlier apart = refl
   placed_apart (Naming shard head number parts logged) earlier apart = refl
@@ -192,7 +194,7 @@ module _ {Q P : Type 0} where
   placed_apart (Checking compares) earlier apart = refl
   placed_apart Foreign earlier apart = refl
 
-  -- no deed changes a record or a state that doesn't write the placement's key
+  -- a deed that doesn't write the placement's key changes no record and no state
   pub placement_view : IsViewAmong IsOfDeed placement_of placement_key
   placement_view txn earlier of apart =
       subst (λ (t : Transaction Q P). placement_of (t ∷ earlier) ≡ placement_of earlier) (sym of.1)

@@ -1,4 +1,4 @@
--- What lies at a shard's keys is all that is made.
+-- The values at a shard's keys are all requests that are made.
 use Rattle.std.proofs.Common.{◌≡◌, ◌≢◌, ℕ, ◌+◌, ◌<◌, ◌≤◌, Bool, true, false, List, [], ◌∷◌, ◌++◌, Some, None, length}
 use Rattle.std.proofs.Common.{refl, sym, ap, subst, ◌∙◌, arith, ⊎_elim, inl, inr, append-nil, zero, suc}
 use Rattle.std.specs.Prelude.{IsTrue, ◌==◌, ◌&&◌, ◌⊎◌, nat_lt, slice_get}
@@ -12,6 +12,7 @@ use Rattle.sm_store.specs.Store.{Transaction, batch_at, head_of, made, made_by, 
 use Rattle.sm_store.specs.Store.{deletes_key, last_revision, unmade}
 use Rattle.sm_store.specs.Deeds.{Charter, Deed, Electing, Expiring, Changing, Executing, Basing, Naming, Clearing}
 use Rattle.sm_store.specs.Deeds.{Following, Restarting, Settling, Checking, Foreign, transaction_of, is_leased}
+use Rattle.sm_store.specs.Deeds.{Resettling}
 use Rattle.sm_store.specs.Deeds.{IsBehind, IsRight, AreRight, done_at}
 use Rattle.sm_store.specs.Whole.{AreThere, IsBased, IsBatchThere, IsLogWhole, base_parts}
 use Rattle.sm_store.specs.lemmas.Heads.{until_all, until_there}
@@ -98,7 +99,7 @@ module _ {Q P : Type 0} (charter : Charter Q P) (shard : ℕ) where
       cond-false (deletes_key keys (Batch shard (number + 1))) None (batch_at shard (number + 1) log) apart
 
 module _ {Q P : Type 0} (charter : Charter Q P) (shard revision : ℕ) where
-  -- where the head stays, its base does
+  -- if the head doesn't change, its base doesn't either
   based_same : (log : List (Transaction Q P)) (deed : Deed Q P) → last_revision log < revision
       → IsRight charter log deed → AreRight charter log
       → IsBased charter shard log (head_of shard log) → IsBased charter shard (done_at revision deed ∷ log)
@@ -155,6 +156,8 @@ module _ {Q P : Type 0} (charter : Charter Q P) (shard revision : ℕ) where
       based_same log (Restarting process server run elected placed) above right rights was
   based_one log (Settling settings) above right rights was =
       based_same log (Settling settings) above right rights was
+  based_one log (Resettling process settings elected placed) above right rights was =
+      based_same log (Resettling process settings elected placed) above right rights was
   based_one log (Following server revision acks told) above right rights was =
       based_same log (Following server revision acks told) above right rights was
   based_one log (Checking compares) above right rights was = based_same log (Checking compares) above right rights was
@@ -260,6 +263,8 @@ module _ {Q P : Type 0} (charter : Charter Q P) (shard revision : ℕ) where
       there_same log (Restarting process server run elected placed) (λ number newest below. refl) was
   there_one log (Settling settings) above right rights was =
       there_same log (Settling settings) (λ number newest below. refl) was
+  there_one log (Resettling process settings elected placed) above right rights was =
+      there_same log (Resettling process settings elected placed) (λ number newest below. refl) was
   there_one log (Following server revision acks told) above right rights was =
       there_same log (Following server revision acks told) (λ number newest below. refl) was
   there_one log (Checking compares) above right rights was = there_same log (Checking compares)

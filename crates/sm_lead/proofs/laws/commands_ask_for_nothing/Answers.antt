@@ -15,6 +15,9 @@ asks_nothing P asked sending (Record shard change next) = λ k. tt
 asks_nothing P asked sending (State server run) = λ k. tt
 
 pub returns : goal.returns
-returns g c = λ asked control process command txn is.
-    subst (AsksFor asked) (sym is) (asks_nothing _ asked (sending_of control (write_of control process command))
-    (write_of control process command))
+returns g c = record {
+  settings = λ asked control settings k. tt;
+  commands = λ asked control process command txn is.
+      subst (AsksFor asked) (sym is) (asks_nothing _ asked (sending_of control (write_of control process command))
+      (write_of control process command));
+}

@@ -7,11 +7,14 @@ returns g c =
     let service = g.M.StoreMachine.service in
     let laws : ControlLaws _ _ = record {
       sound = c.commands_keep_soundness.ensures;
-      rows = c.commands_keep_rows.ensures;
-      reading = c.reading_is_known.ensures;
+      knows = c.reading_is_known.ensures.knows;
+      reading = c.reading_is_known.ensures.goes_by;
+      held = c.reading_is_known.ensures.held;
       sending = c.commands_may_be_sent.ensures;
-      outcome = c.outcomes_are_known.ensures;
-      asks = c.commands_ask_for_nothing.ensures;
+      resettling = c.settings_may_be_sent.ensures;
+      outcome = c.outcomes_are_known.ensures.goes_by;
+      asks = c.commands_ask_for_nothing.ensures.commands;
+      asks_not = c.commands_ask_for_nothing.ensures.settings;
       caps = c.controls_keep_caps.ensures;
     } in
     let fleets : FleetLaws service = record {
@@ -21,7 +24,7 @@ returns g c =
     } in
     record {
       lawful = λ given acts run. lawful service given laws fleets acts run;
-      caps = λ given acts sound run. keeps_caps service given laws fleets acts sound run;
+      caps = λ given acts run. keeps_caps service given laws fleets acts run;
       executors = λ given acts run. executed service given laws fleets acts run;
       linear = λ given acts run asked. whole_linear service given laws fleets acts run asked;
       events = λ acts. system_is c.fleets_are_lawful.ensures.events acts;
