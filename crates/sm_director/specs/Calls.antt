@@ -1,4 +1,4 @@
--- What calls do to the director that a handle keeps.
+-- The effects of calls on the director that a handle keeps.
 use Rattle.std.specs.Prelude.{ℕ, true, false, ◌≡◌, ◌+◌, ◌++◌, List, Option, Some, None, Err, length, slice_get, take}
 use Rattle.std.specs.Prelude.{unwrap_or}
 use Rattle.sm_codec.specs.Spelling.{process_bytes, record_bytes, state_bytes}
@@ -24,12 +24,12 @@ use Rattle.sm_director.specs.declared.step_parts.StepParts.{StepParts}
 use Rattle.sm_director.specs.Directors.{RefusesCommand, SendsCommand}
 use Rattle.sm_director.specs.Kinds.{command_code, command_parts, line_code, step_parts}
 
--- the handle keeps a director of which this holds
+-- the handle keeps a director with this property
 abbrev pub KeepsDirector : (Director → Type 0) → Option Director → Type 0
 KeepsDirector holds (Some director) = holds director
 KeepsDirector holds None = ⊥
 
--- both handles keep directors, between which this holds
+-- both handles keep directors, with this relation between them
 abbrev pub DirectsOn : (Director → Director → Type 0) → Option Director → Option Director → Type 0
 DirectsOn holds (Some old) (Some new) = holds old new
 DirectsOn holds old new = ⊥
@@ -43,7 +43,7 @@ IsServerAt at server director =
 abbrev pub BreaksRule : List ℕ → ℕ → Type 0
 BreaksRule line code = (fault : SettingsFault) × (settings_of line ≡ Err fault) × (code ≡ line_code fault)
 
--- the command of these parts was sent, where this process runs the server
+-- the command with these parts was sent, if this process runs the server
 abbrev pub SendsParts : StepParts → ℕ → Director → Director → Type 0
 SendsParts parts process old new =
     (command : Command) × (command_parts command ≡ parts) × SendsCommand process command old new
@@ -63,12 +63,12 @@ abbrev pub written_bytes : ℕ → CommandWrite → List ℕ
 written_bytes process (WritesRecord shard change next) = record_bytes (record { state = next; process = process })
 written_bytes process (WritesState server run) = state_bytes (record { run = run; process = process })
 
--- whose record or state it is
+-- the record or state to which it is written
 abbrev pub IsWrittenTo : CommandWrite → CommandNumbers → Type 0
 IsWrittenTo (WritesRecord shard change next) numbers = (numbers.is_state ≡ false) × (numbers.number ≡ shard)
 IsWrittenTo (WritesState server run) numbers = (numbers.is_state ≡ true) × (numbers.number ≡ server)
 
--- the numbers and the bytes are those of what a command's transaction compares and writes
+-- the numbers and the bytes are those of a command's transaction
 pub record SpellsCommand (sending : CommandSending) (numbers : CommandNumbers) (written : List ℕ) : Type 0 where
   pub elected : numbers.elected ≡ sending.elected
   pub placed : numbers.placed ≡ sending.placed

@@ -1,4 +1,4 @@
--- What calls do to a director: the control of a shared store by a line of settings, and what was read for it.
+-- The effects of calls on a director: the control of a shared store with a line of settings, and its readings.
 use Rattle.std.specs.Prelude.{ℕ, Bool, ◌≡◌, ◌<◌, ◌++◌, ◌∷◌, [], IsTrue, List, Ok, Some}
 use Rattle.std.specs.Global.{Vec}
 use Rattle.sm_codec.specs.declared.stored_record.StoredRecord.{StoredRecord}
@@ -16,9 +16,9 @@ use Rattle.sm_lead.specs.declared.sent_command.Judged.TheVariants.{Sent as Judge
 use Rattle.sm_lead.specs.declared.sent_command.SentCommand.{SentCommand}
 use Rattle.sm_lead.specs.declared.store_control.StoreControl.{StoreControl}
 use Rattle.sm_lead.specs.Commands.{IsAfter, command_fault, read_at}
-use Rattle.sm_lead.specs.Controls.{IsLoaded, KnowsStore}
+use Rattle.sm_lead.specs.Controls.{GoesByStore, IsLoaded}
 use Rattle.sm_lead.specs.NextSteps.{all_follow, step_of_drain, step_of_vacant, unless_refused}
-use Rattle.sm_lead.specs.Placements.{charter_of, rows_of}
+use Rattle.sm_lead.specs.Placements.{SettingsReading, charter_of}
 use Rattle.sm_lead.specs.Waits.{AreAcksMade, has_waited, is_prepared}
 use Rattle.sm_lead.specs.Sendings.{IsJudged, command_transaction, sending_of}
 use Rattle.sm_ownership.specs.declared.change.Change.TheVariants.{DropShard, PrepareDropShard}
@@ -31,6 +31,9 @@ use Rattle.sm_store.specs.Store.{Transaction}
 use Rattle.sm_director.specs.declared.director.Director.{Director}
 use Rattle.sm_director.specs.declared.director_fault.DirectorFault.{DirectorFault}
 use Rattle.sm_director.specs.declared.director_fault.DirectorFault.TheVariants.{Command as CommandRefused}
+use Rattle.sm_director.specs.declared.director_fault.DirectorFault.TheVariants.{EarlierProcess, NotAcked, NotFollowed}
+use Rattle.sm_director.specs.declared.director_fault.DirectorFault.TheVariants.{UnderWay}
+use Rattle.sm_director.specs.declared.director_fault.DirectorFault.TheVariants as faults
 use Rattle.sm_director.specs.declared.director_stage.DirectorStage.{DirectorStage}
 use Rattle.sm_director.specs.declared.director_stage.DirectorStage.TheVariants.{Unread, Stands, Sent}
 
@@ -181,7 +184,8 @@ desk_of_settings director =
       caps = director.caps;
     }
 
--- the director keeps its settings, its election, whether it waits, its followers and acks, and what was added is let go
+-- the director keeps its settings, its election, whether it waits, its followers and acks, and the added readings are
+-- dropped
 pub record LetsGo (old new : Director) : Type 0 where
   pub settings : new.settings ≡ old.settings
   pub caps : new.caps ≡ old.caps
@@ -192,7 +196,7 @@ pub record LetsGo (old new : Director) : Type 0 where
   pub records : new.records.items ≡ []
   pub runs : new.runs.items ≡ []
 
--- the control stands that is made of what was added
+-- the control is the one made from the added readings
 abbrev pub LoadsControl : ℕ → Director → Director → Type 0
 LoadsControl placed old new =
     LetsGo old new × (control : StoreControl) × (new.stage ≡ Stands control)
@@ -203,16 +207,17 @@ LoadsControl placed old new =
 abbrev pub ForgetsAll : Director → Director → Type 0
 ForgetsAll old new = LetsGo old new × (new.stage ≡ Unread)
 
--- what is sent may be sent, wherever what the control knows is so in the store, and the acks were made there
+-- the transaction may be sent in every store in which the control's knowledge is true, whose settings in force are the
+-- control's, and in which the acks were made
 abbrev pub IsAllowedSend : List AckRead → SentCommand → Type 0
 IsAllowedSend acks sent =
-    (parts : List (Item (Vec ℕ)) → List (Vec ℕ)) (log : List (Transaction (Vec ℕ) (Vec ℕ)))
-    → KnowsStore log sent.control → AreAcksMade log acks
-    → MaySend (charter_of (rows_of sent.control.desk.books) sent.control.desk.caps sent.control.ceiling
-    sent.control.waits parts) log
+    (reading : SettingsReading) (parts : List (Item (Vec ℕ)) → List (Vec ℕ))
+    (log : List (Transaction (Vec ℕ) (Vec ℕ)))
+    → GoesByStore reading.settings log sent.control → AreAcksMade log acks
+    → MaySend (charter_of reading sent.control.waits parts) log
     (command_transaction (sending_of sent.control sent.write))
 
--- where the command drops a shard, each follower has read that the shard is taken
+-- if the command drops a shard, each follower has read that the shard is taken
 abbrev pub IsFollowed : StoreControl → List Follower → Command → Type 0
 IsFollowed control followers (ChangeOf k DropShard) =
     IsTrue (all_follow followers (read_at control.records.items k).stood)
@@ -223,7 +228,7 @@ abbrev pub IsPrepared : StoreControl → List AckRead → Command → Type 0
 IsPrepared control acks (ChangeOf k PrepareDropShard) = IsTrue (is_prepared control acks k)
 IsPrepared control acks command = Unit {0}
 
--- the control that stands doesn't refuse the command, and has sent it, where this process runs the server
+-- the control doesn't refuse the command, and has sent it, if this process runs the server
 abbrev pub SendsCommand : ℕ → Command → Director → Director → Type 0
 SendsCommand process command old new =
     (control : StoreControl) × (sent : SentCommand) × (old.stage ≡ Stands control)
@@ -237,25 +242,32 @@ abbrev pub RefusesCommand : Command → CommandFault → Director → Type 0
 RefusesCommand command fault director =
     (control : StoreControl) × (director.stage ≡ Stands control) × (command_fault control command ≡ Some fault)
 
--- the control refuses the command by this fault, where it is a command's
+-- the fault is the command's first one, or EarlierProcess, about which nothing is said; no other is possible
 abbrev pub RefusesWith : StoreControl → Command → DirectorFault → Type 0
 RefusesWith control command (CommandRefused why) = command_fault control command ≡ Some why
-RefusesWith control command fault = Unit {0}
+RefusesWith control command EarlierProcess = Unit {0}
+RefusesWith control command fault = ⊥
 
--- where the fault is a command's, it refuses the command for that
+-- the control has this property
+abbrev pub HasControl : (StoreControl → Type 0) → Director → Type 0
+HasControl holds director = (control : StoreControl) × (director.stage ≡ Stands control) × holds control
+
+-- a fault of the command is one for which the control refuses it; for NotFollowed, NotAcked and EarlierProcess it is
+-- only said that there is a control; or there is none, because nothing was read, or a command is under way
 abbrev pub RefusesFor : Command → Director → DirectorFault → Type 0
 RefusesFor command director (CommandRefused why) = RefusesCommand command why director
-RefusesFor command director fault = Unit {0}
+RefusesFor command director NotFollowed = HasControl (λ control. Unit {0}) director
+RefusesFor command director NotAcked = HasControl (λ control. Unit {0}) director
+RefusesFor command director EarlierProcess = HasControl (λ control. Unit {0}) director
+RefusesFor command director faults.Unread = director.stage ≡ Unread
+RefusesFor command director UnderWay = (sent : SentCommand) × (director.stage ≡ Sent sent)
+RefusesFor command director fault = ⊥
 
 -- the command that was sent was made, at this revision
 abbrev pub MakesCommand : ℕ → Director → Director → Type 0
 MakesCommand revision old new =
     (sent : SentCommand) × (control : StoreControl) × (old.stage ≡ Sent sent)
     × IsAfter sent.control sent.command sent.write revision control × (new ≡ with_stage old (Stands control))
-
--- this holds of the control that stands
-abbrev pub HasControl : (StoreControl → Type 0) → Director → Type 0
-HasControl holds director = (control : StoreControl) × (director.stage ≡ Stands control) × holds control
 
 -- how a control goes on with the drain of a server
 abbrev pub drain_step : StoreControl → ℕ → NextStep

@@ -14,11 +14,17 @@ use Rattle.sm_desk.specs.declared.command.Command.{Command}
 use Rattle.sm_desk.specs.declared.command.Command.TheVariants.{Change as ChangeOf, Ask, Approve, Stopped, Back, Fail}
 use Rattle.sm_desk.specs.declared.command.CommandFault.{CommandFault}
 use Rattle.sm_desk.specs.declared.command.CommandFault.TheVariants as commands
+use Rattle.sm_lead.specs.declared.load_fault.LoadFault.{LoadFault}
+use Rattle.sm_lead.specs.declared.load_fault.LoadFault.TheVariants as loads
+use Rattle.sm_lead.specs.declared.resettle_fault.ResettleFault.{ResettleFault}
+use Rattle.sm_lead.specs.declared.resettle_fault.ResettleFault.TheVariants as settings
 use Rattle.sm_settings.specs.declared.settings_fault.SettingsFault.{SettingsFault}
 use Rattle.sm_settings.specs.declared.settings_fault.SettingsFault.TheVariants as lines
 use Rattle.sm_lead.specs.declared.next_step.NextStep.{NextStep}
 use Rattle.sm_lead.specs.declared.next_step.NextStep.TheVariants.{Takes, Waits, Nothing}
 use Rattle.sm_director.specs.declared.codes.TheConstants as codes
+use Rattle.sm_director.specs.declared.director_fault.DirectorFault.{DirectorFault}
+use Rattle.sm_director.specs.declared.director_fault.DirectorFault.TheVariants as faults
 use Rattle.sm_director.specs.declared.step_parts.StepParts.{StepParts}
 
 -- the kind of a change
@@ -43,7 +49,7 @@ command_parts (Stopped server) = record { shard = 0; server = server; kind = 12 
 command_parts (Back server) = record { shard = 0; server = server; kind = 13 }
 command_parts (Fail server) = record { shard = 0; server = server; kind = 14 }
 
--- those of what comes next
+-- those of the next step
 abbrev pub step_parts : NextStep → StepParts
 step_parts Nothing = record { shard = 0; server = 0; kind = 0 }
 step_parts (Takes command) = command_parts command
@@ -83,6 +89,33 @@ command_code (commands.Change fault) = change_code fault
 command_code (commands.Place fault) = place_code fault
 command_code (commands.Restart fault) = restart_code fault
 command_code (commands.Raced read found) = codes.BUSY
+
+-- the code of why other settings are refused
+abbrev pub resettle_code : ResettleFault → ℕ
+resettle_code settings.Apart = codes.READ_APART
+resettle_code settings.OtherShards = codes.OTHER_SHARDS
+resettle_code settings.OtherCeiling = codes.OTHER_CEILING
+resettle_code (settings.InUse server) = codes.IN_USE
+
+-- the code of the reason for which no control can be made from the readings
+abbrev pub load_code : LoadFault → ℕ
+load_code (loads.Unreached why) = codes.UNREACHED
+load_code loads.Different = codes.DIFFERENT
+
+-- the code of why a call on a director is refused
+abbrev pub fault_code : DirectorFault → ℕ
+fault_code faults.Memory = codes.NO_MEMORY
+fault_code faults.Bytes = codes.BAD_BYTES
+fault_code (faults.Load why) = load_code why
+fault_code (faults.Command why) = command_code why
+fault_code faults.Unread = codes.UNREAD
+fault_code faults.UnderWay = codes.UNDER_WAY
+fault_code faults.NotFollowed = codes.NOT_FOLLOWED
+fault_code faults.NotAcked = codes.NOT_ACKED
+fault_code faults.EarlierProcess = codes.EARLIER_PROCESS
+fault_code faults.NotSent = codes.NOT_SENT
+fault_code (faults.Resettle why) = resettle_code why
+fault_code faults.TooShort = codes.TOO_SHORT
 
 -- the code of a fault of a line of settings, as of boards
 abbrev pub line_code : SettingsFault → ℕ

@@ -1,4 +1,4 @@
--- What a handle lends.
+-- The state that a handle lends.
 use Rattle.std.specs.Prelude.{Some}
 use Rattle.std.specs.Borrow.{Fml, Lends, MutBor}
 use Rattle.sm_director.specs.declared.director.Director.{Director}
@@ -6,7 +6,7 @@ use Rattle.sm_director.specs.declared.owned_director.OwnedDirector.{OwnedDirecto
 use Rattle.sm_director.specs.contracts.director.Director as State
 use Rattle.sm_director.specs.contracts.owned_director.OwnedDirector.{the_row}
 
--- what owns this state in place of its own
+-- the owner of this state in place of its own
 abbrev pub owning_director : OwnedDirector → Director → OwnedDirector
 owning_director owned state = record { ptr = owned.ptr; alloc = owned.alloc; state = Some state }
 

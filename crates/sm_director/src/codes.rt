@@ -1,11 +1,12 @@
 //! The codes by which calls answer C.
 ghost use Rattle.std.specs.Prelude.{◌≡◌, ◌≢◌, ◌<◌, ◌≤◌};
 ghost use Rattle.sm_director.specs.Calls.{IsRefusal};
-ghost use Rattle.sm_director.specs.Kinds.{change_code, command_code, line_code, restart_code};
+ghost use Rattle.sm_director.specs.Kinds.{change_code, command_code, fault_code, line_code, restart_code};
+ghost use Rattle.sm_director.specs.Resettlings.{IsOfSettings};
 
 use crate::director_fault::DirectorFault;
 use sm_desk::CommandFault;
-use sm_lead::LoadFault;
+use sm_lead::{LoadFault, ResettleFault};
 use sm_ownership::change_fault::ChangeFault;
 use sm_place::PlaceFault;
 use sm_settings::SettingsFault;
@@ -15,10 +16,10 @@ use sm_tasks::RestartFault;
 /// The handle keeps no control of a store.
 pub(crate) const WRONG_HANDLE: u32 = 1;
 
-/// A kind, a shard or a server is out of bounds, or the revision of the election is 0.
+/// A kind, a shard or a server is out of range, or the revision of the election is 0.
 pub(crate) const BAD_ARGUMENT: u32 = 2;
 
-/// Memory was refused.
+/// Out of memory.
 pub(crate) const NO_MEMORY: u32 = 3;
 
 /// There is no such shard.
@@ -33,7 +34,7 @@ pub(crate) const SAME_SERVER: u32 = 12;
 /// The shard's generations are spent.
 pub(crate) const CHANGE_SPENT: u32 = 13;
 
-/// The record has an admission, or has changed: it is to be read again.
+/// The record has an admission, or has changed: it must be read again.
 pub(crate) const BUSY: u32 = 14;
 
 /// There is no such server.
@@ -87,7 +88,7 @@ pub(crate) const NO_MORE: u32 = 56;
 /// Nothing was read yet, or all is to be read again.
 pub(crate) const UNREAD: u32 = 90;
 
-/// A command was sent, of which the outcome wasn't told.
+/// A command was sent, and its outcome isn't known yet.
 pub(crate) const UNDER_WAY: u32 = 91;
 
 /// No command was sent.
@@ -99,7 +100,7 @@ pub(crate) const BAD_BYTES: u32 = 93;
 /// No commands lead to the records and states that were read.
 pub(crate) const UNREACHED: u32 = 94;
 
-/// The records or states are others than commands lead to, or of another number.
+/// The records or states, or their number, differ from those that commands lead to.
 pub(crate) const DIFFERENT: u32 = 95;
 
 /// A follower hasn't read that the shard is taken.
@@ -108,14 +109,28 @@ pub(crate) const NOT_FOLLOWED: u32 = 96;
 /// A server that the command waits for hasn't acked the shard's record.
 pub(crate) const NOT_ACKED: u32 = 97;
 
-/// The server's process is the one that was stopped, or none was seen.
+/// The server's process is the one that was stopped, or isn't known.
 pub(crate) const EARLIER_PROCESS: u32 = 98;
+
+/// The two directors didn't read the same records and states.
+pub(crate) const READ_APART: u32 = 99;
+
+/// The new settings have other shards.
+pub(crate) const OTHER_SHARDS: u32 = 100;
+
+/// The new settings have another ceiling.
+pub(crate) const OTHER_CEILING: u32 = 101;
+
+/// A server without a row in the new settings has neither stopped nor failed.
+pub(crate) const IN_USE: u32 = 102;
 // End of them.
 
-/// The code of why a call on a director did nothing.
+/// Returns the code of why a call on a director did nothing.
 pub(crate) fn code_of(fault: DirectorFault) -> u32
+    ensures code { result ≡ fault_code fault }
     ensures some { result ≢ 0 }
     ensures refused { 10 ≤ result → result < 50 → IsRefusal fault result }
+    ensures settings { 99 ≤ result → IsOfSettings fault result }
 {
     match fault {
         DirectorFault::Memory => NO_MEMORY,
@@ -131,11 +146,17 @@ pub(crate) fn code_of(fault: DirectorFault) -> u32
         DirectorFault::NotAcked => NOT_ACKED,
         DirectorFault::EarlierProcess => EARLIER_PROCESS,
         DirectorFault::NotSent => NOT_SENT,
+        DirectorFault::Resettle(fault) => match fault {
+            ResettleFault::Apart => READ_APART,
+            ResettleFault::OtherShards => OTHER_SHARDS,
+            ResettleFault::OtherCeiling => OTHER_CEILING,
+            ResettleFault::InUse(_) => IN_USE,
+        },
         DirectorFault::TooShort => TOO_SHORT,
     }
 }
 
-/// The code of why a command is refused.
+/// Returns the code of why a command is refused.
 pub(crate) fn code_of_command(fault: CommandFault) -> u32
     ensures code { result ≡ command_code fault }
     ensures refused { result ≢ 0 }
@@ -185,7 +206,7 @@ fn code_of_restart(fault: RestartFault) -> u32
     }
 }
 
-/// The code of what a line of settings breaks.
+/// Returns the code of what a line of settings breaks.
 pub(crate) fn code_of_line(fault: SettingsFault) -> u32
     ensures code { result ≡ line_code fault }
     ensures refused { result ≢ 0 }

@@ -1,7 +1,6 @@
-/// The numbers of what a command's transaction compares and writes, as C sees them: the revisions of the leader's key
-/// and of the key of commands that it compares, how many bytes it writes to the record of a shard or the state of a
-/// server, which that is, how many it writes to the key of commands, and the server whose key it compares not to be
-/// there, 0 for none.
+/// The numbers of a command's transaction, as C sees them: the revisions of the leader's key and of the key of commands
+/// that it compares, how many bytes it writes to the record of a shard or the state of a server, which one that is, how
+/// many it writes to the key of commands, and the server whose key must be absent, 0 for none.
 #[repr(C)]
 #[derive(Clone, Copy, Drop)]
 pub struct CommandNumbers {

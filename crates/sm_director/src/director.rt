@@ -1,9 +1,12 @@
-ghost use Rattle.std.specs.Prelude.{◌≡◌, ◌≢◌, ◌<◌, Err, IfErr, IfOk, IsTrue, OnErr, OnOk, None};
+ghost use Rattle.std.specs.Prelude.{◌≡◌, ◌≢◌, ◌<◌, Err, IfErr, IfOk, IsTrue, OnErr, OnOk};
 ghost use Rattle.sm_lead.specs.Commands.{read_at, run_at};
 ghost use Rattle.sm_lead.specs.NextSteps.{IsAllowed, fallen, server_step, shard_step};
 ghost use Rattle.sm_settings.specs.SettingsLine.{settings_of};
 ghost use Rattle.sm_director.specs.declared.director_stage.DirectorStage.TheVariants.{Stands as StandsAs};
 ghost use Rattle.sm_director.specs.Calls.{SpellsSent};
+ghost use Rattle.sm_director.specs.Refusals.{CannotSpell, HasNoControl, IsNotSent, IsUnreadable, LacksMemory};
+ghost use Rattle.sm_director.specs.Refusals.{LacksServer, LacksShard, shard_fault};
+ghost use Rattle.sm_director.specs.Resettlings.{RefusesResettling, SendsSettings};
 ghost use Rattle.sm_lead.specs.Waits.{has_waited};
 ghost use Rattle.sm_director.specs.Directors.{AddsAck, AddsFollower, AddsRecord, AddsState, ForgetsAcks, ForgetsAll};
 ghost use Rattle.sm_director.specs.Directors.{ForgetsFollowers, IsPrepared};
@@ -14,12 +17,13 @@ ghost use Rattle.sm_director.specs.Directors.{drain_step, vacant_step};
 use crate::command_numbers::CommandNumbers;
 use crate::director_fault::DirectorFault;
 use crate::director_stage::DirectorStage;
-use crate::spelling::spell;
+use crate::layouts::same_layout;
+use crate::spelling::{spell, spell_resettling};
 use sm_codec::{read_record, read_state};
 use sm_desk::{Command, CommandFault, Desk};
-use sm_lead::laws::commands_may_be_sent;
+use sm_lead::laws::{commands_may_be_sent, settings_may_be_sent};
 use sm_lead::{
-    AckRead, Follower, Judged, Leadership, NextStep, RecordRead, SendOutcome, StoreControl,
+    AckRead, Follower, Judged, Leadership, NextStep, RecordRead, ResettleFault, StoreControl,
     all_follow, read_at,
 };
 use sm_ownership::change::Change;
@@ -33,7 +37,7 @@ use sm_tasks::Tasks;
 use sm_tasks::laws::all_up_meets_caps;
 use std::alloc::Global;
 
-/// The control of a shared store by its settings, what was read for it, and the servers that follow.
+/// The control of a shared store with its settings, its readings, and the servers that follow.
 #[derive(Drop)]
 pub struct Director {
     pub settings: Settings,
@@ -51,8 +55,8 @@ pub struct Director {
 }
 
 impl Director {
-    /// The director of the store that the line of settings describes, by one who was elected. It has read nothing.
-    /// `waits` says whether commands wait for acks: they need not if all servers are of one process.
+    /// Makes the director of the store with this line of settings, for an elected process. It has read nothing. `waits`
+    /// says whether commands wait for acks: they needn't if all servers are in one process.
     pub fn new(
         alloc: Global,
         line: &[u8],
@@ -85,6 +89,7 @@ impl Director {
     /// Adds the next shard's record, before `read`: these bytes, last written at this revision.
     pub fn add_record(&mut self, bytes: &[u8], stood: u64) -> Result<(), DirectorFault>
         ensures added { OnOk result (AddsRecord bytes.now stood self.old self.new) }
+        ensures refused { IfErr result IsUnreadable }
         ensures kept { OnErr result (KeepsAll self.old self.new) }
     {
         let stored = read_record(bytes)?;
@@ -98,6 +103,7 @@ impl Director {
     /// Adds the next server's state, before `read`: these bytes.
     pub fn add_state(&mut self, bytes: &[u8]) -> Result<(), DirectorFault>
         ensures added { OnOk result (AddsState bytes.now self.old self.new) }
+        ensures refused { IfErr result IsUnreadable }
         ensures kept { OnErr result (KeepsAll self.old self.new) }
     {
         let stored = read_state(bytes)?;
@@ -146,8 +152,8 @@ impl Director {
         self.acks = Vec::new(alloc);
     }
 
-    /// All was read that was added, at one revision, at which the key of commands was last written at this one. What
-    /// was added is let go: the control stands, or where none can be made nothing is read.
+    /// Notes that everything that was added was read, at one revision, at which the key of commands was last written at
+    /// this one. The added readings are dropped. Then there is a control; or, if none can be made, nothing is read.
     pub fn read(&mut self, alloc: Global, placed: u64) -> Result<(), DirectorFault>
         ensures made { OnOk result (LoadsControl placed self.old self.new) }
         ensures unread { OnErr result (ForgetsAll self.old self.new) }
@@ -185,14 +191,14 @@ impl Director {
             &settings.shards,
             &settings.domains,
         ) else {
-            // Rows of settings keep their rules, so memory alone is refused.
+            // Rows of settings keep their rules, so it fails only if memory is refused.
             return Err(DirectorFault::Memory);
         };
         all_up_meets_caps();
         Ok(Desk::new(books, self.caps))
     }
 
-    /// Forgets what was read and what was sent: all is to be read again.
+    /// Forgets its readings and its command: everything must be read again.
     pub fn forget(&mut self, alloc: Global)
         ensures { ForgetsAll self.old self.new }
     {
@@ -201,8 +207,8 @@ impl Director {
         self.stage = DirectorStage::Unread;
     }
 
-    /// Judges the command, where this process runs the server that it names: it is to be sent if the control that
-    /// stands doesn't refuse it, and the process may be named.
+    /// Judges the command, if this process runs the server that it names. If the control doesn't refuse it, and the
+    /// process may be named, it must be sent.
     pub fn command(&mut self, process: u64, command: Command) -> Result<(), DirectorFault>
         ensures sent { OnOk result (SendsCommand process command self.old self.new) }
         ensures refused { IfErr result (RefusesFor command self.old) }
@@ -245,14 +251,15 @@ impl Director {
         }
     }
 
-    /// Writes what the command that was sent compares and writes.
+    /// Writes the compares and the writes of the command that was sent.
     pub fn sending(
         &self,
         alloc: Global,
         numbers: &mut CommandNumbers,
         into: &mut [u8],
     ) -> Result<(), DirectorFault>
-        ensures { OnOk result (SpellsSent numbers.new into.new self.now) }
+        ensures refused { IfErr result (CannotSpell self.now) }
+        ensures spelled { OnOk result (SpellsSent numbers.new into.new self.now) }
     {
         match &self.stage {
             DirectorStage::Sent(sent) => {
@@ -266,15 +273,14 @@ impl Director {
     /// The command that was sent was made, at this revision.
     pub fn on_made(&mut self, revision: u64) -> Result<(), DirectorFault>
         ensures made { OnOk result (MakesCommand revision self.old self.new) }
+        ensures refused { IfErr result (IsNotSent self.old) }
+        ensures kept { OnErr result (self.new ≡ self.old) }
     {
         match std::mem::replace(&mut self.stage, DirectorStage::Unread) {
-            DirectorStage::Sent(sent) => match sent.outcome(SendOutcome::Made(revision)) {
-                Some(control) => {
-                    self.stage = DirectorStage::Stands(control);
-                    Ok(())
-                }
-                None => Err(DirectorFault::Unread),
-            },
+            DirectorStage::Sent(sent) => {
+                self.stage = DirectorStage::Stands(sent.made(revision));
+                Ok(())
+            }
             other => {
                 self.stage = other;
                 Err(DirectorFault::NotSent)
@@ -282,9 +288,39 @@ impl Director {
         }
     }
 
-    // The control that stands.
+    /// Writes the compares of the transaction that replaces this director's settings by those of the other director,
+    /// which has the same records and states. The transaction also writes the settings. Whoever reads them makes a new
+    /// director.
+    pub fn resettle(
+        &self,
+        alloc: Global,
+        other: &Director,
+        numbers: &mut CommandNumbers,
+        into: &mut [u8],
+    ) -> Result<(), DirectorFault>
+        ensures sent { OnOk result (SendsSettings self.now other.now numbers.new into.new) }
+        ensures refused { IfErr result (RefusesResettling self.now other.now) }
+    {
+        let control = self.standing()?;
+        let drafted = other.standing()?;
+        if !same_layout(&self.settings.layout, &other.settings.layout) {
+            return Err(DirectorFault::Resettle(ResettleFault::OtherShards));
+        }
+        match control.resettle(drafted) {
+            Ok(()) => {
+                control.desk.soundness();
+                drafted.desk.soundness();
+                settings_may_be_sent::<Vec<u8>, Vec<u8>>();
+                spell_resettling(alloc, control, numbers, into)
+            }
+            Err(fault) => Err(DirectorFault::Resettle(fault)),
+        }
+    }
+
+    // Returns the control.
     fn standing(&self) -> Result<&StoreControl, DirectorFault>
-        ensures { IfOk result (λ control. self.now.stage ≡ StandsAs control.now) }
+        ensures stands { IfOk result (λ control. self.now.stage ≡ StandsAs control.now) }
+        ensures refused { IfErr result (HasNoControl self.now) }
     {
         match &self.stage {
             DirectorStage::Stands(control) => Ok(control),
@@ -293,9 +329,10 @@ impl Director {
         }
     }
 
-    /// What comes next of the shard.
+    /// Returns the next step of the shard.
     pub fn next_of_shard(&self, k: ShardId) -> Result<NextStep, DirectorFault>
-        ensures { IfOk result (λ step. HasControl (λ control.
+        ensures refused { IfErr result (LacksShard k self.now) }
+        ensures told { IfOk result (λ step. HasControl (λ control.
             (step ≡ shard_step control self.now.followers.items self.now.acks.items k)
             × IsAllowed control step) self.now) }
     {
@@ -306,18 +343,20 @@ impl Director {
         Ok(control.next_of_shard(k, &self.followers, &self.acks))
     }
 
-    /// What comes next of the server's restart.
+    /// Returns the next step of the server's restart.
     pub fn next_of_server(&self, server: ServerId) -> Result<NextStep, DirectorFault>
-        ensures { IfOk result (λ step. HasControl (λ control.
+        ensures refused { IfErr result (HasNoControl self.now) }
+        ensures told { IfOk result (λ step. HasControl (λ control.
             (step ≡ server_step control self.now.acks.items server) × IsAllowed control step) self.now) }
     {
         let control = self.standing()?;
         Ok(control.next_of_server(server, &self.acks))
     }
 
-    /// What comes next of the drain of the server.
+    /// Returns the next step of the drain of the server.
     pub fn next_of_drain(&self, alloc: Global, server: ServerId) -> Result<NextStep, DirectorFault>
-        ensures { IfOk result (λ step. HasControl (λ control.
+        ensures refused { IfErr result (LacksMemory self.now) }
+        ensures told { IfOk result (λ step. HasControl (λ control.
             (step ≡ drain_step control server) × IsAllowed control step) self.now) }
     {
         let control = self.standing()?;
@@ -325,9 +364,10 @@ impl Director {
         Ok(step)
     }
 
-    /// What comes next of the vacant shards.
+    /// Returns the next step of the vacant shards.
     pub fn next_of_vacant(&self, alloc: Global) -> Result<NextStep, DirectorFault>
-        ensures { IfOk result (λ step. HasControl (λ control.
+        ensures refused { IfErr result (LacksMemory self.now) }
+        ensures told { IfOk result (λ step. HasControl (λ control.
             (step ≡ vacant_step control) × IsAllowed control step) self.now) }
     {
         let control = self.standing()?;
@@ -335,18 +375,20 @@ impl Director {
         Ok(step)
     }
 
-    /// The first server to which requests go and that isn't among the followers.
+    /// Returns the first server to which requests go and that isn't among the followers.
     pub fn fallen(&self) -> Result<Option<ServerId>, DirectorFault>
-        ensures { IfOk result (λ found. HasControl (λ control.
+        ensures refused { IfErr result (HasNoControl self.now) }
+        ensures told { IfOk result (λ found. HasControl (λ control.
             found ≡ fallen control.desk.books self.now.followers.items) self.now) }
     {
         let control = self.standing()?;
         Ok(control.fallen_server(&self.followers))
     }
 
-    /// The shard's record, and the revision at which it was last written.
+    /// Returns the shard's record, and the revision at which it was last written.
     pub fn record_of(&self, k: ShardId) -> Result<RecordRead, DirectorFault>
-        ensures { IfOk result (λ read. HasControl (λ control. read ≡ read_at control.records.items k) self.now) }
+        ensures refused { IfErr result (LacksShard k self.now) }
+        ensures told { IfOk result (λ read. HasControl (λ control. read ≡ read_at control.records.items k) self.now) }
     {
         let control = self.standing()?;
         if k.index() >= control.records.len() {
@@ -355,9 +397,10 @@ impl Director {
         Ok(read_at(&control.records, k))
     }
 
-    /// The server's state, and the process that it names.
+    /// Returns the server's state, and the process that it names.
     pub fn run_of(&self, server: ServerId) -> Result<ServerRun, DirectorFault>
-        ensures { IfOk result (λ run. HasControl (λ control. run ≡ run_at control server) self.now) }
+        ensures refused { IfErr result (LacksServer server self.now) }
+        ensures told { IfOk result (λ run. HasControl (λ control. run ≡ run_at control server) self.now) }
     {
         let control = self.standing()?;
         control.desk.soundness();
@@ -371,7 +414,7 @@ impl Director {
     }
 }
 
-// Whether each follower has read that the shard is taken, where the command drops it.
+// Returns whether each follower has read that the shard is taken, if the command drops it.
 fn is_followed(control: &StoreControl, followers: &[Follower], command: &Command) -> bool
     ensures { IsTrue result → IsFollowed control.now followers.now command.now }
 {
@@ -383,7 +426,7 @@ fn is_followed(control: &StoreControl, followers: &[Follower], command: &Command
     }
 }
 
-// Whether whoever the command waits for has let go, and the next owner is prepared before the owner forwards; or the
+// Returns whether the awaited servers have acked, and the next owner is prepared before the owner forwards; or the
 // control doesn't wait.
 fn has_waited(control: &StoreControl, acks: &[AckRead], command: &Command) -> bool
     ensures waited { IsTrue result → IsTrue (has_waited control.now acks.now command.now) }
@@ -411,7 +454,7 @@ fn has_waited(control: &StoreControl, acks: &[AckRead], command: &Command) -> bo
     is_prepared && control.has_waited(acks, command)
 }
 
-// Why the command isn't sent, of which the state may not be said of this process: the first fault for which it is
+// Returns why the command isn't sent, if this process may not be named in the state: the first fault for which it is
 // refused, or that the process began too early.
 fn unnamed(control: &StoreControl, process: u64, command: &Command) -> DirectorFault
     ensures { RefusesWith control.now command.now result }
@@ -422,6 +465,9 @@ fn unnamed(control: &StoreControl, process: u64, command: &Command) -> DirectorF
     }
 }
 
-fn unknown_shard() -> DirectorFault {
+// The fault of a shard that isn't there.
+fn unknown_shard() -> DirectorFault
+    ensures { result ≡ shard_fault }
+{
     DirectorFault::Command(CommandFault::Change(ChangeFault::UnknownShard))
 }

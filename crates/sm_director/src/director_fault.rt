@@ -1,6 +1,10 @@
+ghost use Rattle.std.specs.Prelude.{◌≡◌};
+ghost use Rattle.sm_director.specs.Resettlings.{in_use};
+
 use sm_codec::ReadError;
 use sm_desk::CommandFault;
-use sm_lead::LoadFault;
+use sm_lead::{LoadFault, ResettleFault};
+use sm_ranges::server_id::ServerId;
 use std::alloc::{AllocError, AllocFailed};
 use thiserror::Error;
 
@@ -10,16 +14,16 @@ pub enum DirectorFault {
     /// Memory was refused.
     #[error("out of memory")]
     Memory,
-    /// What lies at a key is wrong.
+    /// The bytes at a key are malformed.
     #[error("what lies at a key is wrong")]
     Bytes,
-    /// No control can be made of what was read.
+    /// No control can be made from the readings.
     #[error(transparent)]
     Load(LoadFault),
     /// The command is refused; or there is no such shard or server.
     #[error(transparent)]
     Command(CommandFault),
-    /// Nothing was read yet, or all is to be read again.
+    /// Nothing was read yet, or everything must be read again.
     #[error("nothing was read yet, or all is to be read again")]
     Unread,
     /// A command was sent, and its outcome isn't known yet.
@@ -37,9 +41,37 @@ pub enum DirectorFault {
     /// No command was sent.
     #[error("no command was sent")]
     NotSent,
-    /// What would be written is longer than the room for it.
+    /// The other director's settings may not come in place of this one's.
+    #[error(transparent)]
+    Resettle(ResettleFault),
+    /// The result is longer than the room for it.
     #[error("what would be written is longer than the room for it")]
     TooShort,
+}
+
+impl DirectorFault {
+    /// Returns the server that other settings would take out, which has neither stopped nor failed.
+    pub(crate) fn in_use(&self) -> Option<ServerId>
+        ensures { result ≡ in_use self.now }
+    {
+        match *self {
+            DirectorFault::Resettle(ResettleFault::InUse(server)) => Some(server),
+            DirectorFault::Resettle(
+                ResettleFault::Apart | ResettleFault::OtherShards | ResettleFault::OtherCeiling,
+            )
+            | DirectorFault::Memory
+            | DirectorFault::Bytes
+            | DirectorFault::Load(_)
+            | DirectorFault::Command(_)
+            | DirectorFault::Unread
+            | DirectorFault::UnderWay
+            | DirectorFault::NotFollowed
+            | DirectorFault::NotAcked
+            | DirectorFault::EarlierProcess
+            | DirectorFault::NotSent
+            | DirectorFault::TooShort => None,
+        }
+    }
 }
 
 impl From<AllocError> for DirectorFault {

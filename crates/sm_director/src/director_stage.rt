@@ -3,10 +3,10 @@ use sm_lead::{SentCommand, StoreControl};
 /// How far a director has come.
 #[derive(Drop)]
 pub enum DirectorStage {
-    /// Nothing was read yet, or all is to be read again.
+    /// Nothing was read yet, or everything must be read again.
     Unread,
-    /// All was read, and this control stands.
+    /// Everything was read, and this is the control.
     Stands(StoreControl),
-    /// It has sent a command, of which the outcome wasn't told.
+    /// It has sent a command whose outcome wasn't told.
     Sent(SentCommand),
 }

@@ -12,7 +12,7 @@ use sm_place::ServerState;
 use sm_ranges::server_id::ServerId;
 use sm_ranges::shard_id::ShardId;
 
-/// The command of these parts, if there is one.
+/// Returns the command of these parts, if there is one.
 pub(crate) fn command_of(parts: &StepParts) -> Option<Command>
     ensures { IfSome result (λ command. command_parts command ≡ parts.now) }
 {
@@ -58,7 +58,7 @@ fn change_of(parts: &StepParts) -> Option<Change> {
     }
 }
 
-/// The parts of what comes next.
+/// Returns the parts of the next step.
 pub(crate) fn parts_of(step: &NextStep) -> StepParts
     ensures { result ≡ step_parts step.now }
 {
@@ -120,7 +120,7 @@ fn kind_of(change: &Change) -> u8
     }
 }
 
-/// The number of a server's state.
+/// Returns the number of a server's state.
 pub(crate) fn state_number(state: ServerState) -> u8
     ensures { result ≡ state_number state }
 {
@@ -133,7 +133,7 @@ pub(crate) fn state_number(state: ServerState) -> u8
     }
 }
 
-/// The number of the server, or 0.
+/// Returns the number of the server, or 0.
 pub(crate) fn number_of(server: Option<ServerId>) -> u16
     ensures { result ≡ unwrap_or server 0 }
 {

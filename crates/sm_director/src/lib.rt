@@ -1,7 +1,7 @@
-//! The control of a shared store, for callers in C, C++, Python and Rust: which commands it sends, and what comes next,
-//! with no input or output of its own. The caller is elected, reads the store, sends the transactions and says what
-//! became of them. Each call answers 0, or a code of library/codes.txt. A handle begins as bytes of 0; it may pass from
-//! thread to thread, and is used by one call at a time.
+//! The control of a shared store, for callers in C, C++, Python and Rust: its commands and its next steps, without any
+//! input or output of its own. The caller is elected, reads the store, sends the transactions and tells their outcomes.
+//! Each call answers 0, or a code of library/codes.txt. A handle must begin as bytes of 0. It may pass from thread to
+//! thread, and is used by one call at a time.
 #![tactic(auto)]
 
 ghost use Rattle.std.specs.Prelude.{◌≡◌, ◌≢◌, ◌<◌, ◌≤◌, None, Some, length, unwrap_or};
@@ -9,6 +9,8 @@ ghost use Rattle.sm_codec.specs.Spelling.{state_number};
 ghost use Rattle.sm_lead.specs.Commands.{read_at, run_at};
 ghost use Rattle.sm_lead.specs.NextSteps.{fallen, server_step, shard_step};
 ghost use Rattle.sm_ranges.specs.Ranges.{shard_of};
+ghost use Rattle.sm_ranges.specs.ServerId.{IsServer};
+ghost use Rattle.sm_ranges.specs.ShardId.{IsShard};
 ghost use Rattle.sm_word.specs.Word.{word_of};
 ghost use Rattle.sm_director.specs.Calls.{BreaksRule, DirectsOn, IsServerAt, KeepsDirector, RefusesParts, SendsParts};
 ghost use Rattle.sm_director.specs.Calls.{SpellsSent, TellsStep};
@@ -16,6 +18,9 @@ ghost use Rattle.sm_director.specs.Directors.{AddsAck, AddsFollower, AddsRecord,
 ghost use Rattle.sm_director.specs.Directors.{ForgetsFollowers};
 ghost use Rattle.sm_director.specs.Directors.{HasControl, IsNewDirector, KeepsAll, LoadsControl, MakesCommand};
 ghost use Rattle.sm_director.specs.Directors.{drain_step, vacant_step};
+ghost use Rattle.sm_director.specs.Refusals.{AreRefusedBy, CannotSpell, HasNoControl, IsNotSent, IsRefusedBy};
+ghost use Rattle.sm_director.specs.Refusals.{LacksMemory, LacksServer, LacksShard, RefusesPartsFor};
+ghost use Rattle.sm_director.specs.Resettlings.{KeepsBoth, RefusesByCode, RefusesResettling, SendsSettings};
 
 mod codes;
 pub mod command_numbers;
@@ -24,6 +29,7 @@ mod director_fault;
 pub mod director_handle;
 pub mod director_stage;
 mod kinds;
+mod layouts;
 mod owned_director;
 mod spelling;
 pub mod step_parts;
@@ -46,9 +52,9 @@ use std::alloc::Global;
 pub use step_parts::StepParts;
 use words::has_word;
 
-/// Makes the control of the store that the line of settings describes, of a process that was elected at this revision.
-/// It has read nothing. `waits` says whether commands wait for acks, as they must unless one process has all servers.
-/// The handle keeps it, in place of what it kept, and there are so many shards and servers.
+/// Makes the control of the store with this line of settings, for a process that was elected at this revision. It has
+/// read nothing. `waits` says whether commands wait for acks, as they must unless one process has all servers. The
+/// handle keeps it, in place of its earlier state, and there are so many shards and servers.
 #[unsafe(no_mangle)]
 pub extern "C" fn durkenzo_director(
     alloc: Global,
@@ -133,6 +139,7 @@ pub extern "C" fn durkenzo_director_record(
     ensures made { result ≡ 0
         → DirectsOn (AddsRecord bytes.now stood) director.old.owned.state director.new.owned.state }
     ensures kept { 3 ≤ result → DirectsOn KeepsAll director.old.owned.state director.new.owned.state }
+    ensures held { result ≢ 0 → result < 3 → director.new.owned.state ≡ director.old.owned.state }
 {
     if !director.full {
         return WRONG_HANDLE;
@@ -148,6 +155,7 @@ pub extern "C" fn durkenzo_director_record(
 pub extern "C" fn durkenzo_director_state(director: &mut DirectorHandle, bytes: &[u8]) -> u32
     ensures made { result ≡ 0 → DirectsOn (AddsState bytes.now) director.old.owned.state director.new.owned.state }
     ensures kept { 3 ≤ result → DirectsOn KeepsAll director.old.owned.state director.new.owned.state }
+    ensures held { result ≢ 0 → result < 3 → director.new.owned.state ≡ director.old.owned.state }
 {
     if !director.full {
         return WRONG_HANDLE;
@@ -158,8 +166,8 @@ pub extern "C" fn durkenzo_director_state(director: &mut DirectorHandle, bytes: 
     }
 }
 
-/// All was read that was added, at one revision, at which the key of commands was last written at this one. The control
-/// stands, or where none can be made nothing is read; what was added is let go.
+/// Notes that everything that was added was read, at one revision, at which the key of commands was last written at
+/// this one. Then there is a control; or, if none can be made, nothing is read. The added readings are dropped.
 #[unsafe(no_mangle)]
 pub extern "C" fn durkenzo_director_read(
     alloc: Global,
@@ -168,6 +176,7 @@ pub extern "C" fn durkenzo_director_read(
 ) -> u32
     ensures made { result ≡ 0 → DirectsOn (LoadsControl placed) director.old.owned.state director.new.owned.state }
     ensures unread { 2 ≤ result → DirectsOn ForgetsAll director.old.owned.state director.new.owned.state }
+    ensures held { result ≢ 0 → result < 2 → director.new.owned.state ≡ director.old.owned.state }
 {
     if !director.full {
         return WRONG_HANDLE;
@@ -179,8 +188,8 @@ pub extern "C" fn durkenzo_director_read(
 }
 
 /// Judges the command of this kind, for the shard and the server that it names. `process` runs the server; it is 0 if
-/// none was seen. Returns 0 if the command is to be sent, and nothing else until its outcome is told; or else the code
-/// of the first fault, and nothing has happened.
+/// none was seen. Returns 0 if the command must be sent, and nothing else until its outcome is told. Otherwise returns
+/// the code of the first fault, and nothing has happened.
 #[unsafe(no_mangle)]
 pub extern "C" fn durkenzo_director_command(
     director: &mut DirectorHandle,
@@ -195,6 +204,9 @@ pub extern "C" fn durkenzo_director_command(
         → KeepsDirector (RefusesParts (record { shard = shard; server = server; kind = kind }) result)
         director.old.owned.state }
     ensures kept { result ≢ 0 → director.new.owned.state ≡ director.old.owned.state }
+    ensures unsent { result ≢ 0 → result ≢ 2
+        → IsRefusedBy (RefusesPartsFor (record { shard = shard; server = server; kind = kind })) result
+        director.old.owned.state }
 {
     let parts = StepParts {
         shard,
@@ -213,8 +225,8 @@ pub extern "C" fn durkenzo_director_command(
     }
 }
 
-/// Writes what the command that was sent compares and writes: its numbers, and the bytes for the record or the state
-/// and behind them those for the key of commands.
+/// Writes the compares and the writes of the command that was sent: its numbers, and the bytes for the record or the
+/// state, followed by those for the key of commands.
 #[unsafe(no_mangle)]
 pub extern "C" fn durkenzo_director_sending(
     alloc: Global,
@@ -224,6 +236,7 @@ pub extern "C" fn durkenzo_director_sending(
 ) -> u32
     ensures written { result ≡ 0 → KeepsDirector (SpellsSent numbers.new into.new) director.old.owned.state }
     ensures unchanged { director.new.owned.state ≡ director.old.owned.state }
+    ensures refused { result ≢ 0 → IsRefusedBy CannotSpell result director.old.owned.state }
 {
     if !director.full {
         return WRONG_HANDLE;
@@ -234,11 +247,13 @@ pub extern "C" fn durkenzo_director_sending(
     }
 }
 
-/// The command that was sent was made, at this revision.
+/// Tells the director that the command that was sent was made, at this revision.
 #[unsafe(no_mangle)]
 pub extern "C" fn durkenzo_director_made(director: &mut DirectorHandle, revision: u64) -> u32
     ensures made { result ≡ 0
         → DirectsOn (MakesCommand revision) director.old.owned.state director.new.owned.state }
+    ensures refused { result ≢ 0 → IsRefusedBy IsNotSent result director.old.owned.state }
+    ensures kept { result ≢ 0 → director.new.owned.state ≡ director.old.owned.state }
 {
     if !director.full {
         return WRONG_HANDLE;
@@ -249,18 +264,57 @@ pub extern "C" fn durkenzo_director_made(director: &mut DirectorHandle, revision
     }
 }
 
-/// A compare of the command that was sent didn't hold, or what became of it isn't known, or something is to be read
-/// again: the director has read nothing.
+/// Notes that a compare of the sent command didn't hold, or that its outcome isn't known, or that something must be
+/// read again: the director has read nothing.
 #[unsafe(no_mangle)]
 pub extern "C" fn durkenzo_director_lost(alloc: Global, director: &mut DirectorHandle) -> u32
     ensures forgot { result ≡ 0 → DirectsOn ForgetsAll director.old.owned.state director.new.owned.state }
     ensures kept { result ≢ 0 → director.new.owned.state ≡ director.old.owned.state }
+    ensures refused { result ≢ 0 → director.old.owned.state ≡ None }
 {
     if !director.full {
         return WRONG_HANDLE;
     }
     director.owned.state_mut().forget(alloc);
     0
+}
+
+/// Judges the settings of the other director, which is of the same process and was read by the same records and
+/// states. Because the other director stands, the records and states keep to its settings. If these may come in place
+/// of this director's, returns 0 and writes the numbers of the transaction that puts them: it compares as a command,
+/// with `absent` 0, and puts the bytes at the key of commands, and the very line of which the other director was made,
+/// which the caller has. Whatever the outcome, the caller must read the settings again and make a director by them.
+/// Else returns the code of the first fault, with the server of `IN_USE`, or 0.
+#[unsafe(no_mangle)]
+pub extern "C" fn durkenzo_director_resettle(
+    alloc: Global,
+    director: &mut DirectorHandle,
+    other: &mut DirectorHandle,
+    in_use: &mut u16,
+    numbers: &mut CommandNumbers,
+    into: &mut [u8],
+) -> u32
+    ensures sent { result ≡ 0 → KeepsBoth (λ kept drafted. SendsSettings kept drafted numbers.new into.new)
+        director.old.owned.state other.old.owned.state }
+    ensures refused { 99 ≤ result → KeepsBoth (λ kept drafted. RefusesByCode kept drafted result in_use.new)
+        director.old.owned.state other.old.owned.state }
+    ensures unchanged { (director.new.owned.state ≡ director.old.owned.state)
+        × (other.new.owned.state ≡ other.old.owned.state) }
+    ensures unsent { result ≢ 0
+        → AreRefusedBy RefusesResettling result director.old.owned.state other.old.owned.state }
+{
+    if !director.full || !other.full {
+        return WRONG_HANDLE;
+    }
+    let drafted = other.owned.state_mut();
+    let kept = director.owned.state_mut();
+    match kept.resettle(alloc, drafted, numbers, into) {
+        Ok(()) => 0,
+        Err(fault) => {
+            *in_use = number_of(fault.in_use());
+            code_of(fault)
+        }
+    }
 }
 
 /// Adds a server whose key is there, and the revision up to which it has said that it has read the store.
@@ -273,6 +327,7 @@ pub extern "C" fn durkenzo_director_follower(
     ensures made { result ≡ 0
         → DirectsOn (AddsFollower server revision) director.old.owned.state director.new.owned.state }
     ensures kept { 3 ≤ result → DirectsOn KeepsAll director.old.owned.state director.new.owned.state }
+    ensures held { result ≢ 0 → result < 3 → director.new.owned.state ≡ director.old.owned.state }
 {
     let Some(server) = ServerId::new(server) else {
         return BAD_ARGUMENT;
@@ -294,6 +349,7 @@ pub extern "C" fn durkenzo_director_forget_followers(
 ) -> u32
     ensures forgot { result ≡ 0 → DirectsOn ForgetsFollowers director.old.owned.state director.new.owned.state }
     ensures kept { result ≢ 0 → director.new.owned.state ≡ director.old.owned.state }
+    ensures refused { result ≢ 0 → director.old.owned.state ≡ None }
 {
     if !director.full {
         return WRONG_HANDLE;
@@ -313,6 +369,7 @@ pub extern "C" fn durkenzo_director_ack(
     ensures made { result ≡ 0
         → DirectsOn (AddsAck shard server generation) director.old.owned.state director.new.owned.state }
     ensures kept { 3 ≤ result → DirectsOn KeepsAll director.old.owned.state director.new.owned.state }
+    ensures held { result ≢ 0 → result < 3 → director.new.owned.state ≡ director.old.owned.state }
 {
     let Some(k) = ShardId::new(shard) else {
         return BAD_ARGUMENT;
@@ -334,6 +391,7 @@ pub extern "C" fn durkenzo_director_ack(
 pub extern "C" fn durkenzo_director_forget_acks(alloc: Global, director: &mut DirectorHandle) -> u32
     ensures forgot { result ≡ 0 → DirectsOn ForgetsAcks director.old.owned.state director.new.owned.state }
     ensures kept { result ≢ 0 → director.new.owned.state ≡ director.old.owned.state }
+    ensures refused { result ≢ 0 → director.old.owned.state ≡ None }
 {
     if !director.full {
         return WRONG_HANDLE;
@@ -342,7 +400,7 @@ pub extern "C" fn durkenzo_director_forget_acks(alloc: Global, director: &mut Di
     0
 }
 
-/// Writes what comes next of the shard.
+/// Writes the next step of the shard.
 #[unsafe(no_mangle)]
 pub extern "C" fn durkenzo_director_next_of_shard(
     director: &mut DirectorHandle,
@@ -353,6 +411,7 @@ pub extern "C" fn durkenzo_director_next_of_shard(
         TellsStep step.new (shard_step control kept.followers.items kept.acks.items shard) control)
         kept) director.old.owned.state }
     ensures unchanged { director.new.owned.state ≡ director.old.owned.state }
+    ensures refused { result ≢ 0 → IsShard shard → IsRefusedBy (LacksShard shard) result director.old.owned.state }
 {
     let Some(k) = ShardId::new(shard) else {
         return UNKNOWN_SHARD;
@@ -369,7 +428,7 @@ pub extern "C" fn durkenzo_director_next_of_shard(
     }
 }
 
-/// Writes what comes next of the server's restart, by the acks that were added.
+/// Writes the next step of the server's restart, by the acks that were added.
 #[unsafe(no_mangle)]
 pub extern "C" fn durkenzo_director_next_of_server(
     director: &mut DirectorHandle,
@@ -379,6 +438,7 @@ pub extern "C" fn durkenzo_director_next_of_server(
     ensures told { result ≡ 0 → KeepsDirector (λ kept. HasControl (λ control.
         TellsStep step.new (server_step control kept.acks.items server) control) kept) director.old.owned.state }
     ensures unchanged { director.new.owned.state ≡ director.old.owned.state }
+    ensures refused { result ≢ 0 → IsServer server → IsRefusedBy HasNoControl result director.old.owned.state }
 {
     let Some(server) = ServerId::new(server) else {
         return BAD_ARGUMENT;
@@ -395,7 +455,7 @@ pub extern "C" fn durkenzo_director_next_of_server(
     }
 }
 
-/// Writes what comes next of the drain of the server, or for 0 of the vacant shards.
+/// Writes the next step of the drain of the server, or of the vacant shards if it is 0.
 #[unsafe(no_mangle)]
 pub extern "C" fn durkenzo_director_next_of_drain(
     alloc: Global,
@@ -408,6 +468,8 @@ pub extern "C" fn durkenzo_director_next_of_drain(
     ensures vacant { result ≡ 0 → server ≡ 0 → KeepsDirector (HasControl (λ control.
         TellsStep step.new (vacant_step control) control)) director.old.owned.state }
     ensures unchanged { director.new.owned.state ≡ director.old.owned.state }
+    ensures refused { result ≢ 0 → (server ≢ 0 → IsServer server)
+        → IsRefusedBy LacksMemory result director.old.owned.state }
 {
     if !director.full {
         return WRONG_HANDLE;
@@ -433,12 +495,13 @@ pub extern "C" fn durkenzo_director_next_of_drain(
     }
 }
 
-/// Writes the first server to which requests go and that isn't among the followers, 0 for none.
+/// Writes the first server to which requests go although it isn't among the followers, or 0 for none.
 #[unsafe(no_mangle)]
 pub extern "C" fn durkenzo_director_fallen(director: &mut DirectorHandle, server: &mut u16) -> u32
     ensures told { result ≡ 0 → KeepsDirector (λ kept. HasControl (λ control.
         server.new ≡ unwrap_or (fallen control.desk.books kept.followers.items) 0) kept) director.old.owned.state }
     ensures unchanged { director.new.owned.state ≡ director.old.owned.state }
+    ensures refused { result ≢ 0 → IsRefusedBy HasNoControl result director.old.owned.state }
 {
     if !director.full {
         return WRONG_HANDLE;
@@ -484,7 +547,7 @@ pub extern "C" fn durkenzo_director_record_of(
     }
 }
 
-/// Writes the number of the server's state, and the process that it names, 0 for none.
+/// Writes the number of the server's state, and the process that it names, or 0 for none.
 #[unsafe(no_mangle)]
 pub extern "C" fn durkenzo_director_state_of(
     director: &mut DirectorHandle,
@@ -496,6 +559,7 @@ pub extern "C" fn durkenzo_director_state_of(
         (state.new ≡ state_number (run_at control server).state) × (process.new ≡ (run_at control server).process)))
         director.old.owned.state }
     ensures unchanged { director.new.owned.state ≡ director.old.owned.state }
+    ensures refused { result ≢ 0 → IsServer server → IsRefusedBy (LacksServer server) result director.old.owned.state }
 {
     let Some(server) = ServerId::new(server) else {
         return BAD_ARGUMENT;
@@ -513,7 +577,7 @@ pub extern "C" fn durkenzo_director_state_of(
     }
 }
 
-/// Lets go the director that the handle keeps.
+/// Drops the director that the handle keeps.
 #[unsafe(no_mangle)]
 pub extern "C" fn durkenzo_director_close(alloc: Global, director: &mut DirectorHandle)
     ensures { director.new.owned.state ≡ None }

@@ -23,7 +23,7 @@ impl Model for OwnedDirector {
 }
 
 impl OwnedDirector {
-    /// What owns nothing.
+    /// Makes the owner of nothing.
     pub(crate) fn empty(alloc: Global) -> OwnedDirector
         ensures { result.state ≡ None }
     {
@@ -33,7 +33,7 @@ impl OwnedDirector {
         }
     }
 
-    /// What owns the state of a box.
+    /// Makes the owner of a box's state.
     pub(crate) fn of_parts(parts: BoxParts<Director, Global>) -> OwnedDirector
         ensures { result.state ≡ Some parts.value }
     {
@@ -44,7 +44,7 @@ impl OwnedDirector {
         }
     }
 
-    /// The box of the state that is owned.
+    /// Returns the box of the state that is owned.
     pub(crate) fn into_parts(self) -> BoxParts<Director, Global>
         requires { is_some self.state ≡ true }
         ensures { self.state ≡ Some result.value }
@@ -62,7 +62,7 @@ impl OwnedDirector {
     ghost use Rattle.std.specs.Prelude.{◌≡◌, Some, is_some, true};
     ghost use Rattle.sm_director.specs.Lending.{LendsDirector};
 
-    /// The state that is owned, to change it in its place.
+    /// Returns the state that is owned, to change it in its place.
     pub(crate) fn state_mut(&mut self) -> &mut Director
         requires { is_some self.old.state ≡ true }
         ensures* writes_back { sem 𝓛 (LendsDirector self.entry result) }

@@ -7,14 +7,14 @@ use sm_ownership::record::{MAX_GENERATION, Record};
 use sm_ranges::server_id::ServerId;
 use sm_ranges::stand::Stand;
 
-/// Whether the record has a word.
+/// Returns whether the record has a word.
 pub(crate) fn has_word(state: &Record) -> bool
     ensures { IsTrue result → IsWellFormed state.now }
 {
     names_servers(&state.stand) && fits_stand(state) && state.generation <= MAX_GENERATION
 }
 
-// Whether the stand names two servers where it names two.
+// Returns whether the servers that the stand names are valid, and two if it names two.
 fn names_servers(stand: &Stand) -> bool
     ensures { IsTrue result → NamesServers stand.now }
 {
@@ -35,7 +35,8 @@ fn are_apart(one: ServerId, other: ServerId) -> bool
     one.number() != other.number()
 }
 
-// Whether the record has a generation exactly where somebody owned the shard, and no admission where nobody executes.
+// Returns whether the record has a generation if and only if somebody owned the shard, and no admission if no server
+// executes.
 fn fits_stand(state: &Record) -> bool
     ensures { IsTrue result → FitsStand state.now.stand state.now.admitted state.now.generation }
 {

@@ -1,4 +1,4 @@
--- What owns a server, as the walks of sm_kept take it.
+-- The owner of a server, as the walks of sm_kept take it.
 use mathlib.Core.Path.{refl}
 use denote.Param.{layout}
 use Rattle.sm_kept.proofs.Owner.{Owner}

@@ -1,4 +1,4 @@
--- What a call does to the server that a handle keeps.
+-- The effects of calls on the server that a handle keeps.
 use Rattle.std.specs.Prelude.{ℕ, Bool, ◌≡◌, ◌==◌, ◌+◌, ◌++◌, ◌&&◌, ◌||◌, nat_le, List, Option, Some, None, length}
 use Rattle.std.specs.Prelude.{◌<◌, ◌⊎◌}
 use Rattle.std.specs.Prelude.{slice_get, take, IfSome, IsSome}
@@ -27,12 +27,12 @@ use Rattle.sm_map.specs.KeyMap.{KeyPair}
 use Rattle.sm_texts.specs.Keys.{spelled_keys}
 use Rattle.sm_driver.specs.Servers.{DoneOn, IsComing, IsPartOf, SpellsSending, TextInput, TextOutput, pairs_found}
 
--- both handles keep servers, between which this holds
+-- both handles keep servers, with this relation between them
 abbrev pub Between : (TextServer → TextServer → Type 0) → Option TextServer → Option TextServer → Type 0
 Between holds (Some old) (Some new) = holds old new
 Between holds old new = ⊥
 
--- the handle keeps a server of which this holds
+-- the handle keeps a server with this property
 abbrev pub KeepsServer : (TextServer → Type 0) → Option TextServer → Type 0
 KeepsServer holds (Some server) = holds server
 KeepsServer holds None = ⊥
@@ -58,11 +58,11 @@ abbrev pub IsRequestInput : ℕ → ℕ → ℕ → ℕ → ℕ → List ℕ →
 IsRequestInput client number from hops forgets bytes server input =
     (item : Item (Vec ℕ)) × HasItemParts client number from hops forgets bytes item × IsComing item input
 
--- a decision on a request that came is told by such a code
+-- a decision about a request is told by such a code
 abbrev pub is_decided : ℕ → Bool
 is_decided code = code == 0 || (nat_le 70 code && nat_le code 79)
 
--- the code tells the decision, with the reply, or where the request goes on
+-- the code tells the decision, with the reply, or the next server for the request
 abbrev pub TellsDecision : Decision TextReply → ℕ → TextReply → TextForward → Type 0
 TellsDecision (Replied made) code reply forward = (code ≡ 0) × (reply ≡ made)
 TellsDecision Passed code reply forward = code ≡ codes.PASSED
@@ -77,12 +77,12 @@ TellsDecision TooLarge code reply forward = code ≡ codes.REQUEST_TOO_LARGE
 TellsDecision Busy code reply forward = code ≡ codes.CROWDED
 TellsDecision TooManyClients code reply forward = code ≡ codes.TOO_MANY_CLIENTS
 
--- such a decision came of it
+-- the result was such a decision
 abbrev pub IsDecidedAs : ℕ → TextReply → TextForward → TextOutput → Type 0
 IsDecidedAs code reply forward output =
     (decision : Decision TextReply) × (output ≡ Decided decision) × TellsDecision decision code reply forward
 
--- the numbers and the bytes are those of what a transaction compares and writes
+-- the numbers and the bytes are those of a transaction's compares and writes
 pub record WritesSent (sent : SentBytes) (numbers : SentNumbers) (written : List ℕ) : Type 0 where
   pub stood : numbers.stood ≡ sent.stood
   pub logged : numbers.logged ≡ sent.logged
@@ -91,7 +91,7 @@ pub record WritesSent (sent : SentBytes) (numbers : SentNumbers) (written : List
   pub batch_length : numbers.batch_length ≡ length sent.batch.items
   pub bytes : take (numbers.head_length + numbers.batch_length) written ≡ sent.head.items ++ sent.batch.items
 
--- they are those of the transaction that the server sends
+-- they are those of the server's transaction
 abbrev pub WritesSending : SentNumbers → List ℕ → TextServer → Type 0
 WritesSending numbers written server = (sent : SentBytes) × SpellsSending server sent × WritesSent sent numbers written
 
@@ -129,7 +129,7 @@ pub record WritesKeys (pairs : List KeyPair) (numbers : KeyNumbers) (written : L
   pub length_is : numbers.length ≡ length (spelled_keys pairs)
   pub bytes : take numbers.length written ≡ spelled_keys pairs
 
--- they are those of the keys that the server has from low on and below high, so many at most
+-- they are those of the server's keys from low on and below high, at most so many
 abbrev pub ScansKeys : List ℕ → List ℕ → ℕ → KeyNumbers → List ℕ → TextServer → Type 0
 ScansKeys low high most numbers written server =
     WritesKeys (pairs_found server.core.ready low high most) numbers written

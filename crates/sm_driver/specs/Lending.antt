@@ -1,4 +1,4 @@
--- What a handle lends.
+-- The state that a handle lends.
 use Rattle.std.specs.Prelude.{Some}
 use Rattle.std.specs.Borrow.{Fml, Lends, MutBor}
 use Rattle.sm_driver.specs.declared.text_server.TextServer.{TextServer}
@@ -6,7 +6,7 @@ use Rattle.sm_driver.specs.declared.owned_server.OwnedServer.{OwnedServer}
 use Rattle.sm_driver.specs.contracts.text_server.TextServer as State
 use Rattle.sm_driver.specs.contracts.owned_server.OwnedServer.{the_row}
 
--- what owns this state in place of its own
+-- the owner of this state in place of its own
 abbrev pub owning_server : OwnedServer → TextServer → OwnedServer
 owning_server owned state = record { ptr = owned.ptr; alloc = owned.alloc; state = Some state }
 

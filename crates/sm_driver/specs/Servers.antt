@@ -1,4 +1,5 @@
--- What a call does to a server of a shard: a step of the protocol, on what the bytes that it was given spell.
+-- The effects of calls on a server of a shard: each is a step of the protocol, from the decoded bytes that it was
+-- given.
 use Rattle.std.specs.Prelude.{ℕ, Bool, true, false, ◌≡◌, ◌+◌, ◌++◌, ◌∷◌, [], List, Option, Some, None, IfSome}
 use Rattle.std.specs.Prelude.{Ok, if◌then◌else◌, length, slice_get, take}
 use Rattle.std.specs.List.{AllByRecursion}
@@ -35,11 +36,11 @@ use Rattle.sm_driver.specs.declared.part_numbers.PartNumbers.{PartNumbers}
 use Rattle.sm_driver.specs.declared.sent_bytes.SentBytes.{SentBytes}
 use Rattle.sm_driver.specs.declared.text_server.TextServer.{TextServer}
 
--- what comes to a server of the sample service
+-- an input of a server of the sample service
 abbrev pub TextInput : Type 0
 TextInput = ShardInput (Vec ℕ) TextReply
 
--- what it does
+-- an output of it
 abbrev pub TextOutput : Type 0
 TextOutput = ShardOutput (Vec ℕ) TextReply
 
@@ -58,7 +59,7 @@ IsNewServer me shard count limits server =
 abbrev pub request_size : Vec ℕ → ℕ
 request_size request = length request.items
 
--- on such an input it made a step of the protocol, of which exactly this comes
+-- on such an input it made a step of the protocol, with exactly this result
 pub record StepsOn (old : TextServer) (is_input : TextInput → Type 0) (output : TextOutput)
     (new : TextServer) : Type 0 where
   pub input : TextInput
@@ -77,7 +78,7 @@ abbrev pub DoneOn : TextServer → (TextInput → Type 0) → (TextOutput → Ty
 DoneOn old is_input is_output new =
     (output : TextOutput) × is_output output × StepsOn old is_input output new
 
--- whatever came of it
+-- with any result
 abbrev pub IsAny : TextOutput → Type 0
 IsAny output = Unit {0}
 
@@ -104,15 +105,15 @@ IsReading server record_text stood head_text logged (Read state stood' head logg
     × (parts.now ≡ server.parts.items) × (batches.now ≡ server.batches.items)
 IsReading server record_text stood head_text logged input = ⊥
 
--- the shard was read from where the server's replica ends: its record and the head of its log by these bytes, at these
--- revisions, and the batches after those that the server has
+-- the shard was read from the end of the server's replica on: its record and the head of its log with these bytes, at
+-- these revisions, and the batches after those that the server has
 abbrev pub IsAppending : TextServer → List ℕ → ℕ → List ℕ → ℕ → TextInput → Type 0
 IsAppending server record_text stood head_text logged (Append state stood' head logged' batches) =
     SpellsRecord record_text state × (stood' ≡ stood) × (head_text ≡ head_bytes head) × (logged' ≡ logged)
     × (batches.now ≡ server.batches.items)
 IsAppending server record_text stood head_text logged input = ⊥
 
--- the shard's record alone was read
+-- only the shard's record was read
 abbrev pub IsRecordReading : List ℕ → ℕ → TextInput → Type 0
 IsRecordReading record_text stood (RecordRead state stood') = SpellsRecord record_text state × (stood' ≡ stood)
 IsRecordReading record_text stood input = ⊥
@@ -121,7 +122,7 @@ IsRecordReading record_text stood input = ⊥
 abbrev pub IsComing : Item (Vec ℕ) → TextInput → Type 0
 IsComing item input = input ≡ (if is_read item.request.items then Question item else Request item)
 
--- it sends what waits
+-- it sends the waiting requests
 abbrev pub is_sending : TextOutput → Bool
 is_sending Sends = true
 is_sending output = false
@@ -131,7 +132,7 @@ abbrev pub is_basing : TextOutput → Bool
 is_basing Bases = true
 is_basing output = false
 
--- it deletes what lies at a key
+-- it deletes the value at a key
 abbrev pub is_clearing : TextOutput → Bool
 is_clearing (Clears key) = true
 is_clearing output = false
@@ -169,7 +170,7 @@ batch_written server [] = []
 batch_written server (item ∷ items) =
     batch_bytes (record { server = server; items = item_views (item ∷ items) })
 
--- the number of that batch, 0 for none
+-- the number of that batch, or 0 for none
 abbrev pub number_written : List (Item (Vec ℕ)) → Head → ℕ
 number_written [] head = 0
 number_written (item ∷ items) head = head.batches + 1
@@ -189,7 +190,7 @@ MayBeSent core txn =
     → charter.parts ≡ base_of texts_service → IsTrueOf texts_service log core
     → MaySend charter log txn
 
--- they are those of the transaction that the server sends, which may be sent
+-- they are those of the server's transaction, which may be sent
 abbrev pub SpellsSending : TextServer → SentBytes → Type 0
 SpellsSending server sent =
     (sending : BatchSending (Vec ℕ)) × IsSpelled sending sent
@@ -197,7 +198,7 @@ SpellsSending server sent =
     sending_transaction sending ≡ sent_transaction server.core.me server.core.shard ready)
     × MayBeSent server.core (sending_transaction sending)
 
--- the answers are those of the transaction that was made, and of the reads that it carried
+-- the answers are those of the transaction that was made, and of its reads
 abbrev pub TellsAnswers : TextServer → ℕ → TextServer → Type 0
 TellsAnswers old revision new =
     DoneOn old (λ input. input ≡ Made revision)
@@ -207,12 +208,12 @@ TellsAnswers old revision new =
 abbrev pub TextState : Type 0
 TextState = ShardState (List KeyPair) (Vec ℕ) TextReply
 
--- how many keys hold something then: none before the server has read
+-- how many keys there are then: none before the server has read
 abbrev pub keys_held : Option TextState → ℕ
 keys_held None = 0
 keys_held (Some ready) = length ready.replica.machine
 
--- the pairs that are there then, with keys from low on and below high, and of these the first so many
+-- the pairs that are there then, with keys from low on and below high, and the first so many of these
 abbrev pub pairs_found : Option TextState → List ℕ → List ℕ → ℕ → List KeyPair
 pairs_found None low high most = []
 pairs_found (Some ready) low high most = take most (within ready.replica.machine low high)

@@ -12,10 +12,10 @@ use sm_texts::TextReply;
 /// The handle keeps no server.
 pub(crate) const WRONG_HANDLE: u32 = 1;
 
-/// A server is out of bounds.
+/// A server is out of range.
 pub(crate) const BAD_ARGUMENT: u32 = 2;
 
-/// Memory was refused.
+/// Out of memory.
 pub(crate) const NO_MEMORY: u32 = 3;
 
 /// There is no such shard.
@@ -30,28 +30,28 @@ pub(crate) const NO_MORE: u32 = 56;
 /// The request waits for the next transaction, or is in one.
 pub(crate) const WAITS: u32 = 70;
 
-/// A later request of its client is made, so this one won't be made.
+/// A later request of its client was made, so this one won't be made.
 pub(crate) const PASSED: u32 = 71;
 
 /// Another server executes the request.
 pub(crate) const FORWARDS: u32 = 72;
 
-/// Not here and now, or another number of its client waits here.
+/// It isn't executed here now, or its client waits with another number, or will be forgotten.
 pub(crate) const REFUSED: u32 = 73;
 
-/// The request takes more bytes than a batch may.
+/// The request takes more bytes than a batch may have.
 pub(crate) const REQUEST_TOO_LARGE: u32 = 74;
 
-/// As many requests wait as may.
+/// As many requests wait as allowed.
 pub(crate) const CROWDED: u32 = 75;
 
-/// Another server executes the request, but it was forwarded as often as it may be.
+/// Another server executes the request, but it may not be forwarded again.
 pub(crate) const TOO_FAR: u32 = 76;
 
-/// Its client is forgotten, so it won't be made any more.
+/// The server has forgotten its client, so the request won't be made any more.
 pub(crate) const FORGOTTEN: u32 = 77;
 
-/// As many clients are kept as may, and its client isn't among them.
+/// As many clients are kept as allowed, and its client isn't among them.
 pub(crate) const TOO_MANY_CLIENTS: u32 = 78;
 
 /// The server hasn't read the shard.
@@ -66,14 +66,14 @@ pub(crate) const BAD_BYTES: u32 = 81;
 /// The log can't be followed.
 pub(crate) const BAD_LOG: u32 = 82;
 
-/// A batch, or a part of the base, isn't there: the log is to be read again.
+/// A batch, or a part of the base, is missing: the log must be read again.
 pub(crate) const MISSING: u32 = 83;
 
-/// A batch or a part has more bytes than can be spelled.
+/// A batch or a part has too many bytes.
 pub(crate) const TOO_LARGE: u32 = 84;
 // End of them.
 
-/// The code of why a call on a server did nothing.
+/// Returns the code of why a call on a server did nothing.
 pub(crate) fn code_of_fault(fault: DriverFault) -> u32
     ensures refused { result ≢ 0 }
     ensures undecided { is_decided result ≡ false }
@@ -91,7 +91,7 @@ pub(crate) fn code_of_fault(fault: DriverFault) -> u32
     }
 }
 
-/// The code of a decision, with the reply, or where the request goes on.
+/// Returns the code of a decision, with the reply, or the next server for the request.
 pub(crate) fn code_of_decision(
     decision: Decision<TextReply>,
     reply: &mut TextReply,

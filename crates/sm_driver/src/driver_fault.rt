@@ -3,13 +3,13 @@ use sm_shard::ReplayFault;
 use std::alloc::{AllocError, AllocFailed};
 use thiserror::Error;
 
-/// Why a call on a server did nothing, or the server has forgotten what it read.
+/// Why a call on a server did nothing, or the server has forgotten its readings.
 #[derive(Clone, Copy, Debug, Drop, Error)]
 pub enum DriverFault {
     /// Memory was refused.
     #[error("out of memory")]
     Memory,
-    /// What lies at a key is wrong.
+    /// The bytes at a key are malformed.
     #[error("what lies at a key is wrong: {0}")]
     Bytes(Fault),
     /// A last request in a part of a base has no reply.

@@ -1,8 +1,8 @@
-//! A server's core over a shared store, for callers in C, C++, Python and Rust: what it decides, what it sends and
-//! what it tells, with no input or output of its own. The caller reads the store, sends the transactions and says what
-//! became of them. Each call answers 0, or a code of library/codes.txt; where that is none that the call speaks of,
-//! the server is to be closed, and another one to be made. A handle begins as bytes of 0; it may pass from thread to
-//! thread, and is used by one call at a time.
+//! A server's core over a shared store, for callers in C, C++, Python and Rust: its decisions, transactions and
+//! answers, without any input or output of its own. The caller reads the store, sends the transactions and tells their
+//! outcomes. Each call answers 0, or a code of library/codes.txt; if the call doesn't document that code, the caller
+//! must close the server and make another one. A handle must begin as bytes of 0. It may pass from thread to thread,
+//! and is used by one call at a time.
 #![tactic(auto)]
 
 ghost use Rattle.std.specs.Prelude.{◌≡◌, ◌≢◌, ◌++◌, ◌-◌, ◌^◌, true, None, IfOk, IfSome, length, min};
@@ -58,8 +58,8 @@ pub use text_server::TextServer;
 use written::write;
 
 /// Makes a server of the shard, one of so many, that has read nothing yet. A batch takes at most so many bytes and
-/// requests, so many requests wait at most, and of so many clients the last request is kept. The handle keeps it, in
-/// place of what it kept.
+/// requests, at most so many requests wait, and the last request of so many clients is kept. The handle keeps the
+/// server, in place of its earlier state.
 #[unsafe(no_mangle)]
 pub extern "C" fn durkenzo_server(
     alloc: Global,
@@ -140,7 +140,7 @@ pub extern "C" fn durkenzo_server_part_read(
     }
 }
 
-/// Tells what the bytes at a log's head say, and so which batches and parts are to be read.
+/// Reads the bytes at a log's head, which tell the batches and parts that must be read.
 #[unsafe(no_mangle)]
 pub extern "C" fn durkenzo_log_head_of(bytes: &[u8], head: &mut LogHead) -> u32
     ensures { result ≡ 0 → bytes.now ≡ head_bytes (record {
@@ -162,8 +162,8 @@ pub extern "C" fn durkenzo_log_head_of(bytes: &[u8], head: &mut LogHead) -> u32
     }
 }
 
-/// The shard was read: the bytes of its record and of the head of its log, with their revisions, and the parts and the
-/// batches that were added, which are let go.
+/// Tells the handle what was read of the shard: the bytes of its record and of the head of its log, with their
+/// revisions, and the parts and the batches that were added, which are let go.
 #[unsafe(no_mangle)]
 pub extern "C" fn durkenzo_server_read(
     alloc: Global,
@@ -189,9 +189,9 @@ pub extern "C" fn durkenzo_server_read(
     }
 }
 
-/// The shard was read from where the server's replica ends: the bytes of its record and of the head of its log, with
-/// their revisions, and the batches that were added, which are let go. What was sent or waits at the server is to be
-/// decided again.
+/// Notes that the shard was read from the end of the server's replica on: the bytes of its record and of the head of
+/// its log, with their revisions, and the batches that were added, which are dropped. Requests that were sent or wait
+/// at the server must be decided again.
 #[unsafe(no_mangle)]
 pub extern "C" fn durkenzo_server_append(
     alloc: Global,
@@ -217,7 +217,7 @@ pub extern "C" fn durkenzo_server_append(
     }
 }
 
-/// Writes how many batches the server has made: none before it has read. Those after them are to be read for
+/// Writes how many batches the server has made: none before it has read. The caller must read those after them for
 /// `durkenzo_server_append`.
 #[unsafe(no_mangle)]
 pub extern "C" fn durkenzo_server_batch_count(server: &mut ServerHandle, batches: &mut u64) -> u32
@@ -233,7 +233,8 @@ pub extern "C" fn durkenzo_server_batch_count(server: &mut ServerHandle, batches
     0
 }
 
-/// The shard's record alone was read, or seen by the watch. What waits at the server is to be decided again.
+/// Notes that only the shard's record was read, or seen by the watch. Requests that wait at the server must be decided
+/// again.
 #[unsafe(no_mangle)]
 pub extern "C" fn durkenzo_server_record(
     alloc: Global,
@@ -253,9 +254,9 @@ pub extern "C" fn durkenzo_server_record(
     }
 }
 
-/// A request came, directly (`from` 0) or from that server, forwarded so often: 0 where it was made, with its reply;
-/// else what is decided of it. Once it is made, clients below `forgets` are forgotten.
-/// One that waits is answered when a transaction is made that was sent later.
+/// Takes a request, which came directly (`from` 0) or from that server, forwarded so often. Returns 0 with its reply if
+/// it was made; otherwise the code of the decision. Once it is made, clients below `forgets` are forgotten. A request
+/// that waits is answered when a transaction is made that was sent later.
 #[unsafe(no_mangle)]
 pub extern "C" fn durkenzo_server_take(
     alloc: Global,
@@ -296,7 +297,8 @@ pub extern "C" fn durkenzo_server_take(
     }
 }
 
-/// Lets what waits be sent, where nothing is under way. `sends` says whether there is something to send now.
+/// Makes waiting requests ready to be sent, if nothing is under way. `sends` says whether there is something to send
+/// now.
 #[unsafe(no_mangle)]
 pub extern "C" fn durkenzo_server_flush(
     alloc: Global,
@@ -318,8 +320,8 @@ pub extern "C" fn durkenzo_server_flush(
     }
 }
 
-/// Writes what the transaction that was sent compares and writes: its numbers, and the bytes for the head and behind
-/// them those for the batch.
+/// Writes the compares and the writes of the transaction that was sent: its numbers, and the bytes for the head,
+/// followed by those for the batch.
 #[unsafe(no_mangle)]
 pub extern "C" fn durkenzo_server_sending(
     alloc: Global,
@@ -336,8 +338,8 @@ pub extern "C" fn durkenzo_server_sending(
     sent_by(alloc, server.owned.state_mut(), numbers, into)
 }
 
-/// The transaction was made, or where it only compares has held, at this revision. There are so many answers to
-/// requests that were made, and to reads, which the next calls tell.
+/// Notes that the transaction was made at this revision, or has held there if it only compares. There are so many
+/// answers to requests that were made, and to reads, which the next calls return.
 #[unsafe(no_mangle)]
 pub extern "C" fn durkenzo_server_made(
     alloc: Global,
@@ -365,7 +367,7 @@ pub extern "C" fn durkenzo_server_made(
     }
 }
 
-/// Tells the answer at this place to a request that was made.
+/// Writes the answer at this place to a request that was made.
 #[unsafe(no_mangle)]
 pub extern "C" fn durkenzo_server_answer(
     server: &mut ServerHandle,
@@ -381,7 +383,7 @@ pub extern "C" fn durkenzo_server_answer(
     answer_in(server.owned.state_mut(), at, answer)
 }
 
-/// Tells the answer at this place to a read, with its text.
+/// Writes the answer at this place to a read, with its text.
 #[unsafe(no_mangle)]
 pub extern "C" fn durkenzo_server_text(
     server: &mut ServerHandle,
@@ -398,8 +400,9 @@ pub extern "C" fn durkenzo_server_text(
     text_in(server.owned.state_mut(), at, answer, into)
 }
 
-/// The compares of the transaction that was sent didn't hold, or what became of it isn't known. The server keeps what
-/// it has made, but decides nothing before it has read or appended. What it held is to be decided again then.
+/// Notes that the compares of the sent transaction didn't hold, or that its outcome isn't known. The server keeps the
+/// requests that it has made, but decides nothing until it has read or appended. Requests that it held must then be
+/// decided again.
 #[unsafe(no_mangle)]
 pub extern "C" fn durkenzo_server_lost(alloc: Global, server: &mut ServerHandle) -> u32
     ensures made { result ≡ 0 → MakesOn server.old.owned.state (λ old input. input ≡ LostInput) IsAny
@@ -414,8 +417,8 @@ pub extern "C" fn durkenzo_server_lost(alloc: Global, server: &mut ServerHandle)
     }
 }
 
-/// Begins a base of all that is made, where none is made and there are batches that the last one doesn't stand for.
-/// `begins` says whether its parts are to be written now.
+/// Begins a base of all requests that were made, if none is being made and there are batches that the last one doesn't
+/// replace. `begins` says whether its parts must be written now.
 #[unsafe(no_mangle)]
 pub extern "C" fn durkenzo_server_base(
     alloc: Global,
@@ -437,7 +440,7 @@ pub extern "C" fn durkenzo_server_base(
     }
 }
 
-/// Writes what is put at the key of the part at this place of the base.
+/// Writes the value for the key of the part at this place of the base.
 #[unsafe(no_mangle)]
 pub extern "C" fn durkenzo_server_part(
     alloc: Global,
@@ -455,7 +458,7 @@ pub extern "C" fn durkenzo_server_part(
     part_in(alloc, server.owned.state_mut(), place, part, into)
 }
 
-/// Each part of the base was put, so that the next transaction names it.
+/// Tells the handle that each part of the base was put, so that the next transaction names it.
 #[unsafe(no_mangle)]
 pub extern "C" fn durkenzo_server_parts_made(alloc: Global, server: &mut ServerHandle) -> u32
     ensures made { result ≡ 0 → MakesOn server.old.owned.state (λ old input. input ≡ PartsInput) IsAny
@@ -470,8 +473,8 @@ pub extern "C" fn durkenzo_server_parts_made(alloc: Global, server: &mut ServerH
     }
 }
 
-/// Says in `behind` whether the batch of this number, or where `is_part` the part at this place of the base of this
-/// number, is behind the base that the head names, and is to be deleted.
+/// Writes to `behind` whether the base that the head names has replaced the batch with this number; or, if `is_part`,
+/// the part at this place of the base with this number. Then that must be deleted.
 #[unsafe(no_mangle)]
 pub extern "C" fn durkenzo_server_is_behind(
     alloc: Global,
@@ -499,7 +502,7 @@ pub extern "C" fn durkenzo_server_is_behind(
     }
 }
 
-/// Writes of how many clients the server keeps the last request: of none before it has read.
+/// Writes how many clients' last requests the server keeps: none before it has read.
 #[unsafe(no_mangle)]
 pub extern "C" fn durkenzo_server_clients(server: &mut ServerHandle, clients: &mut usize) -> u32
     ensures told { result ≡ 0 → KeepsServer (λ server. clients.new ≡ clients_kept server.core.ready)
@@ -514,8 +517,8 @@ pub extern "C" fn durkenzo_server_clients(server: &mut ServerHandle, clients: &m
     0
 }
 
-/// Writes how many keys hold something after all requests that are made; 2^64 - 1 if there are more, and none before
-/// the server has read.
+/// Writes how many keys there are after all requests that were made; 2^64 - 1 if there are more, and 0 before the
+/// server has read.
 #[unsafe(no_mangle)]
 pub extern "C" fn durkenzo_server_keys(server: &mut ServerHandle, keys: &mut u64) -> u32
     ensures told { result ≡ 0 → KeepsServer (λ server. keys.new ≡ min (keys_held server.core.ready) (2 ^ 64 - 1))
@@ -531,8 +534,8 @@ pub extern "C" fn durkenzo_server_keys(server: &mut ServerHandle, keys: &mut u64
     0
 }
 
-/// Writes the first keys from `low` on and below `high`, at most `most`, that hold something after all requests that
-/// are made, in their order, each behind its length in 8 bytes; none before the server has read.
+/// Writes the first keys from `low` on and below `high`, at most `most`, after all requests that were made, in their
+/// order, each behind its length in 8 bytes; none before the server has read.
 #[unsafe(no_mangle)]
 pub extern "C" fn durkenzo_server_scan(
     alloc: Global,
@@ -562,7 +565,7 @@ pub extern "C" fn durkenzo_server_scan(
     )
 }
 
-/// Lets go the server that the handle keeps.
+/// Drops the server that the handle keeps.
 #[unsafe(no_mangle)]
 pub extern "C" fn durkenzo_server_close(alloc: Global, server: &mut ServerHandle)
     ensures { server.new.owned.state ≡ None }
@@ -594,7 +597,7 @@ fn passing_key(shard: ShardId, is_part: bool, number: u64, place: u64) -> Passin
     }
 }
 
-// Writes what the server's transaction compares and writes.
+// Writes the compares and the writes of the server's transaction.
 fn sent_by(alloc: Global, server: &TextServer, numbers: &mut SentNumbers, into: &mut [u8]) -> u32
     ensures { result ≡ 0 → WritesSending numbers.new into.new server.now }
 {
@@ -647,7 +650,7 @@ fn part_in(
     }
 }
 
-// Writes the keys that the server has from low on and below high, at most so many.
+// Writes the keys of the server from low on and below high, at most so many.
 fn keys_in(
     alloc: Global,
     server: &TextServer,
@@ -674,7 +677,7 @@ fn keys_in(
     }
 }
 
-// The bytes, and behind them those of the tail.
+// Returns the bytes, followed by those of the tail.
 fn joined(bytes: Vec<u8>, tail: &[u8]) -> Result<Vec<u8>, AllocError>
     ensures { IfOk result (λ all. all.items ≡ bytes.items ++ tail.now) }
 {

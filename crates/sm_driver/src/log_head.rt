@@ -1,5 +1,5 @@
 /// The head of a shard's log as C sees it: how many batches there are, how many of them, from the first on, the base
-/// stands for, and in how many parts it lies; 0 for no base.
+/// replaces, and how many parts the base has; 0 for no base.
 #[repr(C)]
 #[derive(Clone, Copy, Drop)]
 pub struct LogHead {

@@ -23,7 +23,7 @@ impl Model for OwnedServer {
 }
 
 impl OwnedServer {
-    /// What owns nothing.
+    /// Makes the owner of nothing.
     pub(crate) fn empty(alloc: Global) -> OwnedServer
         ensures { result.state ≡ None }
     {
@@ -33,7 +33,7 @@ impl OwnedServer {
         }
     }
 
-    /// What owns the state of a box.
+    /// Makes the owner of a box's state.
     pub(crate) fn of_parts(parts: BoxParts<TextServer, Global>) -> OwnedServer
         ensures { result.state ≡ Some parts.value }
     {
@@ -44,7 +44,7 @@ impl OwnedServer {
         }
     }
 
-    /// The box of the state that is owned.
+    /// Returns the box of the state that is owned.
     pub(crate) fn into_parts(self) -> BoxParts<TextServer, Global>
         requires { is_some self.state ≡ true }
         ensures { self.state ≡ Some result.value }
@@ -62,7 +62,7 @@ impl OwnedServer {
     ghost use Rattle.std.specs.Prelude.{◌≡◌, Some, is_some, true};
     ghost use Rattle.sm_driver.specs.Lending.{LendsServer};
 
-    /// The state that is owned, to change it in its place.
+    /// Returns the state that is owned, to change it in its place.
     pub(crate) fn state_mut(&mut self) -> &mut TextServer
         requires { is_some self.old.state ≡ true }
         ensures* writes_back { sem 𝓛 (LendsServer self.entry result) }

@@ -1,5 +1,5 @@
-/// The numbers of a part of the base that a server makes, as C sees them: how many batches the base stands for, which
-/// is its number, in how many parts it lies, and how many bytes this one has.
+/// The numbers of a part of the base that a server makes, as C sees them: how many batches the base replaces, which is
+/// its number, how many parts it has, and how many bytes this part has.
 #[repr(C)]
 #[derive(Clone, Copy, Drop)]
 pub struct PartNumbers {

@@ -1,4 +1,4 @@
-//! What a server sends, as bytes.
+//! A server's transactions, as bytes.
 ghost use Rattle.std.specs.Prelude.{◌≡◌, ◌<◌, ◌^◌, IfOk, IsTrue, Option, None};
 ghost use Rattle.sm_codec.specs.Spelling.{FitsBatch, FitsItem, FitsMode, item_view, item_views};
 ghost use Rattle.sm_driver.specs.Servers.{IsSpelled, batch_written, head_written, number_written};
@@ -13,7 +13,7 @@ use sm_store::head::Head;
 use sm_store::item::Item;
 use std::alloc::Global;
 
-/// What the transaction compares and writes.
+/// Returns the compares and the writes of the transaction.
 pub(crate) fn spelled(
     alloc: Global,
     sending: &BatchSending<'_, Vec<u8>>,
@@ -32,7 +32,7 @@ pub(crate) fn spelled(
     })
 }
 
-// The number of the batch that is written, 0 for none.
+// Returns the number of the batch that is written, or 0 for none.
 fn number_of(items: &[Item<Vec<u8>>], head: &Head) -> Result<u64, DriverFault>
     ensures { IfOk result (λ number. number ≡ number_written items.now head.now) }
 {
@@ -45,7 +45,7 @@ fn number_of(items: &[Item<Vec<u8>>], head: &Head) -> Result<u64, DriverFault>
     }
 }
 
-// What is written to the head.
+// Returns the bytes for the head.
 fn head_of(
     alloc: Global,
     items: &[Item<Vec<u8>>],
@@ -86,7 +86,7 @@ fn head_of(
     }
 }
 
-// What is written to the batch.
+// Returns the bytes for the batch.
 fn batch_of(
     alloc: Global,
     server: ServerId,
@@ -132,7 +132,7 @@ fn does_fit(item: &Item<Vec<u8>>) -> bool
     item.request.len() <= u32::MAX as usize
 }
 
-// A number of 64 bits is one. Reading it tells the proof so, and does nothing else.
+// Shows that a number of 64 bits is one. Reading it tells that to the proof, and does nothing else.
 fn is_wide(number: u64)
     ensures { number < 2 ^ 64 }
 {

@@ -5,7 +5,8 @@ use crate::text_server::TextServer;
 use sm_kept::BoxParts;
 use std::alloc::{AllocError, Global};
 
-/// What a caller in C keeps, 16 bytes. It begins as bytes of 0, isn't copied, and is used by one call at a time.
+/// The state that a caller in C keeps, 16 bytes. It must begin as bytes of 0, must not be copied, and must be used by
+/// one call at a time.
 #[repr(C)]
 #[derive(Drop)]
 pub struct ServerHandle {
@@ -15,7 +16,7 @@ pub struct ServerHandle {
 }
 
 impl ServerHandle {
-    /// A handle that keeps nothing, as one of bytes of 0 does.
+    /// Returns a handle that keeps nothing, as one of bytes of 0 does.
     pub fn new(alloc: Global) -> ServerHandle
         ensures { result.owned.state ≡ None }
     {
@@ -25,7 +26,8 @@ impl ServerHandle {
         }
     }
 
-    /// Keeps the state, and lets go what was kept. It is refused for want of memory alone, and the handle is as it was.
+    /// Keeps the state, and drops the earlier one. It fails only if memory is refused, and then the handle is as it
+    /// was.
     pub fn keep(&mut self, alloc: Global, state: TextServer) -> Result<(), AllocError>
         ensures kept { OnOk result (self.new.owned.state ≡ Some state) }
         ensures refused { OnErr result (self.new.owned.state ≡ self.old.owned.state) }
@@ -39,7 +41,7 @@ impl ServerHandle {
         Ok(())
     }
 
-    /// Keeps the state, where nothing is kept: else that would never be let go.
+    /// Keeps the state. The handle must keep nothing before, because that would never be dropped.
     pub(crate) fn put(&mut self, state: Box<TextServer>)
         requires { self.old.owned.state ≡ None }
         ensures { self.new.owned.state ≡ Some state.value }
@@ -50,7 +52,7 @@ impl ServerHandle {
         };
     }
 
-    /// Lets go what is kept.
+    /// Drops the state.
     pub fn close(&mut self, alloc: Global)
         ensures { self.new.owned.state ≡ None }
     {

@@ -1,4 +1,4 @@
-/// Where a request goes on, as C sees it: the server that executes it, and how often it was then forwarded.
+/// The next server for a request, as C sees it: the server that executes it, and how often it was then forwarded.
 #[repr(C)]
 #[derive(Clone, Copy, Drop)]
 pub struct TextForward {

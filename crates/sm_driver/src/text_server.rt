@@ -26,7 +26,7 @@ use sm_texts::store_texts::is_read;
 use sm_texts::{StoreTexts, TextReply, read_base_part, spelled_keys, write_base_part};
 use std::alloc::{AllocError, Global};
 
-/// A server of one shard of the sample service, what was read for it, and what it is to tell.
+/// A server of one shard of the sample service, its readings, and its answers.
 #[derive(Drop)]
 pub struct TextServer {
     pub core: ShardServer<StoreTexts, Vec<u8>, TextReply>,
@@ -40,7 +40,7 @@ pub struct TextServer {
 }
 
 impl TextServer {
-    /// A server that has just started. None where the store hasn't so many shards.
+    /// Makes a server that has just started. Returns nothing if the store doesn't have so many shards.
     pub fn new(
         alloc: Global,
         me: ServerId,
@@ -62,7 +62,7 @@ impl TextServer {
         }
     }
 
-    /// Adds a batch to what was read, before `read`.
+    /// Adds a batch to the readings, before `read`.
     pub fn add_batch(&mut self, alloc: Global, bytes: &[u8]) -> Result<(), DriverFault>
         ensures core { self.new.core ≡ self.old.core }
         ensures parts { self.new.parts ≡ self.old.parts }
@@ -77,7 +77,7 @@ impl TextServer {
         }
     }
 
-    /// Adds a part of the base to what was read, before `read`.
+    /// Adds a part of the base to the readings, before `read`.
     pub fn add_part(&mut self, alloc: Global, bytes: &[u8]) -> Result<(), DriverFault>
         ensures core { self.new.core ≡ self.old.core }
         ensures batches { self.new.batches ≡ self.old.batches }
@@ -128,8 +128,9 @@ impl TextServer {
         Ok(())
     }
 
-    /// The shard was read from where the server's replica ends: its record and the head of its log by these bytes, with
-    /// their revisions, and the batches that were added. What was sent or waits is to be decided again.
+    /// Notes that the shard was read from the end of the server's replica on: its record and the head of its log with
+    /// these bytes, with their revisions, and the batches that were added. Requests that were sent or wait must be
+    /// decided again.
     pub fn append(
         &mut self,
         alloc: Global,
@@ -161,7 +162,7 @@ impl TextServer {
         Ok(())
     }
 
-    /// The shard's record alone was read. What waits is to be decided again.
+    /// Notes that only the shard's record was read. Requests that wait must be decided again.
     pub fn record(&mut self, alloc: Global, standing: &[u8], stood: u64) -> Result<(), DriverFault>
         ensures read { OnOk result (DoneOn self.old (IsRecordReading standing.now stood) IsAny self.new) }
     {
@@ -177,7 +178,7 @@ impl TextServer {
         Ok(())
     }
 
-    /// A request came, which is made, or answered by the next transaction where it only reads.
+    /// Takes a request. It is made, or, if it only reads, answered by the next transaction.
     pub fn take(
         &mut self,
         alloc: Global,
@@ -194,7 +195,7 @@ impl TextServer {
         }
     }
 
-    /// Lets what waits be sent. Whether anything is to be sent now.
+    /// Makes waiting requests ready to be sent. Returns whether there is anything to send now.
     pub fn flush(&mut self, alloc: Global) -> Result<bool, DriverFault>
         ensures sends { IfOk result (λ sends. DoneOn self.old (λ input. input ≡ FlushInput)
             (λ output. is_sending output ≡ sends) self.new) }
@@ -206,7 +207,7 @@ impl TextServer {
         }
     }
 
-    /// What the transaction that was sent compares and writes.
+    /// Returns the compares and the writes of the transaction that was sent.
     pub fn sending(&self, alloc: Global) -> Result<SentBytes, DriverFault>
         ensures { IfOk result (SpellsSending self.now) }
     {
@@ -216,8 +217,8 @@ impl TextServer {
         }
     }
 
-    /// The transaction was made, or where it only compares has held, at this revision. The answers are kept, to be
-    /// told.
+    /// Notes that the transaction was made at this revision, or has held there if it only compares. The answers are
+    /// kept.
     pub fn on_made(&mut self, alloc: Global, revision: u64) -> Result<(), DriverFault>
         ensures told { OnOk result (TellsAnswers self.old revision self.new) }
     {
@@ -232,8 +233,9 @@ impl TextServer {
         }
     }
 
-    /// Its compares didn't hold, or what became of it isn't known. The server is to read again, or to append what it
-    /// hasn't read, and what it held is to be decided again. What was added and not read is let go.
+    /// Notes that its compares didn't hold, or that its outcome isn't known. The server must read again, or append the
+    /// batches that it hasn't read, and requests that it held must be decided again. Readings that were added and not
+    /// used are dropped.
     pub fn on_lost(&mut self, alloc: Global) -> Result<(), DriverFault>
         ensures lost { OnOk result (DoneOn self.old (λ input. input ≡ LostInput) IsAny self.new) }
         ensures let_go { OnOk result ((self.new.parts.items ≡ []) × (self.new.batches.items ≡ [])) }
@@ -244,7 +246,7 @@ impl TextServer {
         Ok(())
     }
 
-    /// Begins a base, where one is to be made. Whether its parts are to be written now.
+    /// Begins a base, if one is due. Returns whether its parts must be written now.
     pub fn begin_base(&mut self, alloc: Global) -> Result<bool, DriverFault>
         ensures { IfOk result (λ begins. DoneOn self.old (λ input. input ≡ BaseInput)
             (λ output. is_basing output ≡ begins) self.new) }
@@ -256,7 +258,8 @@ impl TextServer {
         }
     }
 
-    /// The part at this place of the base that the server makes. None where it makes none, or that has no such part.
+    /// Returns the part at this place of the base that the server makes. Returns nothing if it makes none, or if that
+    /// has no such part.
     pub fn part(
         &self,
         alloc: Global,
@@ -289,7 +292,7 @@ impl TextServer {
         Ok(())
     }
 
-    /// Whether what lies at the key is behind the base that the head names, and is to be deleted.
+    /// Returns whether the base that the head names has replaced the value at the key, which must then be deleted.
     pub fn clears(&mut self, alloc: Global, key: PassingKey) -> Result<bool, DriverFault>
         ensures { IfOk result (λ clears. DoneOn self.old (λ input. input ≡ ClearInput key)
             (λ output. is_clearing output ≡ clears) self.new) }
@@ -301,7 +304,7 @@ impl TextServer {
         }
     }
 
-    /// Returns how many keys hold something after all requests that are made: none before the server has read.
+    /// Returns how many keys there are after all requests that were made: none before the server has read.
     pub fn count(&self) -> u128
         ensures { result ≡ keys_held self.now.core.ready }
     {
@@ -311,8 +314,8 @@ impl TextServer {
         }
     }
 
-    /// Returns the first keys from low on and below high, at most so many, that hold something after all requests that
-    /// are made: how many they are, and their bytes.
+    /// Returns the first keys from low on and below high, at most so many, after all requests that were made: how many
+    /// they are, and their bytes.
     pub fn keys(
         &self,
         alloc: Global,
@@ -332,7 +335,7 @@ impl TextServer {
     }
 }
 
-// The first keys of the map from low on and below high, at most so many.
+// Returns the first keys of the map from low on and below high, at most so many.
 fn keys_in(
     alloc: Global,
     texts: &StoreTexts,
@@ -349,7 +352,7 @@ fn keys_in(
     Ok((rows.len(), bytes))
 }
 
-// The request comes as one that is made, or as one that only reads.
+// Returns the request as an input that is made, or as one that only reads.
 fn coming<'a>(item: Item<Vec<u8>>) -> ShardInput<'a, Vec<u8>, TextReply>
     ensures { IsComing item result }
 {

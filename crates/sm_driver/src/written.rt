@@ -1,7 +1,7 @@
 //! Bytes for a caller.
 ghost use Rattle.std.specs.Prelude.{◌≡◌, ◌<◌, IsTrue, false, take, length};
 
-/// Writes the bytes to the front of the caller's room; or writes nothing, where that is too short.
+/// Writes the bytes to the front of the caller's room. If that is too short, writes nothing.
 pub(crate) fn write(bytes: &[u8], into: &mut [u8]) -> bool
     ensures written { IsTrue result → take (length bytes.now) into.new ≡ bytes.now }
     ensures unwritten { result ≡ false → into.new ≡ into.old }

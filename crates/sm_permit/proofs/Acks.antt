@@ -1,4 +1,4 @@
--- Acks: of a record by which a server executes it has acked nothing, and while a process's key lies there no other
+-- Acks: a server has acked nothing of a record by which it executes, and while a process's key lies there no other
 -- process of its server acks.
 use Rattle.std.proofs.Common.{◌≡◌, ℕ, ◌<◌, ◌≤◌, List, [], ◌∷◌, ◌++◌, refl, sym, ap}
 use Rattle.std.proofs.Common.{subst, ◌∙◌, arith, ⊎_elim, inl, inr}
@@ -11,6 +11,7 @@ use Rattle.sm_store.specs.Store.{Ack, Write, Leads, Stands, Enters, Commands, Se
 use Rattle.sm_store.specs.Store.{Acks, Deletes, Elsewhere, IsRising, Transaction, acked, acked_among, acked_of}
 use Rattle.sm_store.specs.Store.{last_revision, left_by, stored_record}
 use Rattle.sm_store.specs.Deeds.{AreRight, Charter, Deed, Electing, Expiring, Changing, Restarting, Settling, Executing}
+use Rattle.sm_store.specs.Deeds.{Resettling}
 use Rattle.sm_store.specs.Deeds.{Basing, Naming, Clearing, Following, Checking, Foreign, IsRight, WasRight, done_at}
 use Rattle.sm_store.specs.Waits.{MayLetGo}
 use Rattle.sm_store.specs.lemmas.Acks.{acks_grow as log_acks_grow, among_rises}
@@ -21,7 +22,7 @@ use Rattle.sm_permit.specs.Timelines.{lease_of, stored}
 use Rattle.sm_permit.specs.Waits.{IsInTime, KeepsWaits, MayStep, is_process, let_go_of, let_go_with}
 use Rattle.sm_permit.proofs.Leases.{rose_before, stored_grows, stored_more, under_since}
 
--- two processes whose leases are that of one key are one
+-- if the leases of two processes are the lease of one key, the two are one process
 pub same_process : (joined other : ℕ) (key : Option Lease) → IsUnder joined key → IsUnder other key → joined ≡ other
 same_process joined other key under also =
     let lease = same_Some under.0 also.0 (sym under.1 ∙ also.1) in
@@ -40,7 +41,7 @@ among_within shard (ack ∷ acks) before top within most =
     (λ apart most. rw apart (rest most))
     most
 
--- if they lift one number to no more than a bound, neither do they another
+-- if acks lift one number to no more than a bound, they lift no lower number beyond it either
 among_below : (shard : ℕ) (acks : List Ack) (one other from : ℕ) → acked_among shard acks one < from → other < from
     → acked_among shard acks other < from
 among_below shard [] one other from below is = is
@@ -114,6 +115,7 @@ module _ {Q P : Type 0} (charter : Charter Q P) (shard server : ℕ) where
   lets_deed log revision (Changing process at change next elected placed) right was = was
   lets_deed log revision (Restarting process at run elected placed) right was = was
   lets_deed log revision (Settling settings) right was = was
+  lets_deed log revision (Resettling process settings elected placed) right was = was
   lets_deed log revision (Executing at by items head stood logged) right was = was
   lets_deed log revision (Basing at number place part) right was = was
   lets_deed log revision (Naming at head number parts logged) right was = was
@@ -142,7 +144,7 @@ module _ {Q P : Type 0} (charter : Charter Q P) (shard server : ℕ) where
       (subst (λ (t : Transaction Q P). MayLetGo server (acked_of shard server (t ∷ log)) (stored_record shard log))
       (sym one.is) (lets_deed log txn.revision one.deed one.right (lets log right.1)))
 
-  -- of the record by which it executes the server has acked nothing
+  -- the server has acked nothing of the record by which it executes
   pub executes_unacked : (log : List (Transaction Q P)) → AreRight charter log
       → executor (stored_record shard log) ≡ Some server
       → acked_of shard server log < (stored_record shard log).generation
@@ -153,7 +155,7 @@ module _ {Q P : Type 0} (charter : Charter Q P) (shard server : ℕ) where
       (lets log right)
 
 module _ {Q P : Type 0} (span shard server : ℕ) where
-  -- what is written beside what processes tell acks nothing
+  -- a write that isn't a process telling something acks nothing
   unacked_writes : (earlier : List (TimedStep Q P)) (moment before : ℕ) (writes : List (Write Q P))
       → AllByRecursion (IsInTime span earlier moment) writes → left_by (acked shard server) before writes ≡ before
   unacked_writes earlier moment before [] may = refl
@@ -211,7 +213,7 @@ module _ {Q P : Type 0} (span shard server : ℕ) where
   own_step joined from earlier moment revision (Leaves at others) may under own was = was
   own_step joined from earlier moment revision (Hands at by its generation) may under own was = was
 
-  -- while a process's key lies there, its server acks only what the process itself lets go of
+  -- while a process's key lies there, its server acks only the records that the process itself lets go of
   pub own_only : (joined from : ℕ) (newer older : List (TimedStep Q P)) → IsRising (stored (newer ++ older))
       → KeepsWaits span (newer ++ older) → joined ≤ last_revision (stored older)
       → IsUnder joined (lease_of server (newer ++ older))

@@ -28,14 +28,14 @@ record Lives (lease : Lease) (moment : ℕ) (key : Option Lease) : Type 0 where
   pub later : lease.kept ≤ now.kept
   pub past : now.kept ≤ moment
 
--- it still does at a later moment
+-- the key still lies under the lease at a later moment
 passes : (lease : Lease) (before moment : ℕ) (key : Option Lease) → before ≤ moment → Lives lease before key
     → Lives lease moment key
 passes lease before moment key le lives =
     let past = lives.past in
     record { now = lives.now; lies = lives.lies; same = lives.same; later = lives.later; past = omega arith }
 
--- and under the same lease after a keep
+-- the key lies under the same lease after a keep
 keeps : (lease : Lease) (before moment : ℕ) (key : Option Lease) → before ≤ moment → Lives lease before key
     → Lives lease moment (kept_at moment key)
 keeps lease before moment key le lives =
@@ -50,7 +50,7 @@ keeps lease before moment key le lives =
     }
 
 module _ {Q P : Type 0} (span server : ℕ) where
-  -- the end of the key's lease comes after its length, so what is deleted is another key
+  -- the end of the key's lease comes after its length, so the key that is deleted is another one
   is_another : (lease : Lease) (earlier : List (TimedStep Q P)) (moment : ℕ) → moment < lease.kept + span
       → Lives lease moment (lease_of server earlier) → (key : PassingKey) → MayBeDeleted span earlier moment key
       → same_passing key (Server server) ≡ false
@@ -69,7 +69,7 @@ module _ {Q P : Type 0} (span server : ℕ) where
   is_another lease earlier moment early lives (Part shard number place) may = refl
   is_another lease earlier moment early lives Other may = refl
 
-  -- so a key stays there after writes
+  -- so a key stays in the store after writes
   lives_writes : (lease : Lease) (earlier : List (TimedStep Q P)) (moment : ℕ) (writes : List (Write Q P))
       (key : Option Lease) → AllByRecursion (IsInTime span earlier moment) writes → moment < lease.kept + span
       → Lives lease moment (lease_of server earlier) → Lives lease moment key
@@ -141,7 +141,7 @@ module _ {Q P : Type 0} (server now : ℕ) where
   there_writes (Acks at acks ∷ writes) key revision some is = there_writes writes key revision some is
   there_writes (Elsewhere ∷ writes) key revision some is = there_writes writes key revision some is
 
--- revisions rose before a step too, and it doesn't lower the store's
+-- revisions rose before a step too, and the step doesn't lower the store's revision
 pub rose_before : {Q P : Type 0} (earlier : List (TimedStep Q P)) (moment revision : ℕ) (step : TimelineStep Q P)
     → IsRising (stored (record { moment = moment; revision = revision; step = step } ∷ earlier))
     → IsRising (stored earlier)
@@ -244,7 +244,7 @@ module _ {Q P : Type 0} (server : ℕ) where
       there_step earlier one.moment one.revision one.step rising
       (there earlier (rose_before earlier one.moment one.revision one.step rising))
 
--- when a key was kept, and that it lay there before
+-- the key was kept at that moment, and it lay there before
 kept_when : (moment : ℕ) (key : Option Lease) (lease : Lease) → kept_at moment key ≡ Some lease
     → lease.kept ≡ moment
 kept_when moment None lease is = absurd (none-some lease is)
@@ -394,7 +394,7 @@ module _ {Q P : Type 0} (span server : ℕ) where
   under_step earlier moment revision joined (Tells at its read acks told) rising within = λ under. under
   under_step earlier moment revision joined (Hands shard at its generation) rising within = λ under. under
 
--- what a clock allows has not passed
+-- a time that the clock allows has not passed
 not_over : (terms : Terms) (clock : ℕ → ℕ) (sent now : ℕ) → AreSafe terms → IsTimely terms clock → sent ≤ now
     → clock now < clock sent + terms.allowed → now < sent + terms.length
 not_over terms clock sent now safe timely le lasts =
@@ -411,7 +411,7 @@ not_over terms clock sent now safe timely le lasts =
     absurd (grind (arith, passed, within, some, counted, moments)))
     (cases_lt now (sent + terms.length))
 
--- whoever has a lease that lasts by its clock has its key in the store under it
+-- a process with a lease that lasts by its clock has its key in the store under that lease
 pub lasting : {Q P : Type 0} (terms : Terms) (clock : ℕ → ℕ) (timeline : List (TimedStep Q P))
     (now server sent : ℕ) (lease : Lease) → AreSafe terms → IsTimely terms clock → IsRising (stored timeline)
     → KeepsWaits terms.length timeline → latest_moment timeline ≤ now → HasLease timeline server sent lease

@@ -1,4 +1,4 @@
--- Two permits of one shard at one moment are of one process.
+-- Two permits for one shard at one moment belong to one process.
 use Rattle.std.proofs.Common.{◌≡◌, ◌≢◌, ℕ, ◌<◌, ◌≤◌, true, List, [], ◌∷◌, ◌++◌, sym, ap}
 use Rattle.std.proofs.Common.{subst, ◌∙◌, arith, ⊎_elim, inl, inr}
 use Rattle.std.specs.Prelude.{◌==◌, ◌⊎◌, IsTrue, Some, not}
@@ -21,7 +21,7 @@ use Rattle.sm_permit.proofs.Leases.{lasting, stored_grows, under_since, waited_b
 use Rattle.sm_permit.proofs.Records.{right_before}
 use Rattle.sm_permit.proofs.Stays.{IsNamed, StillNamed, stays}
 
--- whoever executes by a stand is its executor, and named by it
+-- a server that executes by a stand is its executor, and is named by it
 accepted : (stand : Stand) (server : ℕ) (mode : Mode) → accepts_at stand server mode ≡ true
     → executor_of stand ≡ Some server
 accepted (Forwarding owner next) server mode is =
@@ -52,7 +52,8 @@ not_freed shard joined from timeline older server under acked stands since holds
     omega arith
 not_freed shard joined from timeline older server under acked stands since holds (ByFailure failed) = stands failed
 
--- whoever a stand names and whoever executes by it are one, unless the first is an owner that forwards and has let go
+-- a server that a stand names and a server that executes by it are the same, unless the first is an owner that forwards
+-- and has let go
 only_one : {Q P : Type 0} (shard : ℕ) (timeline older : List (TimedStep Q P)) (stand : Stand) (one other : ℕ)
     → IsNamed stand one → executor_of stand ≡ Some other → MayHaveBody shard timeline older stand
     → (IsFreed shard timeline older one → ⊥) → one ≡ other
@@ -73,7 +74,7 @@ abbrev rest_of : {A : Type 0} → List A → List A
 rest_of [] = []
 rest_of (x ∷ xs) = xs
 
--- of two pasts of one list one is the past of the other
+-- if a list has two pasts, one is the past of the other
 pasts : {A : Type 0} (newer older later earlier : List A) → newer ++ older ≡ later ++ earlier
     → ((more : List A) × (earlier ≡ more ++ older)) ⊎ ((more : List A) × (older ≡ more ++ earlier))
 pasts [] older later earlier same = inr (later, same)
@@ -118,7 +119,7 @@ module _ {Q P : Type 0} (charter : Charter Q P) (waits : IsTrue charter.waits) (
       (own_only span shard server joined from permit.newer older
       (rising_of_right charter (stored (permit.newer ++ older)) all) kept permit.under under holds begins)
 
-  -- who read an older record is who read this one
+  -- the process that read an older record is the process that read this one
   read_before : (clock counter : ℕ → ℕ) (one other : ℕ) (first second : Mode) → IsTimely terms clock
       → (permit : HasPermit terms clock timeline now shard one first)
       → (another : HasPermit terms counter timeline now shard other second)

@@ -1,4 +1,4 @@
--- What right transactions leave of the state of a server whose key is there, and of a shard's record.
+-- How right transactions change the state of a server whose key is in the store, and a shard's record.
 use Rattle.std.proofs.Common.{◌≡◌, ◌≢◌, ℕ, ◌<◌, List, ◌∷◌, ◌++◌, sym}
 use Rattle.std.proofs.Common.{subst, arith}
 use Rattle.std.specs.Prelude.{◌==◌}
@@ -7,6 +7,7 @@ use Rattle.sm_place.specs.declared.server_state.ServerState.TheVariants.{Failed}
 use Rattle.sm_store.specs.declared.server_run.ServerRun.{ServerRun}
 use Rattle.sm_store.specs.Store.{Transaction, revision_of, server_key, stored_record, stored_run, stored_state}
 use Rattle.sm_store.specs.Deeds.{AreRight, Charter, Deed, Electing, Expiring, Changing, Restarting, Settling, Executing}
+use Rattle.sm_store.specs.Deeds.{Resettling}
 use Rattle.sm_store.specs.Deeds.{Basing, Naming, Clearing, Following, Checking, Foreign, IsRight, WasRight, done_at}
 use Rattle.sm_store.specs.lemmas.Records.{IsSince, record_since}
 use Rattle.sm_permit.specs.Timelines.{TimelineStep, TimedStep, Makes, Joins, Keeps, Leaves, Tells, Hands, stored}
@@ -27,6 +28,7 @@ module _ {Q P : Type 0} (charter : Charter Q P) (server revision : ℕ) where
   state_deed log (Expiring keys) right there was = was
   state_deed log (Changing process at change next elected placed) right there was = was
   state_deed log (Settling settings) right there was = was
+  state_deed log (Resettling process settings elected placed) right there was = was
   state_deed log (Executing at by items head stood logged) right there was = was
   state_deed log (Basing at number place part) right there was = was
   state_deed log (Naming at head number parts logged) right there was = was
@@ -36,7 +38,7 @@ module _ {Q P : Type 0} (charter : Charter Q P) (server revision : ℕ) where
   state_deed log Foreign right there was = was
 
 module _ {Q P : Type 0} (charter : Charter Q P) (server : ℕ) where
-  -- a server whose key is there doesn't come to have failed
+  -- a server whose key is there doesn't fail
   pub state_step : (log : List (Transaction Q P)) (txn : Transaction Q P) → WasRight charter log txn
       → 0 < revision_of (server_key server) log → stored_state server log ≢ Failed
       → stored_state server (txn ∷ log) ≢ Failed

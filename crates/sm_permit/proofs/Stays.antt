@@ -1,4 +1,4 @@
--- A shard's record goes on to name a server whose key lies there, and that lets go of nothing.
+-- A shard's record goes on to name a server whose key lies there, if the server lets go of nothing.
 use Rattle.std.proofs.Common.{◌≡◌, ◌≢◌, ℕ, ◌<◌, ◌≤◌, List, [], ◌∷◌, ◌++◌, sym}
 use Rattle.std.proofs.Common.{subst, arith, ⊎_elim, inl, inr}
 use Rattle.std.specs.Prelude.{◌==◌, ◌⊎◌, IsTrue, Option, Some, None, IfSome, unwrap_or}
@@ -28,7 +28,7 @@ use Rattle.sm_permit.proofs.Leases.{rose_before, stored_grows, there, under_sinc
 use Rattle.sm_permit.proofs.Acks.{acks_grow}
 use Rattle.sm_permit.proofs.Records.{right_before, state_step}
 
--- the server is the one that executes by a stand, or did by the one before and lets go by this one
+-- the server executes by a stand, or it executed by the one before and lets go by this one
 abbrev pub IsNamed : Stand → ℕ → Type 0
 IsNamed Vacant server = ⊥
 IsNamed (Serving owner) server = owner ≡ server
@@ -37,7 +37,7 @@ IsNamed (Forwarding owner next) server = (owner ≡ server) ⊎ (next ≡ server
 IsNamed (Taken owner previous) server = owner ≡ server
 IsNamed (Paused owner) server = owner ≡ server
 
--- a change that waits for who lets go leaves the server that doesn't
+-- a change that waits until a server lets go still names the server that doesn't let go
 named_stays : (stand : Stand) (change : Change) (after : Stand) (server : ℕ) (LetGo : ℕ → Type 0)
     → stand_after stand change ≡ Some after → IfSome (gives_up stand change) LetGo → (LetGo server → ⊥)
     → IsNamed stand server → IsNamed (unwrap_or (stand_after stand change) stand) server
@@ -60,7 +60,7 @@ named_stays (Paused owner) (Reassign next) after server LetGo legal waited holds
     absurd (holds (subst LetGo is waited))
 named_stays stand change after server LetGo legal waited holds is = absurd (none-some after legal)
 
--- the server hasn't failed, and the shard's record, which is of this generation or a later one, still names it
+-- the server hasn't failed, and the shard's record, of this generation or a later one, still names it
 pub record Remains (server from : ℕ) (state : ServerState) (held : Record) : Type 0 where
   pub stands : state ≢ Failed
   pub named : IsNamed held.stand server
@@ -71,7 +71,7 @@ module _ {Q P : Type 0} (charter : Charter Q P) (waits : IsTrue charter.waits) (
   StillNamed timeline =
       Remains server from (stored_state server (stored timeline)) (stored_record shard (stored timeline))
 
-  -- it didn't let go
+  -- the server didn't let go
   not_let_go : (earlier : List (TimedStep Q P)) → acked_of shard server (stored earlier) < from → StillNamed earlier
       → HasLetGo (stored earlier) (placement_of (stored earlier)) shard server → ⊥
   not_let_go earlier holds was (inl acked) = let since = was.since in omega arith
@@ -117,7 +117,7 @@ module _ {Q P : Type 0} (charter : Charter Q P) (waits : IsTrue charter.waits) (
   step_stays earlier moment revision (Tells by its read acks told) right may under holds was = was
   step_stays earlier moment revision (Hands at by its generation) right may under holds was = was
 
-  -- and it still names the server after more steps
+  -- the record still names the server after more steps
   pub stays : (newer older : List (TimedStep Q P)) → AreRight charter (stored (newer ++ older))
       → KeepsWaits span (newer ++ older) → joined ≤ last_revision (stored older)
       → IsUnder joined (lease_of server (newer ++ older)) → acked_of shard server (stored (newer ++ older)) < from

@@ -1,4 +1,4 @@
--- What is decided by what is so is a permit, or an ack that may be made; and what a process knows stays so.
+-- A decision by true knowledge is a permit, or an ack that is allowed; and a process's knowledge stays true.
 use Rattle.std.proofs.Common.{◌≡◌, ◌≢◌, ℕ, ◌<◌, ◌≤◌, Bool, true, false, List, [], ◌∷◌, ◌++◌, refl, sym, ap}
 use Rattle.std.proofs.Common.{subst, ◌∙◌, arith, ⊎_elim, inl, inr, append-nil}
 use Rattle.std.specs.Prelude.{◌==◌, ◌&&◌, ◌||◌, ◌⊎◌, IfSome, IsTrue, Option, Some, None, max, nat_le, nat_lt, not}
@@ -134,7 +134,7 @@ acks {Q = Q} {P = P} charter terms clock timeline now shard view right knows is 
     (sym same) later))
     on)
 
--- a step by which another process lets go, or nobody, leaves what this one has let go of
+-- a step by which another process lets go, or none, doesn't change how far this one has let go
 not_own : {Q P : Type 0} (shard server joined before : ℕ) (step : TimelineStep Q P)
     → ((read : ℕ) (acks : List Ack) (told : ℕ) → step ≡ Tells server joined read acks told
     → acked_among shard acks 0 ≡ 0)
@@ -164,7 +164,7 @@ not_own shard server joined before (Joins at read sent granted) tells hands = om
 not_own shard server joined before (Keeps at sent) tells hands = omega arith
 not_own shard server joined before (Leaves at others) tells hands = omega arith
 
--- a step by which a process lets go of its record goes no further than that
+-- if a process lets go of its record in a step, it lets go of no later one
 lets_within : {Q P : Type 0} (shard before top : ℕ) (view : ShardView) (step : TimelineStep Q P) → before ≤ top
     → view.reading.state.generation ≤ top → IsLettingGo shard view step
     → let_go_with shard view.server view.joined before step ≤ top
@@ -183,7 +183,7 @@ lets_stay : {Q P : Type 0} (shard : ℕ) (view : ShardView) (step : TimelineStep
 lets_stay shard view step (inl (read, acks, told, is, least)) = ap (gives_back_lease view.server) is
 lets_stay shard view step (inr is) = ap (gives_back_lease view.server) is
 
--- who hands over, or acks, frees the shard by the record of whose owner it is
+-- a process that hands over, or acks, frees the shard if it is the process of the record's owner
 freed_by_ack : {Q P : Type 0} (shard : ℕ) (timeline older : List (TimedStep Q P)) (stand : Stand)
     (server generation : ℕ) → is_forwarder stand server ≡ true
     → (stored_record shard (stored older)).generation ≤ generation
@@ -264,7 +264,7 @@ module _ {Q P : Type 0} (shard : ℕ) (one : TimedStep Q P) (timeline : List (Ti
 
 module _ {Q P : Type 0} (terms : Terms) (clock : ℕ → ℕ) (timeline : List (TimedStep Q P)) (now shard : ℕ)
     (view : ShardView) (knows : Knows terms clock timeline now shard view) where
-  -- what it knows after one more step by which it lets go of no more than it says, and doesn't leave
+  -- the knowledge of a process after one more step by which it lets go of no more than it says, and doesn't leave
   step_known : (one : TimedStep Q P) (later let_go : ℕ) → one.moment ≤ later
       → gives_back_lease view.server one.step ≡ false
       → let_go_with shard view.server view.joined (let_go_of shard view.server view.joined timeline) one.step ≤ let_go
@@ -285,7 +285,7 @@ module _ {Q P : Type 0} (terms : Terms) (clock : ℕ → ℕ) (timeline : List (
         let_go_is = gone;
       }
 
-  -- what it knows once it is freed
+  -- the knowledge of a process once it is freed
   now_freed : (freed : Bool)
       → (freed ≡ true → MayHaveBody shard timeline knows.older view.reading.state.stand)
       → Knows terms clock timeline now shard (record view { freed = freed })

@@ -1,5 +1,5 @@
--- What happens to a store and to the leases of its servers' keys, each at its moment. Lists have the latest first, as
--- in the store.
+-- The steps of a store, and of the leases of its servers' keys, each at its moment. Lists have the latest first, as in
+-- the store.
 use Rattle.std.specs.Prelude.{ℕ, Bool, false, Option, Some, None, ◌≡◌, ◌==◌, List, [], ◌∷◌, if◌then◌else◌}
 use Rattle.sm_store.specs.declared.store_key.PassingKey.{PassingKey}
 use Rattle.sm_store.specs.declared.store_key.PassingKey.TheVariants.{Server}
@@ -12,7 +12,7 @@ pub record Lease : Type 0 where
   pub joined : ℕ
   pub kept : ℕ
 
--- what happens, to the store or between processes
+-- the steps of the store and of its processes
 pub data TimelineStep (Q P : Type 0) : Type 0 where
   -- the store makes a transaction; a server's key that is there stays under its lease if its process writes it again
   Makes : (txn : Transaction Q P) → TimelineStep Q P
@@ -21,14 +21,14 @@ pub data TimelineStep (Q P : Type 0) : Type 0 where
   Joins : (server read sent granted : ℕ) → TimelineStep Q P
   -- the store keeps the lease of the server's key, as its process asked at the moment `sent`
   Keeps : (server sent : ℕ) → TimelineStep Q P
-  -- the process gives back the lease of its server's key, and executes no more under it; with the key go others that
-  -- lie under the lease, as that of who leads
+  -- the process gives back the lease of its server's key, and executes no more under it; other keys that lie under the
+  -- lease are deleted with it, such as the leader's key
   Leaves : (server : ℕ) (others : List PassingKey) → TimelineStep Q P
-  -- the process that joined at this revision tells up to which one it has read, and what it acks: it executes no more
-  -- by those records. It wrote its server's key last at the revision `told`
+  -- the process that joined at this revision tells up to which revision it has read, and which records it acks: it
+  -- executes no more by those. It wrote its server's key last at the revision `told`
   Tells : (server joined read : ℕ) (acks : List Ack) (told : ℕ) → TimelineStep Q P
-  -- that process hands a shard's body over, in bytes that name it and the generation: it executes no more by the
-  -- shard's records up to this generation
+  -- that process hands over a shard's body, in bytes that name the process and the generation: it executes no more by
+  -- the shard's records up to this generation
   Hands : (shard server joined generation : ℕ) → TimelineStep Q P
 
 -- a step at its moment; if it writes to the store, the store does so at this revision
@@ -37,7 +37,7 @@ pub record TimedStep (Q P : Type 0) : Type 0 where
   pub revision : ℕ
   pub step : TimelineStep Q P
 
--- by the step the server's process gives back its lease
+-- in this step, the server's process gives back its lease
 abbrev pub gives_back_lease : {Q P : Type 0} → ℕ → TimelineStep Q P → Bool
 gives_back_lease server (Leaves at others) = at == server
 gives_back_lease server _ = false
@@ -47,7 +47,7 @@ abbrev pub latest_moment : {Q P : Type 0} → List (TimedStep Q P) → ℕ
 latest_moment [] = 0
 latest_moment (one ∷ earlier) = one.moment
 
--- what a step leaves of the store's log, to which it writes at this revision if at all
+-- the store's log after a step, which writes to it at this revision, if it writes at all
 abbrev pub stored_with : {Q P : Type 0} → ℕ → TimelineStep Q P → List (Transaction Q P) → List (Transaction Q P)
 stored_with revision (Makes txn) log = made_at revision txn ∷ log
 stored_with revision (Joins server read sent granted) log = done_at revision (Following server read [] 0) ∷ log
@@ -71,7 +71,7 @@ abbrev pub lease_after : {Q P : Type 0} → ℕ → Option Lease → Write Q P �
 lease_after server before (Deletes keys) = if deletes_key keys (Server server) then None else before
 lease_after server before _ = before
 
--- the lease of a server's key after a step at a moment, which writes to the store at this revision if at all
+-- the lease of a server's key after a step at a moment, which writes to the store at this revision, if it writes at all
 abbrev pub lease_with : {Q P : Type 0} → ℕ → ℕ → ℕ → Option Lease → TimelineStep Q P → Option Lease
 lease_with server moment revision before (Makes txn) = left_by (lease_after server) before txn.writes
 lease_with server moment revision before (Joins at read sent granted) =

@@ -1,4 +1,4 @@
--- What a process knows of a shard, what it decides by that, and when what it knows is so.
+-- The knowledge of a process about a shard, how it decides by it, and when it is true.
 use Rattle.std.specs.Prelude.{ℕ, Bool, true, false, Option, Some, None, IfSome, ◌≡◌, ◌≢◌, ◌≤◌, ◌+◌, ◌==◌, ◌&&◌, ◌||◌}
 use Rattle.std.specs.Prelude.{◌⊎◌}
 use Rattle.std.specs.Prelude.{max, nat_le, nat_lt, not, List, ◌∷◌, ◌++◌}
@@ -23,14 +23,14 @@ abbrev pub joined_at : Option Lease → ℕ
 joined_at None = 0
 joined_at (Some lease) = lease.joined
 
--- what was read of a record's owner, was so at this moment
+-- everything that was read of a record's owner was true at this moment
 pub record IsOwnerRead {Q P : Type 0} (older : List (TimedStep Q P)) (reading : ShardReading)
     (owner : ℕ) : Type 0 where
   pub joined_is : reading.owner_joined ≡ joined_at (lease_of owner older)
   pub failed_is : reading.owner_failed ≡ is_failed (stored_state owner (stored older))
 
--- what was read of a shard and of a server, and of the record's owner, was all so at this moment, by which the store
--- had reached the revision that is told
+-- everything that was read of a shard, of a server and of the record's owner was true at this moment, when the store
+-- had reached the revision that was read
 pub record IsReadingOf {Q P : Type 0} (older : List (TimedStep Q P)) (shard server : ℕ)
     (reading : ShardReading) : Type 0 where
   pub reached : reading.revision ≤ last_revision (stored older)
@@ -38,12 +38,12 @@ pub record IsReadingOf {Q P : Type 0} (older : List (TimedStep Q P)) (shard serv
   pub failed_is : reading.failed ≡ is_failed (stored_state server (stored older))
   pub owner_is : IfSome (owner_of reading.state.stand) (IsOwnerRead older reading)
 
--- whoever executes what an owner forwards needs that owner to have let go
+-- a server that executes requests that an owner forwards needs that owner to have let go
 abbrev pub has_body : Stand → Bool → Bool
 has_body (Forwarding owner next) freed = freed
 has_body _ freed = true
 
--- the process may execute what comes to it so, at this time of its clock
+-- the process may execute requests that come in this mode, at this time of its clock
 abbrev pub may_execute : ShardView → Mode → ℕ → Bool
 may_execute view mode time =
     nat_lt time view.until && (nat_le view.joined view.reading.revision && (not view.reading.failed
@@ -64,13 +64,13 @@ abbrev pub ack_frees : ShardReading → ℕ → ℕ → Bool
 ack_frees reading server generation =
     is_forwarder reading.state.stand server && nat_le reading.state.generation generation
 
--- so does what was handed over, if it names the process whose key was read with the record
+-- bytes that were handed over free it too, if they name the process whose key was read with the record
 abbrev pub hand_over_frees : ShardReading → HandOver → Bool
 hand_over_frees reading hand =
     ack_frees reading hand.server hand.generation
     && (nat_lt 0 hand.joined && hand.joined == reading.owner_joined)
 
--- what a process knows once it has joined: of the shard it has read nothing
+-- the view of a process once it has joined: it has read nothing of the shard
 abbrev pub new_view : ℕ → ℕ → ℕ → ShardView
 new_view server joined until =
     record {
@@ -88,47 +88,47 @@ new_view server joined until =
       let_go = 0;
     }
 
--- once a keep was answered
+-- the view once a keep was answered
 abbrev pub view_kept : ShardView → ℕ → ShardView
 view_kept view until = record view { until = until }
 
--- once it has read
+-- the view once the process has read
 abbrev pub view_read : ShardView → ShardReading → ShardView
 view_read view reading = record view { reading = reading; freed = reading.owner_failed }
 
--- once it has read an ack
+-- the view once the process has read an ack
 abbrev pub view_acked : ShardView → ℕ → ℕ → ShardView
 view_acked view server generation =
     record view { freed = view.freed || ack_frees view.reading server generation }
 
--- once it was handed something over
+-- the view once the process was handed a body
 abbrev pub view_handed : ShardView → HandOver → ShardView
 view_handed view hand = record view { freed = view.freed || hand_over_frees view.reading hand }
 
--- once it has let go of its record
+-- the view once the process has let go of its record
 abbrev pub view_let_go : ShardView → ShardView
 view_let_go view = record view { let_go = max view.let_go view.reading.state.generation }
 
--- what it knows is so, at a moment after all these steps
+-- the process's knowledge is true, at a moment after all these steps
 pub record Knows {Q P : Type 0} (terms : Terms) (clock : ℕ → ℕ) (timeline : List (TimedStep Q P)) (now shard : ℕ)
     (view : ShardView) : Type 0 where
   pub latest : latest_moment timeline ≤ now
-  -- its lease, by what it asked for and was answered
+  -- its lease, as it asked for it and was answered
   pub sent : ℕ
   pub lease : Lease
   pub has : HasLease timeline view.server sent lease
   pub joined_is : view.joined ≡ lease.joined
   pub until_is : view.until ≡ clock sent + terms.allowed
-  -- what it has read
+  -- the steps since it read
   pub newer : List (TimedStep Q P)
   pub older : List (TimedStep Q P)
   pub was_read : timeline ≡ newer ++ older
   pub reads : IsReadingOf older shard view.server view.reading
-  -- that the owner has let go, and up to where it has itself
+  -- that the owner has let go, and up to which generation it has let go itself
   pub freed : view.freed ≡ true → MayHaveBody shard timeline older view.reading.state.stand
   pub let_go_is : let_go_of shard view.server view.joined timeline ≤ view.let_go
 
--- at most one of the processes whose knowledge is so decides at a moment that it may execute
+-- at most one of the processes whose knowledge is true decides at a moment that it may execute
 abbrev pub AreOne : {Q P : Type 0} → Terms → List (TimedStep Q P) → Type 0
 AreOne terms timeline =
     (now shard : ℕ) (first second : Mode) (clock counter : ℕ → ℕ) (view another : ShardView)
@@ -137,26 +137,26 @@ AreOne terms timeline =
     → may_execute view first (clock now) ≡ true → may_execute another second (counter now) ≡ true
     → (view.server ≡ another.server) × (view.joined ≡ another.joined)
 
--- the step is of this process, and acks nothing of the shard beyond this generation
+-- the step is a step of this process, and acks no record of the shard beyond this generation
 abbrev pub TellsWithin : {Q P : Type 0} → ℕ → ShardView → ℕ → TimelineStep Q P → Type 0
 TellsWithin {Q = Q} {P = P} shard view generation step =
     (read : ℕ) × (acks : List Ack) × (told : ℕ) × (step ≡ Tells view.server view.joined read acks told)
     × (acked_among shard acks 0 ≤ generation)
 
--- the step lets go of the process's record
+-- in this step, the process lets go of its record
 abbrev pub IsLettingGo : {Q P : Type 0} → ℕ → ShardView → TimelineStep Q P → Type 0
 IsLettingGo {Q = Q} {P = P} shard view step =
     TellsWithin shard view view.reading.state.generation step
     ⊎ (step ≡ Hands shard view.server view.joined view.reading.state.generation)
 
--- by the step the process lets go of nothing of the shard, nor leaves
+-- in this step, the process lets go of nothing of the shard, and doesn't leave
 pub record IsOfOthers {Q P : Type 0} (shard : ℕ) (view : ShardView) (step : TimelineStep Q P) : Type 0 where
   pub stays : gives_back_lease view.server step ≡ false
   pub acks : (read : ℕ) (acks : List Ack) (told : ℕ) → step ≡ Tells view.server view.joined read acks told
       → acked_among shard acks 0 ≡ 0
   pub hands : (generation : ℕ) → step ≢ Hands shard view.server view.joined generation
 
--- the process's lease is by what it asked for at a moment, for which it goes by this time of its clock
+-- the process has its lease because it asked for it at a moment, and goes by it until this time of its clock
 pub record WasGranted {Q P : Type 0} (terms : Terms) (clock : ℕ → ℕ) (timeline : List (TimedStep Q P))
     (server joined until : ℕ) : Type 0 where
   pub sent : ℕ
@@ -165,7 +165,7 @@ pub record WasGranted {Q P : Type 0} (terms : Terms) (clock : ℕ → ℕ) (time
   pub joined_is : joined ≡ lease.joined
   pub until_is : until ≡ clock sent + terms.allowed
 
--- what a process knows stays so by each call that tells it more, if what it is told is so
+-- the knowledge of a process stays true after each call that tells it more, if the call tells it the truth
 pub record StaysKnown {Q P : Type 0} (terms : Terms) (clock : ℕ → ℕ) (timeline : List (TimedStep Q P))
     (now shard : ℕ) (view : ShardView) : Type 0 where
   pub kept : (until : ℕ) → WasGranted terms clock timeline view.server view.joined until

@@ -1,6 +1,6 @@
 use sm_ranges::server_id::ServerId;
 
-/// What handed-over bytes name: whose they are, and the process of it that let go by handing them over.
+/// The contents of bytes that are handed over: the server, and the process of it that let go by handing over.
 #[derive(Clone, Copy, Drop)]
 pub struct HandOver {
     pub server: ServerId,

@@ -16,17 +16,17 @@ ghost use Rattle.sm_permit.specs.Views.{AreOne, StaysKnown, Knows, WasGranted, m
 
 use sm_store::laws::runs_are_lawful;
 
-/// At each moment at most one process may execute for a shard. Take any timeline whose log keeps the law of the store,
-/// as it does in every run, by a charter whose commands wait for acks: so each change has waited for who executed
-/// before. If the store ends no lease early and no clock is slower than the terms say, then two permits of one shard at
-/// one moment are of one process.
+/// At each moment at most one process may execute requests for a shard. Take any timeline whose log keeps the law of
+/// the store, as it does in every run, with a charter whose commands must wait for acks, so that the changes that give
+/// a shard to another server have waited for the server that may still execute. If the store ends no lease early, and
+/// if no clock is slower than the terms say, then two permits for one shard at one moment belong to one process.
 pub fn one_permit<Q, P>()
     ensures { (charter : Charter Q P) (terms : Terms) (timeline : List (TimedStep Q P)) → IsTrue charter.waits
         → AreSafe terms → AreRight charter (stored timeline) → KeepsWaits terms.length timeline
         → OnePermit terms timeline }
 {}
 
-/// The same in every run of all processes over the store, as the timeline has it with its moments.
+/// The same holds in every run of all processes over the store, if the timeline gives the run its moments.
 pub fn one_permit_in_runs<Q, P, R, S>()
     ensures { (service : Automaton S Q R) (charter : Charter Q P) (events : List (Event Q P R)) (terms : Terms)
         (timeline : List (TimedStep Q P)) → IsTrue charter.waits → MightHappen service charter events
@@ -37,9 +37,9 @@ pub fn one_permit_in_runs<Q, P, R, S>()
     one_permit::<Q, P>();
 }
 
-/// If what a process knows is so, it has a permit whenever `ShardView::may_execute` says that it may execute. So of all
-/// processes that decide by that, at most one may at one moment, if commands wait for acks. If `may_ack` says so, an
-/// ack of its record is allowed.
+/// If the knowledge of a process is true, the process has a permit whenever `ShardView::may_execute` says that it may
+/// execute. So of all processes that decide by that, at most one may execute at one moment, if commands wait for acks.
+/// If `may_ack` says so, an ack of its record is allowed.
 pub fn views_decide<Q, P>()
     ensures permits { (terms : Terms) (clock : ℕ → ℕ) (timeline : List (TimedStep Q P)) (now shard : ℕ)
         (view : ShardView) (mode : Mode) → Knows terms clock timeline now shard view
@@ -53,7 +53,8 @@ pub fn views_decide<Q, P>()
         → MayLetGo view.server view.reading.state.generation (stored_record shard (stored timeline)) }
 {}
 
-/// What a process knows is so once it has joined, and stays so by each call that tells it more, and while others act.
+/// The knowledge of a process is true once it has joined. It stays true after each call that tells the process more,
+/// and while others act.
 pub fn views_know<Q, P>()
     ensures new { (terms : Terms) (clock : ℕ → ℕ) (timeline : List (TimedStep Q P)) (now shard server joined until : ℕ)
         → latest_moment timeline ≤ now → WasGranted terms clock timeline server joined until
@@ -63,7 +64,7 @@ pub fn views_know<Q, P>()
         → Knows terms clock timeline now shard view → StaysKnown terms clock timeline now shard view }
 {}
 
-/// There is a run that keeps all of this, in which a permit is given, and goes from one server to another.
+/// There is a run that keeps all of this, and in which a permit is given, and goes from one server to another.
 pub fn permits_move<Q, P>()
     ensures { IsMoved Q P }
 {}

@@ -6,16 +6,17 @@ use sm_ownership::record::Record;
 use sm_ranges::server_id::ServerId;
 use sm_ranges::stand::Stand;
 
-/// What a process read of a shard, all at one revision of the store.
+/// Everything that a process read of a shard, all at one revision of the store.
 #[derive(Clone, Copy, Drop)]
 pub struct ShardReading {
-    /// A revision that the store had reached by then.
+    /// A revision that the store had reached when it was read.
     pub revision: u64,
     /// The shard's record.
     pub state: Record,
     /// Whether the process's own server has failed, as its state says.
     pub failed: bool,
-    /// The revision at which the process of the record's owner put that server's key there, 0 if there is none.
+    /// The revision at which the process of the record's owner put that server's key there, or 0 if there is no such
+    /// key.
     pub owner_joined: u64,
     /// Whether the record's owner has failed.
     pub owner_failed: bool,
@@ -37,7 +38,8 @@ impl ShardReading {
         }
     }
 
-    /// Returns whether handed-over bytes that name this free the shard: they are of the process whose key was read.
+    /// Returns whether these bytes, if they were handed over, free the shard: they must name the process whose key was
+    /// read.
     pub(crate) fn hand_over_frees(&self, hand: HandOver) -> bool
         ensures { result ≡ hand_over_frees self.now hand }
     {

@@ -10,24 +10,24 @@ use sm_ownership::record::Record;
 use sm_ranges::server_id::ServerId;
 use sm_ranges::stand::Stand;
 
-/// What a process of a server knows of a shard.
+/// The knowledge of a process of a server about a shard.
 #[derive(Clone, Copy, Drop)]
 pub struct ShardView {
     pub server: ServerId,
     /// The revision at which the process put its server's key into the store, under its lease.
     pub joined: u64,
-    /// The time of the process's clock up to which it goes by its lease: when it asked for what was answered last, and
-    /// the ticks that the terms allow.
+    /// The time of the process's clock up to which it goes by its lease: the time at which it last asked for it and was
+    /// answered, plus the ticks that the terms allow.
     pub until: u64,
     pub reading: ShardReading,
     /// Whether the owner that forwards by the record has let go, or has failed.
     pub freed: bool,
-    /// The greatest generation up to which the process has let go, 0 if it never did.
+    /// The greatest generation up to which the process has let go, or 0 if it never has.
     pub let_go: u64,
 }
 
 impl ShardView {
-    /// Returns what a process knows once it has joined, which executes nothing until it reads.
+    /// Returns the view of a process that has joined. The process may execute nothing until it reads.
     pub fn new(server: ServerId, joined: u64, until: u64) -> ShardView
         ensures { result ≡ new_view server joined until }
     {
@@ -53,7 +53,7 @@ impl ShardView {
         }
     }
 
-    /// Returns whether the process may execute what comes to it so, at this time of its clock.
+    /// Returns whether the process may execute requests that come in this mode, at this time of its clock.
     pub fn may_execute(&self, mode: Mode, time: u64) -> bool
         ensures { result ≡ may_execute self.now mode time }
     {
@@ -78,22 +78,22 @@ impl ShardView {
         }
     }
 
-    /// Returns whether the process may ack its record: it isn't the one by which its server executes.
+    /// Returns whether the process may ack its record, because the record isn't the one by which its server executes.
     pub fn may_ack(&self) -> bool
         ensures { result ≡ may_ack self.now }
     {
         self.reading.state.executor() != Some(self.server)
     }
 
-    /// Returns what the process knows once a keep of its lease was answered, by which it goes until this time.
+    /// Returns the view once a keep of the lease was answered, so that the process goes by the lease until this time.
     pub fn kept(self, until: u64) -> ShardView
         ensures { result ≡ view_kept self until }
     {
         ShardView { until, ..self }
     }
 
-    /// Returns what the process knows once it has read. By a record that the owner forwards it waits for that owner
-    /// anew, if it was not read as failed.
+    /// Returns the view once the process has read. If the owner forwards by this record, the process must wait for that
+    /// owner anew, unless the owner was read as failed.
     pub fn read(self, reading: ShardReading) -> ShardView
         ensures { result ≡ view_read self reading }
     {
@@ -105,7 +105,7 @@ impl ShardView {
         }
     }
 
-    /// Returns what the process knows once it has read that the server acked up to this generation.
+    /// Returns the view once the process has read that the server acked up to this generation.
     pub fn acked(self, server: ServerId, generation: u64) -> ShardView
         ensures { result ≡ view_acked self server generation }
     {
@@ -115,7 +115,7 @@ impl ShardView {
         }
     }
 
-    /// Returns what the process knows once it has bytes that name this.
+    /// Returns the view once the process has bytes that name this process of the owner.
     pub fn handed(self, hand: HandOver) -> ShardView
         ensures { result ≡ view_handed self hand }
     {
@@ -125,7 +125,7 @@ impl ShardView {
         }
     }
 
-    /// Returns what the process knows once it lets go of its record, by an ack or by handing over: it executes no more
+    /// Returns the view once the process lets go of its record, by an ack or by handing over: it must execute no more
     /// by it.
     pub fn let_go(self) -> ShardView
         ensures exactly { result ≡ view_let_go self }

@@ -3,6 +3,7 @@ use Rattle.sm_director.specs.declared.director.Director.{Director}
 use Rattle.sm_director.specs.declared.director_fault.DirectorFault.{DirectorFault}
 use Rattle.sm_director.specs.Calls.{KeepsDirector, RefusesParts}
 use Rattle.sm_director.specs.Directors.{RefusesFor}
+use Rattle.sm_director.specs.Refusals.{IsRefusedBy, RefusesPartsFor}
 use Rattle.sm_director.proofs.durkenzo_director_command.Goals as goal
 
 pub returns-in-Err-clause-refused : goal.returns-in-Err-clause-refused
@@ -19,4 +20,16 @@ returns-in-Err-clause-refused c =
       why.2,
       subst (λ (fault : DirectorFault). RefusesFor c.in-Some.command c.state_mut.result.now fault) why.1
           c.in-Err.ensures.refused,
+    )
+
+pub returns-in-Err-clause-unsent : goal.returns-in-Err-clause-unsent
+returns-in-Err-clause-unsent c =
+    λ _ _. subst (λ (state : Option Director). IsRefusedBy (RefusesPartsFor (record {
+      shard = c.args.shard;
+      server = c.args.server;
+      kind = c.args.kind;
+    })) c.code_of.result state) (sym c.state_mut.ensures.value) (
+      c.in-Err.fault,
+      c.code_of.ensures.code,
+      (c.in-Some.command, c.in-Some.ensures, c.in-Err.ensures.refused),
     )

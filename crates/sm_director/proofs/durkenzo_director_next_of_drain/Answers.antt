@@ -9,7 +9,7 @@ use Rattle.sm_director.proofs.durkenzo_director_next_of_drain.Goals as goal
 
 pub returns-in-Ok-clause-vacant : goal.returns-in-Ok-clause-vacant
 returns-in-Ok-clause-vacant c =
-    let found = c.in-Ok.ensures in
+    let found = c.in-Ok.ensures.told in
     λ _ _. subst (λ (state : Option Director). KeepsDirector (HasControl (λ control. TellsStep c.parts_of.result
     (vacant_step control) control)) state) (sym c.state_mut.ensures.value) (
       found.0,
@@ -22,7 +22,7 @@ returns-in-Ok-clause-vacant c =
 
 pub returns-in-Ok-next_of_drain-clause-drain : goal.returns-in-Ok-next_of_drain-clause-drain
 returns-in-Ok-next_of_drain-clause-drain c =
-    let found = c.in-Ok-next_of_drain.ensures in
+    let found = c.in-Ok-next_of_drain.ensures.told in
     let step = found.2.0 ∙ ap (λ (server : ℕ). drain_step found.0 server) c.in-Some.ensures.value in
     λ _ _. subst (λ (state : Option Director). KeepsDirector (HasControl (λ control. TellsStep
     c.parts_of-in-Ok-next_of_drain.result (drain_step control c.args.server) control)) state)

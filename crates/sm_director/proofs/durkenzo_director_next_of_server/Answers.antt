@@ -9,7 +9,7 @@ use Rattle.sm_director.proofs.durkenzo_director_next_of_server.Goals as goal
 
 pub returns-in-Ok-clause-told : goal.returns-in-Ok-clause-told
 returns-in-Ok-clause-told c =
-    let found = c.in-Ok.ensures in
+    let found = c.in-Ok.ensures.told in
     let step = found.2.0
     ∙ ap (λ (server : ℕ). server_step found.0 c.state_mut.result.now.acks.items server) c.in-Some.ensures.value in
     λ _. subst (λ (state : Option Director). KeepsDirector (λ kept. HasControl (λ control. TellsStep

@@ -9,7 +9,7 @@ use Rattle.sm_director.proofs.durkenzo_director_record_of.Goals as goal
 
 pub returns-else-not-has_word-clause-told : goal.returns-else-not-has_word-clause-told
 returns-else-not-has_word-clause-told c =
-    let found = c.in-Ok.ensures in
+    let found = c.in-Ok.ensures.told in
     let read = found.2 ∙ ap (λ (shard : ℕ). read_at found.0.records.items shard) c.in-Some.ensures.value in
     λ _. subst (λ (state : Option Director). KeepsDirector (HasControl (λ control.
     (c.pack.result ≡ word_of (read_at control.records.items c.args.shard).state)

@@ -8,13 +8,13 @@ use Rattle.sm_lead.specs.Waits.{has_waited}
 use Rattle.sm_lead.specs.declared.follower.Follower.{Follower}
 use Rattle.sm_lead.specs.declared.store_control.StoreControl.{StoreControl}
 use Rattle.sm_lead.specs.Commands.{command_fault, may_name, write_of}
-use Rattle.sm_lead.specs.Placements.{charter_of, rows_of}
+use Rattle.sm_lead.specs.Placements.{charter_of}
 use Rattle.sm_lead.specs.Sendings.{command_transaction, sending_of}
 use Rattle.sm_director.specs.Directors.{IsFollowed, IsPrepared}
 use Rattle.sm_director.proofs.Refusals.{refuses}
 use Rattle.sm_director.proofs.director.Director.command.Goals as goal
 
--- what is sent is what the law says of the control that judged it
+-- the transaction is the one in the law for the control that judged it
 pub returns-in-Sent-command-clause-sent : goal.returns-in-Sent-command-clause-sent
 returns-in-Sent-command-clause-sent c =
     let sent = c.in-Sent-command.sent in
@@ -40,12 +40,12 @@ returns-in-Sent-command-clause-sent c =
           (λ (acks : List AckRead). IsPrepared c.in-Stands.control acks c.args.command) c.deref-in-Stands.ensures.value
           (c.if-not-has_waited.ensures.prepared refl),
       waited,
-      λ parts log knows made.
-          subst (λ (it : CommandWrite). MaySend (charter_of (rows_of sent.control.desk.books) sent.control.desk.caps
-          sent.control.ceiling sent.control.waits parts) log (command_transaction (sending_of sent.control it)))
+      λ reading parts log by made.
+          subst (λ (it : CommandWrite). MaySend (charter_of reading sent.control.waits parts) log
+          (command_transaction (sending_of sent.control it)))
           (sym written)
-          (c.commands_may_be_sent.ensures parts log sent.control acks c.args.process c.args.command sound knows made
-          allowed (subst (λ (k : StoreControl). has_waited k acks c.args.command ≡ true) same waited) named),
+          (c.commands_may_be_sent.ensures reading parts log sent.control acks c.args.process c.args.command sound by
+          made allowed (subst (λ (k : StoreControl). has_waited k acks c.args.command ≡ true) same waited) named),
       refl,
     )
 
@@ -57,3 +57,12 @@ returns-then-not-is_named-clause-refused c =
 pub returns-in-Refused-clause-refused : goal.returns-in-Refused-clause-refused
 returns-in-Refused-clause-refused c =
     (c.in-Stands.control, sym c.in-Stands.ensures.value, c.in-Refused.ensures.0)
+
+pub returns-then-not-is_followed-clause-refused : goal.returns-then-not-is_followed-clause-refused
+returns-then-not-is_followed-clause-refused c = (c.in-Stands.control, sym c.in-Stands.ensures.value, tt)
+
+pub returns-then-not-has_waited-clause-refused : goal.returns-then-not-has_waited-clause-refused
+returns-then-not-has_waited-clause-refused c = (c.in-Stands.control, sym c.in-Stands.ensures.value, tt)
+
+pub returns-in-Sent-clause-refused : goal.returns-in-Sent-clause-refused
+returns-in-Sent-clause-refused c = (c.in-Sent.sent, sym c.in-Sent.ensures.value)

@@ -4,8 +4,8 @@ use Rattle.sm_lead.specs.Sendings.{sending_of}
 use Rattle.sm_director.specs.Calls.{SpellsCommand}
 use Rattle.sm_director.proofs.director.Director.sending.Goals as goal
 
-pub returns-in_ok-spell-in-Sent : goal.returns-in_ok-spell-in-Sent
-returns-in_ok-spell-in-Sent c =
+pub returns-in_ok-spell-in-Sent-clause-spelled : goal.returns-in_ok-spell-in-Sent-clause-spelled
+returns-in_ok-spell-in-Sent-clause-spelled c =
     let sent = c.in-Sent.sent in
     let it = c.sending.ensures in
     let same : c.sending.result ≡ sending_of sent.control sent.write =
@@ -19,5 +19,5 @@ returns-in_ok-spell-in-Sent c =
       sent,
       c.in-Sent.is,
       subst (λ (sending : CommandSending). SpellsCommand sending c.spell.new.numbers c.spell.new.into) same
-          c.in_ok-spell-in-Sent.ensures,
+          c.in_ok-spell-in-Sent.ensures.spelled,
     )

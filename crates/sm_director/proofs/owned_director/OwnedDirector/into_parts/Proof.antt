@@ -1,4 +1,4 @@
--- `into_parts` moves two fields, and what they own goes with them.
+-- `into_parts` moves two fields, and everything that they own goes with them.
 use Rattle.sm_kept.proofs.OwnerIntoParts.{into_parts_meets}
 use Rattle.sm_director.proofs.AsOwner.{O}
 use Rattle.sm_director.specs.contracts.owned_director.OwnedDirector.into_parts.Key.{name as #self}

@@ -1,4 +1,4 @@
--- `of_parts` moves two fields, and what they own goes with them.
+-- `of_parts` moves two fields, and everything that they own goes with them.
 use Rattle.sm_kept.proofs.OwnerOfParts.{of_parts_meets}
 use Rattle.sm_director.proofs.AsOwner.{O}
 use Rattle.sm_director.specs.contracts.owned_director.OwnedDirector.of_parts.Key.{name as #self}

@@ -1,4 +1,4 @@
--- `empty` makes what owns nothing.
+-- `empty` makes the owner of nothing.
 use Rattle.sm_kept.proofs.OwnerEmpty.{empty_meets}
 use Rattle.sm_driver.proofs.AsOwner.{O}
 use Rattle.sm_driver.specs.contracts.owned_server.OwnedServer.empty.Key.{name as #self}

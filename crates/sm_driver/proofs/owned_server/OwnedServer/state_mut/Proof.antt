@@ -1,4 +1,4 @@
--- `state_mut` lends the state, and what owns it follows.
+-- `state_mut` lends the state, and its owner follows.
 use Rattle.sm_kept.proofs.OwnerStateMut.{state_mut_meets}
 use Rattle.sm_driver.proofs.AsOwner.{O}
 use Rattle.sm_driver.specs.contracts.owned_server.OwnedServer.state_mut.Key.{name as #self}
