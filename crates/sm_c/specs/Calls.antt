@@ -1,4 +1,4 @@
--- What calls on handles say.
+-- The statements about calls on handles.
 use Rattle.std.specs.Prelude.{ℕ, ◌≡◌, ◌<◌, ◌⊎◌, Option, Ok, Err}
 use Rattle.sm_ranges.specs.declared.limits.TheConstants.{MAX_SERVER, MAX_SHARD}
 use Rattle.sm_ownership.specs.declared.change.Change.{Change}
@@ -29,7 +29,7 @@ IsStep kind server (ChangeOf shard change) = ⊥
 abbrev pub IsNoStep : ℕ → ℕ → Type 0
 IsNoStep kind server = IsNoServer server ⊎ (kind ≡ 0) ⊎ (5 < kind)
 
--- the pass is admitted to the shard for a request that came so, and the number is that of the shard's body
+-- the pass is admitted to the shard for a request that came in this mode, and the number is that of the shard's body
 abbrev pub AdmitsFrom : Option HandleState → Option HandleState → ℕ → ℕ → ℕ → Type 0
 AdmitsFrom before after shard from number =
     (mode : Mode) × CameFrom from mode × AdmitsHandle before after shard mode number

@@ -53,7 +53,7 @@ admit_fault_code NotYet = 24
 admit_fault_code Admitted = 25
 admit_fault_code SpentAlready = 26
 
--- the same, or another record was found in place of the one that admits
+-- the same, or another record was found in place of the admitting one
 abbrev pub raced_code : Option AdmitFault → ℕ
 raced_code (Some fault) = admit_fault_code fault
 raced_code None = 15
@@ -115,7 +115,7 @@ act_fault_code (Admit refusal) = told_code refusal
 act_fault_code (Checkpoint fault) = checkpoint_fault_code fault
 act_fault_code (Command fault) = command_fault_code fault
 
--- this is the code of a fault of which that holds
+-- this is the code of a fault with that property
 abbrev pub IsCodeOf : (ActFault → Type 0) → ℕ → Type 0
 IsCodeOf Refuses code = (fault : ActFault) × Refuses fault × (code ≡ act_fault_code fault)
 

@@ -13,7 +13,7 @@ use Rattle.sm_handle.specs.ActFault.TheVariants.{Admit, Checkpoint, Command}
 use Rattle.sm_c.specs.Words.{ArePartsOf}
 use Rattle.sm_c.specs.declared.record_parts.RecordParts.{RecordParts}
 
--- the record that refused an act, or the one that was found in its place; none where none was read
+-- the record that refused an act, or the record that was found in its place; nothing if none was read
 abbrev pub act_read : ActFault → Option Record
 act_read (Admit refusal) = Some (record_told refusal)
 act_read (Checkpoint (ByAdmission refusal)) = Some (record_told refusal)
@@ -27,13 +27,13 @@ abbrev pub refusal_read : Refusal → Option Record
 refusal_read (UnadmittedAt refusal) = Some (record_told refusal)
 refusal_read refusal = None
 
--- the parts are then those of this record, and without one as they were
+-- the parts are then those of this record; without one they are as they were
 abbrev pub TellsRecord : Option Record → RecordParts → RecordParts → Type 0
 TellsRecord (Some state) before after = ArePartsOf after state
 TellsRecord None before after = after ≡ before
 
--- the word is then that of the record by which an admission was refused, or of the one that was found in its place; and
--- where none was read as it was
+-- the word is then that of the record by which an admission was refused, or of the record that was found in its place;
+-- if none was read, it is as it was
 abbrev pub TellsAdmission : ActFault → ℕ → ℕ → Type 0
 TellsAdmission (Admit refusal) before after = IsWordOf (record_told refusal) after
 TellsAdmission fault before after = after ≡ before

@@ -30,7 +30,7 @@ HasParts kind key other amount (Del named) = (kind ≡ 5) × (named ≡ key)
 HasParts kind key other amount (Scan low high most) =
     (kind ≡ 6) × (low ≡ key) × (high ≡ other) × (pos most ≡ amount)
 
--- why the bytes are no key: there are none, or too many
+-- why the bytes aren't a key: there are none, or too many
 abbrev pub IsNoKey : List ℕ → KeyFault → Type 0
 IsNoKey bytes Empty = length bytes ≡ 0
 IsNoKey bytes TooLong = MAX_KEY < length bytes
@@ -53,17 +53,17 @@ abbrev pub AreNoRequest : RequestFault → ℕ → List ℕ → List ℕ → ℤ
 AreNoRequest Argument kind key other amount = IsNoRequest kind amount
 AreNoRequest (BadKey fault) kind key other amount = HasNoKey kind key other fault
 
--- why the map wasn't asked for a key: the bytes are none, or the handle keeps no map; and the code says which
+-- why the map wasn't asked for a key: the bytes aren't one, or the handle keeps no map; and the code says which
 abbrev pub GetsNothing : Option HandleState → List ℕ → ℕ → Type 0
 GetsNothing map key code =
     ((fault : KeyFault) × IsNoKey key fault × (code ≡ request_fault_code (BadKey fault)))
     ⊎ ((code ≡ 1) × KeepsNoMap map)
 
--- so many keys of the map hold something, or more than a word counts
+-- the map has so many keys, or more than a word counts
 abbrev pub CountsKeys : Option HandleState → ℕ → Type 0
 CountsKeys map count = (all : ℕ) × HoldsKeys map all × (count ≡ min all (2 ^ 64 - 1))
 
--- the map made the reply to a request of this kind with these parts, and is what that leaves
+-- the map made the reply to a request of this kind with these parts, and has the state after that
 abbrev pub AsksMap :
     Option HandleState → Option HandleState → ℕ → List ℕ → List ℕ → ℤ → Option HandleState → Type 0
 AsksMap before after kind key other amount reply =
@@ -79,7 +79,7 @@ AsksNothing before kind key other amount code =
 abbrev pub AreNoSentParts : SentParts → Type 0
 AreNoSentParts parts = (MAX_SHARD < parts.shard) ⊎ (MAX_SERVER < parts.from)
 
--- the parts are those of an envelope that was sent so
+-- the parts are those of an envelope that was sent like this
 abbrev pub AreSentParts : SentParts → SentAs → Type 0
 AreSentParts parts sent =
     (parts.number ≡ sent.number) × (parts.shard ≡ sent.shard) × CameFrom parts.from sent.mode
@@ -92,8 +92,8 @@ SendsRequest pass envelope parts kind key other amount =
     (sent : SentAs) × (request : Request) × AreSentParts parts sent × HasParts kind key other amount request
     × Carries pass envelope sent request
 
--- why there is no such envelope: the parts are none, or those of no request, or none comes so, or the handle keeps no
--- pass of the sample service, or memory was refused; and the code says which
+-- why there is no such envelope: the parts are none, or those of no request, or none comes in this mode, or the handle
+-- keeps no pass of the sample service, or memory was refused; and the code says which
 abbrev pub SendsNothing : Option HandleState → SentParts → ℕ → List ℕ → List ℕ → ℤ → ℕ → Type 0
 SendsNothing pass parts kind key other amount code =
     ((code ≡ 2) × AreNoSentParts parts)

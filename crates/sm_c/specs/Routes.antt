@@ -1,4 +1,4 @@
--- What calls on publishers and routers say.
+-- The statements about calls on publishers and routers.
 use Rattle.std.specs.Prelude.{ℕ, ◌≡◌, ◌<◌, ◌⊎◌, Option, Some, None}
 use Rattle.sm_ranges.specs.declared.limits.TheConstants.{MAX_SHARD, MAX_SHARDS}
 use Rattle.sm_ownership.specs.declared.record.TheConstants.{MAX_GENERATION}
@@ -13,7 +13,7 @@ use Rattle.sm_handle.specs.Routes.{ReadsHandleRoute, RefusesRoute}
 use Rattle.sm_c.specs.declared.route_parts.RouteParts.{RouteParts}
 use Rattle.sm_c.specs.Words.{IsNoServer}
 
--- the code of why no map has so many shards
+-- the code of the reason for which no map has so many shards
 abbrev pub HasNoMap : ℕ → ℕ → Type 0
 HasNoMap count code = ((code ≡ 6) × (count ≡ 0)) ⊎ ((code ≡ 7) × (MAX_SHARDS < count))
 
@@ -41,12 +41,13 @@ RefusesNumbers publisher shard server generation code =
     ⊎ ((fault : PublishFault) × RefusesRoute publisher (route_of_numbers shard server generation) fault
     × (code ≡ publish_fault_code fault))
 
--- the parts are the route's, or 0 where there is none
+-- the parts are the route's, or 0 if there is none
 abbrev pub AreRouteParts : RouteParts → Option Route → Type 0
 AreRouteParts parts (Some route) = (parts.server ≡ route.server) × (parts.generation ≡ route.generation)
 AreRouteParts parts None = (parts.server ≡ 0) × (parts.generation ≡ 0)
 
--- the router has seen what it had seen, and maybe more, in which these are the parts of the shard's last route
+-- the router has seen everything that it had seen, and maybe more, in which these are the parts of the shard's last
+-- route
 abbrev pub ReadsParts : Option HandleState → Option HandleState → ℕ → RouteParts → Type 0
 ReadsParts before after shard parts =
     (route : Option Route) × ReadsHandleRoute before after shard route × AreRouteParts parts route

@@ -1,4 +1,4 @@
--- What calls of words say.
+-- The statements about calls on words.
 use Rattle.std.specs.Prelude.{ℕ, Bool, ◌≡◌, ◌<◌, ◌≤◌, ◌⊎◌, ◌+◌, ◌*◌, ◌^◌, Some, None, true, false}
 use Rattle.sm_ranges.specs.declared.limits.TheConstants.{MAX_SERVER}
 use Rattle.sm_ranges.specs.Stand.{owner_number, other_number}
@@ -18,7 +18,7 @@ use Rattle.sm_word.specs.Word.{IsWellFormed, bit_of, phase_of, word_of}
 use Rattle.sm_c.specs.Codes.{admit_fault_code, change_fault_code}
 use Rattle.sm_c.specs.declared.record_parts.RecordParts.{RecordParts}
 
--- a change has this kind, and names this server where it names one
+-- a change has this kind, and names this server if it names one
 abbrev pub IsOfKind : ℕ → ℕ → Change → Type 0
 IsOfKind kind server (Assign named) = (kind ≡ 1) × (server ≡ named)
 IsOfKind kind server (PrepareAddShard named) = (kind ≡ 2) × (server ≡ named)
@@ -34,11 +34,11 @@ IsOfKind kind server (Reassign named) = (kind ≡ 9) × (server ≡ named)
 abbrev pub IsNoServer : ℕ → Type 0
 IsNoServer number = (number ≡ 0) ⊎ (MAX_SERVER < number)
 
--- no change has this kind, or it names a server and the number is none's
+-- no change has this kind, or it names a server and the number isn't a server's
 abbrev pub IsNoChange : ℕ → ℕ → Type 0
 IsNoChange kind server = (kind ≡ 0) ⊎ (9 < kind) ⊎ (((kind ≤ 2) ⊎ (kind ≡ 9)) × IsNoServer server)
 
--- a request came from this server, or directly where it is 0
+-- a request came from this server, or directly if it is 0
 abbrev pub CameFrom : ℕ → Mode → Type 0
 CameFrom from Direct = from ≡ 0
 CameFrom from (Forwarded server) = from ≡ server
@@ -94,7 +94,7 @@ RefusesBy word ceiling server mode code =
     ⊎ ((state : Record) × (fault : AdmitFault) × IsWellFormed state × (word_of state ≡ word)
     × (admit_fault ceiling state server mode ≡ Some fault) × (code ≡ admit_fault_code fault))
 
--- a number is no server's, or the same of a request that came from this server, or directly where it is 0
+-- a number isn't a server's, or the same for a request that came from this server, or directly if it is 0
 abbrev pub RefusesWord : ℕ → ℕ → ℕ → ℕ → ℕ → Type 0
 RefusesWord word server from ceiling code =
     ((code ≡ 2) × (IsNoServer server ⊎ (MAX_SERVER < from)))
@@ -137,7 +137,7 @@ HasNoRecord parts = (state : Record) → IsWellFormed state → ArePartsOf parts
 abbrev pub PacksParts : RecordParts → ℕ → Type 0
 PacksParts parts word = (state : Record) × IsWellFormed state × (word_of state ≡ word) × ArePartsOf parts state
 
--- whether the record of this word has the server execute what comes to it so
+-- whether the record with this word has the server execute a request that came like this
 abbrev pub AcceptsWord : ℕ → ℕ → ℕ → Bool → Type 0
 AcceptsWord word server from answer =
     (state : Record) × (mode : Mode) × IsWellFormed state × (word_of state ≡ word) × CameFrom from mode

@@ -23,10 +23,10 @@ use sm_tasks::RestartFault;
 /// The handle keeps nothing that the call is for.
 pub(crate) const WRONG_HANDLE: u32 = 1;
 
-/// A server or a kind is out of bounds.
+/// A server or a kind is out of range.
 pub(crate) const BAD_ARGUMENT: u32 = 2;
 
-/// Memory was refused.
+/// Out of memory.
 pub(crate) const NO_MEMORY: u32 = 3;
 
 /// No record has the word.
@@ -44,7 +44,7 @@ pub(crate) const TOO_MANY: u32 = 7;
 /// There are no servers.
 pub(crate) const BAD_BOOKS: u32 = 8;
 
-/// The bodies are as many as the shards of the settings.
+/// The number of bodies isn't the number of shards of the settings.
 pub(crate) const BAD_COUNT: u32 = 9;
 
 /// There is no such shard.
@@ -65,7 +65,7 @@ pub(crate) const BUSY: u32 = 14;
 /// Another thread was first.
 pub(crate) const RACED: u32 = 15;
 
-/// Fencing tokens begin after at most 9,223,371,968,135,299,072.
+/// Fencing tokens begin after a number of at most 9,223,371,968,135,299,072.
 pub(crate) const BAD_AFTER: u32 = 16;
 
 /// Nobody owns the shard.
@@ -86,7 +86,7 @@ pub(crate) const ADMITTED: u32 = 25;
 /// The shard's generations are spent.
 pub(crate) const SPENT: u32 = 26;
 
-/// The word has no admission that could end.
+/// The word has no admission that can end.
 pub(crate) const NOT_ADMITTED: u32 = 27;
 
 /// There is no such server.
@@ -155,7 +155,7 @@ pub(crate) const KEY_EMPTY: u32 = 57;
 /// A key has at most 255 bytes.
 pub(crate) const KEY_TOO_LONG: u32 = 58;
 
-/// The envelope goes on to the server `to`.
+/// The envelope must go on to the server `to`.
 pub(crate) const FORWARD: u32 = 60;
 
 /// The request's key is of another shard.
@@ -171,7 +171,7 @@ pub(crate) const KEPT_FULL: u32 = 63;
 pub(crate) const OLD_ROUTE: u32 = 64;
 // End of them.
 
-/// The code of what forbids a step of a word.
+/// Returns the code of the fault that forbids a step of a word.
 pub(crate) fn code_of_word(fault: WordFault) -> u32
     ensures code { result ≡ word_fault_code fault }
     ensures refused { result ≢ 0 }
@@ -184,7 +184,7 @@ pub(crate) fn code_of_word(fault: WordFault) -> u32
     }
 }
 
-/// The code of why there is no board.
+/// Returns the code of why there is no board.
 pub(crate) fn code_of_open(fault: OpenFault) -> u32
     ensures code { result ≡ open_fault_code fault }
     ensures refused { result ≢ 0 }
@@ -205,7 +205,7 @@ pub(crate) fn code_of_open(fault: OpenFault) -> u32
     }
 }
 
-/// The code of why parts of a text are no layout.
+/// Returns the code of why parts of a text are no layout.
 pub(crate) fn code_of_cut(fault: CutFault) -> u32
     ensures code { result ≡ cut_fault_code fault }
     ensures refused { result ≢ 0 }
@@ -223,7 +223,7 @@ pub(crate) fn code_of_cut(fault: CutFault) -> u32
     }
 }
 
-/// The code of why parts are no request.
+/// Returns the code of why parts are no request.
 pub(crate) fn code_of_request(fault: RequestFault) -> u32
     ensures code { result ≡ request_fault_code fault }
     ensures refused { result ≢ 0 }
@@ -238,7 +238,7 @@ pub(crate) fn code_of_request(fault: RequestFault) -> u32
     }
 }
 
-/// The code of why a call on a handle did nothing.
+/// Returns the code of why a call on a handle did nothing.
 pub(crate) fn code_of_act(fault: ActFault) -> u32
     ensures code { result ≡ act_fault_code fault }
     ensures refused { result ≢ 0 }
@@ -261,7 +261,7 @@ pub(crate) fn code_of_act(fault: ActFault) -> u32
     }
 }
 
-/// The code of why a server refused an envelope.
+/// Returns the code of why a server refused an envelope.
 pub(crate) fn code_of_refusal(refusal: Refusal) -> u32
     ensures code { result ≡ refusal_code refusal }
     ensures refused { result ≢ 0 }
@@ -276,8 +276,8 @@ pub(crate) fn code_of_refusal(refusal: Refusal) -> u32
     }
 }
 
-/// The code of why a pass wasn't admitted or its admission not ended, without what other calls are refused for: it
-/// stands in the way of calls that count each instruction.
+/// Returns the code of the reason for which a pass wasn't admitted or its admission not ended. It leaves out the
+/// reasons of other calls, because these would slow down calls that count each instruction.
 #[inline(always)]
 pub(crate) fn code_of_pass(fault: &ActFault) -> u32
     ensures code { result ≡ pass_code fault.now }

@@ -37,8 +37,8 @@ pub extern "C" fn durkenzo_open_after(
     }
 }
 
-/// Tells the fencing token of the admission of the pass: above the number after which those of its board begin, and so
-/// above each token of the boards before it.
+/// Writes the fencing token of the admission of the pass. It is above the number after which the tokens of its board
+/// begin, and so above each token of earlier boards.
 #[unsafe(no_mangle)]
 pub extern "C" fn durkenzo_token(pass: &mut Handle, token: &mut u64) -> u32
     ensures told { result ≡ 0 → TellsToken pass.old.owned.state token.new }

@@ -1,4 +1,4 @@
-//! What numbers of C stand for.
+//! The meanings of C's numbers.
 ghost use Rattle.std.specs.Prelude.{◌≡◌, ◌<◌, IfNone, IfSome};
 ghost use Rattle.sm_c.specs.Words.{CameFrom, IsNoChange, IsNoServer, IsOfKind};
 ghost use Rattle.sm_c.specs.Calls.{IsNoStep, IsStep};
@@ -9,7 +9,7 @@ use sm_ownership::mode::Mode;
 use sm_ranges::limits::MAX_SERVER;
 use sm_ranges::server_id::ServerId;
 
-/// The change of this kind, for this server where it names one.
+/// Returns the change of this kind, for this server if it names one.
 pub(crate) fn change_of(kind: u8, server: u16) -> Option<Change>
     ensures change { IfSome result (IsOfKind kind server) }
     ensures none { IfNone result (IsNoChange kind server) }
@@ -28,7 +28,7 @@ pub(crate) fn change_of(kind: u8, server: u16) -> Option<Change>
     }
 }
 
-/// The server with this number, or none where it is no server's.
+/// Returns the server with this number, or nothing if it isn't a server's.
 pub(crate) fn known_server(number: u16) -> Option<ServerId>
     ensures server { IfSome result (λ server. server ≡ number) }
     ensures none { IfNone result (IsNoServer number) }
@@ -39,7 +39,7 @@ pub(crate) fn known_server(number: u16) -> Option<ServerId>
     Some(ServerId::of(number))
 }
 
-/// How a request came: directly for 0, or from this server; or none where it is no server's.
+/// Returns how a request came: directly for 0, otherwise from this server; or nothing if the number isn't a server's.
 pub(crate) fn mode_of(from: u16) -> Option<Mode>
     ensures mode { IfSome result (CameFrom from) }
     ensures none { IfNone result (MAX_SERVER < from) }
@@ -50,7 +50,7 @@ pub(crate) fn mode_of(from: u16) -> Option<Mode>
     Some(Mode::Forwarded(known_server(from)?))
 }
 
-/// The step of this kind of a server's restart.
+/// Returns the step of this kind of a server's restart.
 pub(crate) fn step_of(kind: u8, server: u16) -> Option<Command>
     ensures step { IfSome result (IsStep kind server) }
     ensures none { IfNone result (IsNoStep kind server) }

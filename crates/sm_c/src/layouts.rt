@@ -10,7 +10,7 @@ use sm_handle::{Handle, TextPart};
 use sm_ranges::shard_id::ShardId;
 use std::alloc::Global;
 
-/// Makes a layout whose bounds are these parts of the text. The handle keeps it, in place of what it kept.
+/// Makes a layout whose bounds are these parts of the text. The handle keeps it, in place of its earlier state.
 #[unsafe(no_mangle)]
 pub extern "C" fn durkenzo_layout(
     alloc: Global,

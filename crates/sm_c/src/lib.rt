@@ -1,6 +1,6 @@
-//! The proved parts for callers in C, C++, Python and Rust. Each call answers 0, or a code of docs/LIBRARY.md and has
-//! done nothing but what its contract says. A handle begins as bytes of 0; it may pass from thread to thread, and is
-//! used by one call at a time.
+//! The proved parts for callers in C, C++, Python and Rust. Each call returns 0, or a code of docs/LIBRARY.md, and then
+//! it has done only the things in its contract. A handle must begin as bytes of 0. It may pass from thread to thread,
+//! and must be used by one call at a time.
 #![tactic(auto)]
 
 ghost use Rattle.std.specs.Prelude.{◌≡◌, ◌≢◌, ◌<◌, ◌⊎◌, Some, None, length, unwrap_or};
@@ -57,7 +57,7 @@ use sm_word::word::unpack;
 use std::alloc::Global;
 use words::{admitted_word, changed_word, ended_word, packed_word};
 
-/// The word after a change of this kind and server.
+/// Returns the word after a change of this kind and server.
 #[unsafe(no_mangle)]
 pub extern "C" fn durkenzo_changed(
     word: u64,
@@ -82,7 +82,7 @@ pub extern "C" fn durkenzo_changed(
     }
 }
 
-/// The word after an admission of the server, for a request that came directly (`from` 0) or from that server.
+/// Returns the word after an admission of the server, for a request that came directly (`from` 0) or from that server.
 #[unsafe(no_mangle)]
 pub extern "C" fn durkenzo_admitted(
     word: u64,
@@ -110,7 +110,7 @@ pub extern "C" fn durkenzo_admitted(
     }
 }
 
-/// The word after the end of its admission.
+/// Returns the word after the end of its admission.
 #[unsafe(no_mangle)]
 pub extern "C" fn durkenzo_ended(word: u64, next: &mut u64) -> u32
     ensures made { result ≡ 0 → EndsWord word next.new }
@@ -126,7 +126,7 @@ pub extern "C" fn durkenzo_ended(word: u64, next: &mut u64) -> u32
     }
 }
 
-/// The parts of the record that has this word.
+/// Returns the parts of the record that has this word.
 #[unsafe(no_mangle)]
 pub extern "C" fn durkenzo_unpack(word: u64, parts: &mut RecordParts) -> u32
     ensures made { result ≡ 0
@@ -143,7 +143,7 @@ pub extern "C" fn durkenzo_unpack(word: u64, parts: &mut RecordParts) -> u32
     }
 }
 
-/// The word of the record with these parts.
+/// Returns the word of the record with these parts.
 #[unsafe(no_mangle)]
 pub extern "C" fn durkenzo_pack(parts: &RecordParts, word: &mut u64) -> u32
     ensures made { result ≡ 0 → PacksParts parts.now word.new }
@@ -159,7 +159,8 @@ pub extern "C" fn durkenzo_pack(parts: &RecordParts, word: &mut u64) -> u32
     }
 }
 
-/// Whether the shard of this word has the server execute a request that came directly (`from` 0) or from that server.
+/// Returns whether the shard of this word has the server execute a request that came directly (`from` 0) or from that
+/// server.
 #[unsafe(no_mangle)]
 pub extern "C" fn durkenzo_accepts(word: u64, server: u16, from: u16, accepted: &mut bool) -> u32
     ensures made { result ≡ 0 → AcceptsWord word server from accepted.new }
@@ -180,32 +181,35 @@ pub extern "C" fn durkenzo_accepts(word: u64, server: u16, from: u16, accepted: 
     0
 }
 
-/// The server to which this one forwards requests on the shard of this word, or 0.
+/// Returns the server to which this one forwards requests on the shard of this word, or 0, also if no record has this
+/// word or there is no such server.
 #[unsafe(no_mangle)]
 pub extern "C" fn durkenzo_forward(word: u64, server: u16) -> u16
-    ensures { (state : RecordValue) → IsWellFormed state → word_of state ≡ word → IsServer server
+    ensures named { (state : RecordValue) → IsWellFormed state → word_of state ≡ word → IsServer server
         → result ≡ unwrap_or (forward_to state server) 0 }
+    ensures none { IsNoWord word ⊎ IsNoServer server → result ≡ 0 }
 {
-    let (Some(state), Some(server)) = (unpack(word), ServerId::new(server)) else {
-        return 0;
-    };
-    number(state.forward_to(server))
+    match (unpack(word), ServerId::new(server)) {
+        (Some(state), Some(server)) => number(state.forward_to(server)),
+        (None, _) | (_, None) => 0,
+    }
 }
 
-/// The server that executes requests on the shard of this word, or 0.
+/// Returns the server that executes requests on the shard of this word, or 0, also if no record has this word.
 #[unsafe(no_mangle)]
 pub extern "C" fn durkenzo_executor(word: u64) -> u16
-    ensures { (state : RecordValue) → IsWellFormed state → word_of state ≡ word
+    ensures named { (state : RecordValue) → IsWellFormed state → word_of state ≡ word
         → result ≡ unwrap_or (executor state) 0 }
+    ensures none { IsNoWord word → result ≡ 0 }
 {
-    let Some(state) = unpack(word) else {
-        return 0;
-    };
-    number(state.executor())
+    match unpack(word) {
+        Some(state) => number(state.executor()),
+        None => 0,
+    }
 }
 
-/// Opens a board with a body for each number, of servers 1 to this one, at most `ops` of which restart at once;
-/// generations stay at or below the ceiling. The handle keeps its control, in place of what it kept.
+/// Opens a board with a body for each number, of so many servers from 1 on, at most `ops` of which restart at once.
+/// Generations stay at or below the ceiling. The handle keeps its control, in place of its earlier state.
 #[unsafe(no_mangle)]
 pub extern "C" fn durkenzo_open(
     alloc: Global,
@@ -226,8 +230,8 @@ pub extern "C" fn durkenzo_open(
     }
 }
 
-/// Makes a new pass on the board of this control, with this server, which the board has. The pass's handle keeps it, in
-/// place of what it kept.
+/// Makes a new pass on the board of this control, with this server, which the board must have. The pass's handle keeps
+/// it, in place of its earlier state.
 #[unsafe(no_mangle)]
 pub extern "C" fn durkenzo_pass(
     alloc: Global,
@@ -271,11 +275,11 @@ pub extern "C" fn durkenzo_look(pass: &mut Handle, shard: u16, parts: &mut Recor
     }
 }
 
-// What no record has for its word.
+// No record has this word.
 const NO_WORD: u64 = 0xffff_ffff_ffff_ffff;
 
-/// Looks at the shard, with a pass that may hold a permit: the word of its record, which the calls on words take; or
-/// 2^64 - 1, which no record has, where the handle keeps no pass or the board has no such shard.
+/// Looks at the shard, with a pass that may hold a permit. Returns the word of its record, which the calls on words
+/// take. If the handle keeps no pass or the board has no such shard, returns 2^64 - 1, which no record has.
 #[unsafe(no_mangle)]
 pub extern "C" fn durkenzo_look_word(pass: &mut Handle, shard: u16) -> u64
     ensures seen { result ≢ NO_WORD → TellsWord pass.old.owned.state pass.new.owned.state shard result }
@@ -293,8 +297,8 @@ pub extern "C" fn durkenzo_look_word(pass: &mut Handle, shard: u16) -> u64
 }
 
 /// Admits the pass to the shard for a request that came directly (`from` 0) or from that server. `number` is that of
-/// the shard's body, which nobody else is given until the admission ends. A refusal by a record, or a lost race, writes
-/// to `read`.
+/// the shard's body, which nobody else gets until the admission ends. If a record refuses it, or another call was
+/// faster, writes the record to `read`.
 #[unsafe(no_mangle)]
 pub extern "C" fn durkenzo_admit(
     pass: &mut Handle,
@@ -327,7 +331,7 @@ pub extern "C" fn durkenzo_admit(
     }
 }
 
-/// The same, but that a refusal by a record, or a lost race, writes the record's word to `word`.
+/// Does the same, but writes the record's word to `word` if a record refuses it, or another call was faster.
 #[unsafe(no_mangle)]
 pub extern "C" fn durkenzo_admit_word(
     pass: &mut Handle,
@@ -421,7 +425,7 @@ pub extern "C" fn durkenzo_restart(chief: &mut Handle, kind: u8, server: u16) ->
     }
 }
 
-/// Lets go what the handle keeps; an admission ends.
+/// Drops the state that the handle keeps. If it has an admission, that ends.
 #[unsafe(no_mangle)]
 pub extern "C" fn durkenzo_close(alloc: Global, handle: &mut Handle)
     ensures { handle.new.owned.state ≡ None }

@@ -8,7 +8,7 @@ use crate::requests::{RequestFault, lent_key_of, lent_request_of};
 use sm_handle::{Handle, ReplyParts};
 use std::alloc::Global;
 
-/// Makes an empty map. The handle keeps it, in place of what it kept.
+/// Makes an empty map. The handle keeps it, in place of its earlier state.
 #[unsafe(no_mangle)]
 pub extern "C" fn durkenzo_map(alloc: Global, map: &mut Handle) -> u32
     ensures made { result ≡ 0 → IsEmptyMap map.new.owned.state }
@@ -21,7 +21,7 @@ pub extern "C" fn durkenzo_map(alloc: Global, map: &mut Handle) -> u32
     }
 }
 
-/// Writes how many keys of the map hold something; 2^64 - 1 where there are more.
+/// Writes how many keys the map has; 2^64 - 1 if there are more.
 #[unsafe(no_mangle)]
 pub extern "C" fn durkenzo_map_length(map: &mut Handle, length: &mut u64) -> u32
     ensures found { result ≡ 0 → CountsKeys map.old.owned.state length.new }
@@ -38,7 +38,8 @@ pub extern "C" fn durkenzo_map_length(map: &mut Handle, length: &mut u64) -> u32
     }
 }
 
-/// Writes what the key of the map holds: the parts, and a text in front of the room, where it has room for all of it.
+/// Writes the value at the key of the map: its parts, and a text to the front of the room, if there is room for all of
+/// it.
 #[unsafe(no_mangle)]
 pub extern "C" fn durkenzo_get(
     map: &mut Handle,
@@ -64,8 +65,8 @@ pub extern "C" fn durkenzo_get(
     }
 }
 
-/// Makes the request of this kind of the map. The reply's handle keeps the reply, in place of what
-/// it kept, and its parts are written.
+/// Makes the request of this kind on the map. The reply's handle keeps the reply, in place of its earlier state, and
+/// its parts are written.
 #[unsafe(no_mangle)]
 pub extern "C" fn durkenzo_ask(
     alloc: Global,

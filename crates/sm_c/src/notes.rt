@@ -1,4 +1,4 @@
-//! What passes tell each other.
+//! How passes tell each other how much they have seen.
 ghost use Rattle.std.specs.Prelude.{◌≡◌, ◌≢◌, None};
 ghost use Rattle.sm_handle.specs.Notes.{AreOfOneBoard, IsSplitFrom, MeetsHandle, SplitsNothing, TellsNothing};
 ghost use Rattle.sm_c.specs.Codes.{IsCodeOf};
@@ -7,8 +7,8 @@ use crate::codes::{WRONG_HANDLE, code_of_act};
 use sm_handle::Handle;
 use std::alloc::Global;
 
-/// Makes a new pass with the server of the other one, which has seen all that that has. The pass's handle keeps it, in
-/// place of what it kept.
+/// Makes a new pass with the server of the other one, which has seen everything that that one has seen. The pass's
+/// handle keeps it, in place of its earlier state.
 #[unsafe(no_mangle)]
 pub extern "C" fn durkenzo_split(alloc: Global, from: &mut Handle, pass: &mut Handle) -> u32
     ensures from { from.new.owned.state ≡ from.old.owned.state }
@@ -22,7 +22,7 @@ pub extern "C" fn durkenzo_split(alloc: Global, from: &mut Handle, pass: &mut Ha
     }
 }
 
-/// Tells the pass all that another pass of its board had seen. The other handle then keeps nothing.
+/// Tells the pass everything that another pass of its board had seen. The other handle then keeps nothing.
 #[unsafe(no_mangle)]
 pub extern "C" fn durkenzo_meet(alloc: Global, pass: &mut Handle, other: &mut Handle) -> u32
     requires { AreOfOneBoard pass.old.owned.state other.old.owned.state }

@@ -11,9 +11,9 @@ use sm_handle::{Handle, SettingsOpenFault};
 use sm_settings::SettingsFault;
 use std::alloc::Global;
 
-/// Opens a board of the sample service as the line of settings says, which a script begins with, without its line feed:
-/// its layout, servers, groups, shards, domains and limits, but for its workers. The chief's handle keeps the control,
-/// and the layout's handle the layout, in place of what they kept, and `shards` is how many there are.
+/// Opens a board of the sample service by the line of settings with which a script begins, without its line feed: its
+/// layout, servers, groups, shards, domains and limits, except for its workers. The chief's handle keeps the control,
+/// and the layout's handle the layout, in place of their earlier states, and `shards` is how many there are.
 #[unsafe(no_mangle)]
 pub extern "C" fn durkenzo_open_settings(
     alloc: Global,
@@ -110,7 +110,7 @@ fn open_fenced(
     }
 }
 
-/// The code of what a line of settings breaks.
+/// Returns the code of the rule that a line of settings breaks.
 fn code_of_settings(fault: SettingsFault) -> u32
     ensures code { result ≡ settings_code fault }
     ensures refused { result ≢ 0 }

@@ -11,8 +11,8 @@ use sm_handle::Handle;
 use sm_ranges::server_id::ServerId;
 use std::alloc::Global;
 
-/// Plans where the shards go that this server serves, or for 0 the vacant ones. The plan's handle keeps the plan, in
-/// place of what it kept.
+/// Plans the moves of the shards that this server serves, or of the vacant ones if it is 0. The plan's handle keeps the
+/// plan, in place of its earlier state.
 #[unsafe(no_mangle)]
 pub extern "C" fn durkenzo_plan(
     alloc: Global,

@@ -12,7 +12,8 @@ use sm_rule::AdmitRefusal;
 use sm_server::{CheckpointFault, Refusal};
 use sm_word::word::record_of_word;
 
-/// Writes the record that a refused call had read, where it read one: of an admission by its word, on the short way.
+/// Writes the record that a refused call had read, if it read one. An admission's record comes from its word, which is
+/// the short way.
 #[inline(always)]
 pub(crate) fn tell_parts(fault: &ActFault, read: &mut RecordParts)
     ensures { TellsRecord (act_read fault.now) read.old read.new }
@@ -23,7 +24,7 @@ pub(crate) fn tell_parts(fault: &ActFault, read: &mut RecordParts)
     }
 }
 
-/// Writes the word of the record that a refused admission had read, where it read one.
+/// Writes the word of the record that a refused admission had read, if it read one.
 #[inline(always)]
 pub(crate) fn tell_word(fault: &ActFault, word: &mut u64)
     ensures { TellsAdmission fault.now word.old word.new }
@@ -34,7 +35,7 @@ pub(crate) fn tell_word(fault: &ActFault, word: &mut u64)
     }
 }
 
-/// Writes the record, where there is one.
+/// Writes the record, if there is one.
 #[inline(always)]
 pub(crate) fn tell(state: Option<Record>, read: &mut RecordParts)
     ensures { TellsRecord state read.old read.new }
@@ -45,7 +46,7 @@ pub(crate) fn tell(state: Option<Record>, read: &mut RecordParts)
     }
 }
 
-/// The record by which a server refused an envelope, or the one that was found in its place.
+/// Returns the record by which a server refused an envelope, or the record that was found in its place.
 pub(crate) fn read_of_refusal(refusal: &Refusal) -> Option<Record>
     ensures { result ≡ refusal_read refusal.now }
 {
@@ -64,7 +65,8 @@ fn read_of_admission(refusal: &AdmitRefusal) -> Record
     }
 }
 
-/// The record by which a call was refused, or the one that was found in its place; none where no record was read.
+/// Returns the record by which a call was refused, or the record that was found in its place; nothing if no record was
+/// read.
 #[inline(always)]
 pub(crate) fn read_of(fault: &ActFault) -> Option<Record>
     ensures { result ≡ act_read fault.now }

@@ -21,7 +21,7 @@ pub struct RecordParts {
 }
 
 impl RecordParts {
-    /// The parts of a record.
+    /// Returns the parts of a record.
     pub(crate) fn of(state: &Record) -> RecordParts
         ensures { ArePartsOf result state.now }
     {
@@ -34,7 +34,7 @@ impl RecordParts {
         }
     }
 
-    /// The parts of the record that has this word, without a branch.
+    /// Returns the parts of the record that has this word, without a branch.
     pub(crate) fn of_word(word: u64) -> RecordParts
         ensures { (state : RecordValue) → IsWellFormed state → word_of state ≡ word → ArePartsOf result state }
     {
@@ -47,7 +47,7 @@ impl RecordParts {
         }
     }
 
-    /// The word that a record with these parts has, if there is one.
+    /// Returns the word that a record with these parts has, if there is one.
     pub(crate) fn word(&self) -> Option<u64>
         ensures some { IfSome result (λ word. word ≡ parts_word self.now) }
         ensures none { IfNone result (FitWord self.now → ⊥) }
@@ -70,7 +70,7 @@ impl RecordParts {
             && self.generation <= MAX_GENERATION
     }
 
-    /// Whether these are the same parts.
+    /// Returns whether these are the same parts.
     pub(crate) fn is(&self, other: &RecordParts) -> bool
         ensures { IsTrue result ↔ (self.now ≡ other.now) }
     {
@@ -82,7 +82,7 @@ impl RecordParts {
     }
 }
 
-/// The number of the server, or 0 where there is none.
+/// Returns the number of the server, or 0 if there is none.
 pub(crate) fn number(server: Option<ServerId>) -> u16
     ensures { result ≡ unwrap_or server 0 }
 {

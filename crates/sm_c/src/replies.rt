@@ -24,7 +24,7 @@ pub extern "C" fn durkenzo_reply_text(
     code_of_written(made, length)
 }
 
-/// Writes the parts of what the key of the pair at this place, from 0, held.
+/// Writes the parts of the value in the pair at this place, from 0.
 #[unsafe(no_mangle)]
 pub extern "C" fn durkenzo_pair(reply: &mut Handle, at: usize, parts: &mut ReplyParts) -> u32
     ensures found { result ≡ 0 → PairHeld reply.old.owned.state at parts.new }
@@ -59,7 +59,7 @@ pub extern "C" fn durkenzo_pair_key(
     code_of_written(made, length)
 }
 
-/// Writes the text that the key of the pair at this place held, and its length.
+/// Writes the text in the pair at this place, and its length.
 #[unsafe(no_mangle)]
 pub extern "C" fn durkenzo_pair_text(
     reply: &mut Handle,
@@ -77,7 +77,7 @@ pub extern "C" fn durkenzo_pair_text(
     code_of_written(made, length)
 }
 
-// The code of what was written, whose length this keeps.
+// Returns the code of a result, and keeps its length.
 fn code_of_written(made: Result<usize, ActFault>, length: &mut usize) -> u32
     ensures written { result ≡ 0 → made ≡ Ok length.new }
     ensures refused { result ≢ 0 → IsCodeOf (λ fault. made ≡ Err fault) result }

@@ -27,7 +27,7 @@ impl From<KeyFault> for RequestFault {
     }
 }
 
-/// The request of this kind with these parts, of which it copies those that it has.
+/// Returns the request of this kind with these parts, and copies those that it has.
 pub(crate) fn request_of(
     alloc: Global,
     kind: u8,
@@ -56,7 +56,7 @@ pub(crate) fn request_of(
     }
 }
 
-/// The request of this kind with these parts, which are lent to it.
+/// Returns the request of this kind with these parts, which are lent to it.
 pub(crate) fn lent_request_of<'a>(
     kind: u8,
     key: &'a [u8],
@@ -83,7 +83,7 @@ pub(crate) fn lent_request_of<'a>(
     }
 }
 
-/// The bytes, where they are a key.
+/// Returns the bytes, if they are a key.
 pub(crate) fn lent_key_of(bytes: &[u8]) -> Result<&[u8], KeyFault>
     ensures key { IfOk result (λ key. key.now ≡ bytes.now) }
     ensures refused { IfErr result (IsNoKey bytes.now) }

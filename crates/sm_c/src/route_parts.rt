@@ -2,7 +2,7 @@ ghost use Rattle.sm_c.specs.Routes.{AreRouteParts};
 
 use sm_ownership::route::Route;
 
-/// A shard's route as C sees it: the owner and its generation when it was published, or 0 and 0 where there is none.
+/// A shard's route as C sees it: the owner and its generation when it was published, or 0 and 0 if there is none.
 #[repr(C)]
 #[derive(Clone, Copy, Drop)]
 pub struct RouteParts {
@@ -11,7 +11,7 @@ pub struct RouteParts {
 }
 
 impl RouteParts {
-    /// The parts of a route, if there is one.
+    /// Returns the parts of a route, if there is one.
     pub(crate) fn of(route: Option<Route>) -> RouteParts
         ensures { AreRouteParts result route }
     {

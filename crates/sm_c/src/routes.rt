@@ -19,8 +19,8 @@ use sm_ranges::limits::MAX_SHARDS;
 use sm_ranges::shard_id::ShardId;
 use std::alloc::Global;
 
-/// Makes a publisher of routes for so many shards, 1 to 4,096, of which none has a route. The handle keeps it, in place
-/// of what it kept.
+/// Makes a publisher of routes for so many shards, 1 to 4,096, none of which has a route. The handle keeps it, in place
+/// of its earlier state.
 #[unsafe(no_mangle)]
 pub extern "C" fn durkenzo_publisher(alloc: Global, publisher: &mut Handle, count: usize) -> u32
     ensures made { result ≡ 0 → IsNewPublisher publisher.new.owned.state count }
@@ -39,8 +39,8 @@ pub extern "C" fn durkenzo_publisher(alloc: Global, publisher: &mut Handle, coun
     }
 }
 
-/// Makes a router of the publisher's map, which has seen all that was published. The router's handle keeps it, in place
-/// of what it kept.
+/// Makes a router of the publisher's map, which has seen everything that was published. The router's handle keeps it,
+/// in place of its earlier state.
 #[unsafe(no_mangle)]
 pub extern "C" fn durkenzo_router(alloc: Global, publisher: &mut Handle, router: &mut Handle) -> u32
     ensures publisher { publisher.new.owned.state ≡ publisher.old.owned.state }
@@ -86,8 +86,8 @@ pub extern "C" fn durkenzo_publish(
     }
 }
 
-/// Writes the shard's route that was published last of those that the router has then seen, or zeros where there is
-/// none, as of a shard that the map hasn't.
+/// Writes the shard's latest published route among those that the router has then seen, or zeros if there is none, for
+/// instance because the map doesn't have the shard.
 #[unsafe(no_mangle)]
 pub extern "C" fn durkenzo_route(router: &mut Handle, shard: u16, parts: &mut RouteParts) -> u32
     ensures read { result ≡ 0 → ReadsParts router.old.owned.state router.new.owned.state shard parts.new }

@@ -7,8 +7,8 @@ use sm_handle::SentAs;
 use sm_ownership::mode::Mode;
 use sm_ranges::shard_id::ShardId;
 
-/// An envelope but for its request and its note, as C sees it: its number, its shard, the server that forwarded it, or
-/// 0 where it came directly, and how often it was forwarded.
+/// An envelope without its request and its note, as C sees it: its number, its shard, the server that forwarded it, or
+/// 0 if it came directly, and how often it was forwarded.
 #[repr(C)]
 #[derive(Clone, Copy, Drop)]
 pub struct SentParts {
@@ -19,7 +19,7 @@ pub struct SentParts {
 }
 
 impl SentParts {
-    /// What these parts tell of an envelope, or none where they name no shard or server.
+    /// Returns the envelope's data in these parts, or nothing if they name no shard or server.
     pub(crate) fn sent(&self) -> Option<SentAs>
         ensures sent { IfSome result (AreSentParts self.now) }
         ensures none { IfNone result (AreNoSentParts self.now) }
@@ -35,7 +35,7 @@ impl SentParts {
         })
     }
 
-    /// The parts of an envelope.
+    /// Returns the parts of an envelope.
     pub(crate) fn of(sent: &SentAs) -> SentParts
         ensures { AreSentParts result sent.now }
     {

@@ -24,9 +24,9 @@ use sm_handle::{AnswerParts, Handle, ReplyParts, ServedAs};
 use sm_ranges::shard_id::ShardId;
 use std::alloc::Global;
 
-/// Opens a board of the sample service with so many shards, each of which holds nothing yet and keeps at most `kept`
-/// requests until a checkpoint, of servers 1 to this one, at most `ops` of which restart at once; generations stay at
-/// or below the ceiling. The handle keeps its control, in place of what it kept.
+/// Opens a board of the sample service with so many shards, each of which is empty and keeps at most `kept` requests
+/// until a checkpoint, of so many servers from 1 on, at most `ops` of which restart at once. Generations stay at or
+/// below the ceiling. The handle keeps its control, in place of its earlier state.
 #[unsafe(no_mangle)]
 pub extern "C" fn durkenzo_open_service(
     alloc: Global,
@@ -48,8 +48,8 @@ pub extern "C" fn durkenzo_open_service(
     }
 }
 
-/// Makes an envelope with these parts that carries the request of this kind, with a note of all that the pass has seen.
-/// The envelope's handle keeps it, in place of what it kept.
+/// Makes an envelope with these parts that carries the request of this kind, with a note of everything that the pass
+/// has seen. The envelope's handle keeps it, in place of its earlier state.
 #[unsafe(no_mangle)]
 pub extern "C" fn durkenzo_envelope(
     alloc: Global,
@@ -81,9 +81,9 @@ pub extern "C" fn durkenzo_envelope(
     }
 }
 
-/// Has the pass's server serve the envelope, by the layout. Where it answers, the envelope's handle keeps the answer;
-/// where it forwards the envelope, `to` is the server that it goes to, with one hop more; and else it comes back. A
-/// refusal by a record, or a lost race, writes to `read`.
+/// Makes the pass's server serve the envelope, by the layout. If it answers, the envelope's handle keeps the answer. If
+/// it forwards the envelope, `to` is the next server, and there is one hop more. Otherwise the envelope comes back. If
+/// a record refuses it, or another call was faster, writes the record to `read`.
 #[unsafe(no_mangle)]
 pub extern "C" fn durkenzo_serve(
     pass: &mut Handle,
@@ -153,8 +153,9 @@ pub extern "C" fn durkenzo_answer(
     }
 }
 
-/// Makes the shard's present state its base, under a direct admission of the pass, so that it keeps no request. Where
-/// it is made, `generation` is the shard's since then. A refusal by a record, or a lost race, writes to `read`.
+/// Makes the shard's present state its base, under a direct admission of the pass, so that it keeps no requests. If it
+/// succeeds, `generation` is the shard's since then. If a record refuses it, or another call was faster, writes the
+/// record to `read`.
 #[unsafe(no_mangle)]
 pub extern "C" fn durkenzo_checkpoint(
     pass: &mut Handle,
@@ -184,7 +185,7 @@ pub extern "C" fn durkenzo_checkpoint(
     }
 }
 
-// The code of what became of an envelope, with the server that it goes to, or the record by which it was refused.
+// Returns the code of an envelope's outcome, with the next server, or the record by which it was refused.
 fn code_of_served(served: ServedAs, to: &mut u16, read: &mut RecordParts) -> u32
     ensures answered { result ≡ 0 → served ≡ Answered }
     ensures forwarded { result ≡ FORWARD → served ≡ Forward to.new }

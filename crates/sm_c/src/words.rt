@@ -13,8 +13,8 @@ use sm_ownership::record::MAX_GENERATION;
 use sm_ranges::server_id::ServerId;
 use sm_word::word::{admit_word, done_word, pack, unpack};
 
-// The servers that a change names are numbered as servers are. Reading the number tells the proof so, and does
-// nothing else.
+// Shows that the servers in a change have valid numbers. Reading a number tells that to the proof, and does nothing
+// else.
 fn names_servers(change: &Change)
     ensures { NewlyNamesServer change.now }
 {
@@ -26,7 +26,7 @@ fn names_servers(change: &Change)
     }
 }
 
-/// The word after the change, or why there is none.
+/// Returns the word after the change, or why there is none.
 pub(crate) fn changed_word(word: u64, change: Change, ceiling: u64) -> Result<u64, WordFault>
     ensures next { IfOk result (ChangesBy word ceiling change) }
     ensures refused { IfErr result (λ fault. ForbidsBy word ceiling change (word_fault_code fault)) }
@@ -44,7 +44,7 @@ pub(crate) fn changed_word(word: u64, change: Change, ceiling: u64) -> Result<u6
     }
 }
 
-/// The word after an admission, or why there is none.
+/// Returns the word after an admission, or why there is none.
 pub(crate) fn admitted_word(
     word: u64,
     server: ServerId,
@@ -66,7 +66,7 @@ pub(crate) fn admitted_word(
     }
 }
 
-/// The word after the end of its admission, or none where it has none that can end.
+/// Returns the word after the end of its admission, or nothing if it has none that can end.
 pub(crate) fn ended_word(word: u64) -> Option<u64>
     ensures next { IfSome result (EndsWord word) }
     ensures none { IfNone result (IsNoWord word ⊎ HasNoEnd word) }
@@ -80,7 +80,7 @@ pub(crate) fn ended_word(word: u64) -> Option<u64>
     Some(done_word(word))
 }
 
-/// The word of the record with these parts, or none where there is no such record.
+/// Returns the word of the record with these parts. If there is no such record, returns none.
 pub(crate) fn packed_word(parts: &RecordParts) -> Option<u64>
     ensures made { IfSome result (PacksParts parts.now) }
     ensures refused { IfNone result (HasNoRecord parts.now) }

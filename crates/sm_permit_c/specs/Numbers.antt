@@ -1,4 +1,4 @@
--- The numbers of C that are a process's knowledge of a shard, and what calls make of them.
+-- The numbers of C that encode a process's knowledge of a shard, and the effects of calls on them.
 use Rattle.std.specs.Prelude.{ℕ, ◌≡◌, ◌<◌, ◌⊎◌, ◌≢◌}
 use Rattle.sm_ranges.specs.ServerId.{IsServer}
 use Rattle.sm_ranges.specs.declared.limits.TheConstants.{MAX_SERVER}
@@ -13,7 +13,7 @@ use Rattle.sm_permit_c.specs.declared.hand_over_numbers.HandOverNumbers.{HandOve
 use Rattle.sm_permit_c.specs.declared.reading_numbers.ReadingNumbers.{ReadingNumbers}
 use Rattle.sm_permit_c.specs.declared.view_numbers.ViewNumbers.{ViewNumbers}
 
--- the numbers of what was read
+-- the numbers of a reading
 abbrev pub reading_numbers : ShardReading → ReadingNumbers
 reading_numbers reading =
     record {
@@ -24,7 +24,7 @@ reading_numbers reading =
       owner_failed = reading.owner_failed;
     }
 
--- those of what a process knows
+-- those of a process's knowledge
 abbrev pub view_numbers : ShardView → ViewNumbers
 view_numbers view =
     record {
@@ -36,7 +36,7 @@ view_numbers view =
       freed = view.freed;
     }
 
--- those of what handed-over bytes name
+-- those of handed-over bytes
 abbrev pub hand_over_numbers : HandOver → HandOverNumbers
 hand_over_numbers hand = record { joined = hand.joined; generation = hand.generation; server = hand.server }
 
@@ -62,12 +62,12 @@ abbrev pub AreOfView : ViewNumbers → ShardView → Type 0
 AreOfView numbers view =
     IsServer view.server × IsWellFormed view.reading.state × (numbers ≡ view_numbers view)
 
--- these numbers are no view's: by the code, the server or the word is none
+-- these numbers are no view's: by the code, the server or the word is invalid
 abbrev pub AreOfNone : ViewNumbers → ℕ → Type 0
 AreOfNone numbers code =
     ((code ≡ 2) × IsBadServer numbers.server) ⊎ ((code ≡ 4) × IsBadWord numbers.reading.word)
 
--- the numbers become those of the view that the function makes of the view that they were
+-- the numbers become those of the view that the function returns for the view that they were
 abbrev pub Becomes : ViewNumbers → (ShardView → ShardView) → ViewNumbers → Type 0
 Becomes before change after =
     (view : ShardView) × AreOfView before view × AreOfView after (change view)

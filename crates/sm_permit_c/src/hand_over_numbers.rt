@@ -4,7 +4,7 @@ ghost use Rattle.sm_permit_c.specs.Numbers.{IsBadServer, hand_over_numbers};
 use sm_permit::HandOver;
 use sm_ranges::server_id::ServerId;
 
-/// What handed-over bytes name, as C sees it.
+/// The contents of handed-over bytes, as C sees them.
 #[repr(C)]
 #[derive(Clone, Copy, Drop)]
 pub struct HandOverNumbers {
@@ -16,7 +16,7 @@ pub struct HandOverNumbers {
 }
 
 impl HandOverNumbers {
-    /// Returns what has these numbers, or none if the server is none.
+    /// Returns the contents with these numbers, or nothing if the server isn't one.
     pub(crate) fn hand_over(&self) -> Option<HandOver>
         ensures made { IfSome result (λ hand. self.now ≡ hand_over_numbers hand) }
         ensures none { IfNone result (IsBadServer self.now.server) }

@@ -1,7 +1,7 @@
-//! Permits, for callers in C and Rust: whether a process may execute a shard's requests, by what it knows. The caller
-//! keeps what it knows as numbers, reads the store and the clock, and says what it learned. Each call answers 0, and is
-//! the function of its name on `ShardView` of sm_permit. Or it answers a code of library/codes.txt and changes nothing.
-//! No call keeps or allocates anything.
+//! Permits, for callers in C and Rust: whether a process may execute a shard's requests, from its knowledge. The caller
+//! keeps that knowledge as numbers, reads the store and the clock, and tells the call its news. Each call returns 0,
+//! and is the function of its name on `ShardView` of sm_permit. Otherwise it returns a code of library/codes.txt and
+//! changes nothing. No call keeps or allocates anything.
 #![tactic(auto)]
 
 ghost use Rattle.std.specs.Prelude.{◌≡◌, ◌≢◌, ◌<◌, ◌⊎◌};
@@ -28,7 +28,7 @@ use sm_permit::ShardView;
 use sm_ranges::server_id::ServerId;
 pub use view_numbers::ViewNumbers;
 
-/// Writes what a process of the server knows once it has joined at this revision. It executes nothing until it reads.
+/// Writes the knowledge of a server's process that has joined at this revision. It executes nothing until it reads.
 #[unsafe(no_mangle)]
 pub extern "C" fn durkenzo_permit_new(
     server: u16,
@@ -94,7 +94,7 @@ pub extern "C" fn durkenzo_permit_may_ack(view: &ViewNumbers, may: &mut bool) ->
     }
 }
 
-/// A keep of the lease was answered, by which the process goes until this time of its clock.
+/// Tells the view that a keep of the lease was answered, by which the process goes until this time of its clock.
 #[unsafe(no_mangle)]
 pub extern "C" fn durkenzo_permit_kept(view: &mut ViewNumbers, until: u64) -> u32
     ensures made { result ≡ 0 → Becomes view.old (λ known. view_kept known until) view.new }
@@ -110,7 +110,7 @@ pub extern "C" fn durkenzo_permit_kept(view: &mut ViewNumbers, until: u64) -> u3
     }
 }
 
-/// The process has read the shard.
+/// Tells the view that the process has read the shard.
 #[unsafe(no_mangle)]
 pub extern "C" fn durkenzo_permit_read(view: &mut ViewNumbers, reading: &ReadingNumbers) -> u32
     ensures made { result ≡ 0 → (told : ReadingValue) × AreOfReading reading.now told
@@ -129,7 +129,7 @@ pub extern "C" fn durkenzo_permit_read(view: &mut ViewNumbers, reading: &Reading
     0
 }
 
-/// The process has read that the server acked up to this generation.
+/// Tells the view that the process has read that the server acked up to this generation.
 #[unsafe(no_mangle)]
 pub extern "C" fn durkenzo_permit_acked(view: &mut ViewNumbers, server: u16, generation: u64) -> u32
     ensures made { result ≡ 0 → Becomes view.old (λ known. view_acked known server generation) view.new }
@@ -147,7 +147,7 @@ pub extern "C" fn durkenzo_permit_acked(view: &mut ViewNumbers, server: u16, gen
     0
 }
 
-/// The process has bytes that name this.
+/// Tells the view that the process has bytes that name this.
 #[unsafe(no_mangle)]
 pub extern "C" fn durkenzo_permit_handed(view: &mut ViewNumbers, hand: &HandOverNumbers) -> u32
     ensures made { result ≡ 0 → (named : HandOverValue) × (hand.now ≡ hand_over_numbers named)
@@ -166,7 +166,7 @@ pub extern "C" fn durkenzo_permit_handed(view: &mut ViewNumbers, hand: &HandOver
     0
 }
 
-/// The process lets go of its record, by an ack or by handing over: it executes no more by it.
+/// Notes that the process acks its record, or hands over: it executes no more by it.
 #[unsafe(no_mangle)]
 pub extern "C" fn durkenzo_permit_let_go(view: &mut ViewNumbers) -> u32
     ensures made { result ≡ 0 → Becomes view.old view_let_go view.new }

@@ -5,7 +5,7 @@ ghost use Rattle.sm_permit_c.specs.Numbers.{AreOfReading, IsBadWord, reading_num
 use sm_permit::ShardReading;
 use sm_word::word::{pack, unpack};
 
-/// What a process read of a shard at one revision of the store, as C sees it.
+/// A process's reading of a shard at one revision of the store, as C sees it.
 #[repr(C)]
 #[derive(Clone, Copy, Drop)]
 pub struct ReadingNumbers {
@@ -13,7 +13,7 @@ pub struct ReadingNumbers {
     pub revision: u64,
     /// The word of the shard's record.
     pub word: u64,
-    /// The revision at which the process of the record's owner put that server's key there, 0 if there is none.
+    /// The revision at which the process of the record's owner put that server's key there, or 0 if there is none.
     pub owner_joined: u64,
     /// Whether the process's own server has failed, as its state says.
     pub failed: bool,
@@ -36,7 +36,7 @@ impl ReadingNumbers {
         }
     }
 
-    /// Returns the reading that has these numbers, or none if no record has the word.
+    /// Returns the reading with these numbers, or nothing if no record has the word.
     pub(crate) fn reading(&self) -> Option<ShardReading>
         ensures made { IfSome result (AreOfReading self.now) }
         ensures none { IfNone result (IsBadWord self.now.word) }

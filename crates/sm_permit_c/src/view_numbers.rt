@@ -7,13 +7,13 @@ use crate::reading_numbers::ReadingNumbers;
 use sm_permit::ShardView;
 use sm_ranges::server_id::ServerId;
 
-/// What a process of a server knows of a shard, as C sees it.
+/// The knowledge of a server's process about a shard, as C sees it.
 #[repr(C)]
 #[derive(Clone, Copy, Drop)]
 pub struct ViewNumbers {
     /// The revision at which the process put its server's key into the store, under its lease.
     pub joined: u64,
-    /// The time of the process's clock up to which it goes by its lease.
+    /// The time of the process's clock until which its lease lasts.
     pub until: u64,
     /// The greatest generation up to which the process has let go, 0 if it never did.
     pub let_go: u64,
@@ -39,7 +39,7 @@ impl ViewNumbers {
         }
     }
 
-    /// Returns the view that has these numbers, or the code of the first number that is none.
+    /// Returns the view with these numbers, or the code of the first invalid number.
     pub(crate) fn view(&self) -> Result<ShardView, u32>
         ensures made { IfOk result (AreOfView self.now) }
         ensures refused { IfErr result (AreOfNone self.now) }
