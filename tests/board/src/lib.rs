@@ -33,3 +33,5 @@ mod rule;
 mod service;
 #[cfg(test)]
 mod stale;
+#[cfg(test)]
+mod two_passes;

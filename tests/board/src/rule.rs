@@ -67,6 +67,18 @@ pub(crate) fn owned<R: Abort>(rt: &R, alloc: Global, ceiling: u64) -> Fixture<Co
     fixture
 }
 
+// A board of two shards, which servers 1 and 2 own, and its chair.
+pub(crate) fn two_owned<R: Abort>(rt: &R, alloc: Global) -> (Board<CounterText>, Chair<CounterText>)
+    ensures { result.1.board ≡ result.0 }
+{
+    let mut fixture = vacant(rt, alloc, 2, 1_000_000, first_shard());
+    fixture.assign(rt, ServerId::of(1));
+    fixture.go_on_at(rt, shard(1));
+    fixture.assign(rt, ServerId::of(2));
+    let (board, chair, _) = fixture.parts();
+    (board, chair)
+}
+
 fn put_of(alloc: Global) -> Option<Request> {
     let key = Key::new(alloc, b"a").ok()?;
     Some(Request::Put(key, Bytes::new(alloc, b"x").ok()?))

@@ -1,7 +1,7 @@
 use sm_desk::{Command, CommandFault, Desk};
 use sm_lead::{
     AckRead, CommandSending, CommandWrite, Follower, Judged, Leadership, LoadFault, NextStep,
-    RecordRead, SendOutcome, StoreControl,
+    RecordRead, ResettleFault, SendOutcome, StoreControl,
 };
 use sm_ownership::{Change, Record};
 use sm_place::{Books, ServerState};
@@ -98,6 +98,22 @@ impl MemoryStore {
         self.read(rt, alloc, process)
     }
 
+    // A control of other settings, with this ceiling, reads the records of all shards of theirs, and these states.
+    fn draft(
+        &self,
+        rt: &impl Abort,
+        alloc: Global,
+        desk: Desk,
+        ceiling: u64,
+        runs: &[ServerRun],
+    ) -> Result<StoreControl, LoadFault> {
+        let lead = Leadership::new(7, self.elected).expect(rt, "a revision");
+        let shards = desk.books().shards().len().min(4);
+        let records = Vec::from_slice(alloc, &self.records[..shards]).expect(rt, "memory");
+        let runs = Vec::from_slice(alloc, runs).expect(rt, "memory");
+        StoreControl::read(desk, lead, ceiling, true, records, runs, self.placed)
+    }
+
     // A control that leads reads all records and states.
     fn read(&self, rt: &impl Abort, alloc: Global, process: u64) -> StoreControl {
         let lead = Leadership::new(process, self.elected).expect(rt, "a revision");
@@ -122,21 +138,31 @@ pub fn in_state(state: ServerState) -> ServerRun {
 
 // The desk of the settings: each server takes three shards, one server may be leaving, and one shard may be down.
 pub fn desk(rt: &impl Abort, alloc: Global) -> Desk {
-    let row = |number| ServerRow {
+    desk_of(rt, alloc, &[row(1), row(2), row(3)], 4, 1)
+}
+
+// The row of a server.
+fn row(number: u16) -> ServerRow {
+    ServerRow {
         id: ServerId::of(number),
         domain: number,
         capacity: 3,
-    };
-    let servers = [row(1), row(2), row(3)];
+    }
+}
+
+// The desk of settings with these servers, so many shards, of which one may be down, and so many servers that may be
+// leaving.
+fn desk_of(rt: &impl Abort, alloc: Global, servers: &[ServerRow], shards: usize, ops: u16) -> Desk {
     let group = GroupRow { limit: 4, down: 1 };
     let shard = ShardRow {
         group: 0,
         load: 1,
         cap: 1,
     };
-    let domains = equal_domains(alloc, &servers, 1).ok().expect(rt, "memory");
-    let books = Books::new(alloc, &servers, &[group], &[shard; 4], &domains);
-    Desk::new(books.ok().expect(rt, "books"), Tasks::new(1))
+    let rows = [shard; 4];
+    let domains = equal_domains(alloc, servers, 1).ok().expect(rt, "memory");
+    let books = Books::new(alloc, servers, &[group], &rows[..shards], &domains);
+    Desk::new(books.ok().expect(rt, "books"), Tasks::new(ops))
 }
 
 fn shard(rt: &impl Abort, number: u16) -> ShardId {
@@ -431,4 +457,76 @@ fn reads_no_unlawful_store(rt: HostRuntime) {
     );
     assert!(rt; matches!(none, Err(LoadFault::Different)));
     assert!(rt; Leadership::new(7, 0).is_none());
+}
+
+// What another control's settings come to, in place of the control's: which fault, if any.
+fn resettled(control: &StoreControl, other: &StoreControl) -> Option<ResettleFault> {
+    control.resettle(other).err()
+}
+
+// A server is added, and one that failed is taken out.
+#[test]
+fn other_settings_take_the_place(rt: HostRuntime) {
+    let three = ServerId::of(3);
+    let mut store = MemoryStore::new();
+    let control = store.elect(&rt, rt.alloc(), 7);
+    let more = desk_of(&rt, rt.alloc(), &[row(1), row(2), row(3), row(4)], 4, 2);
+    let runs = [in_state(ServerState::Up); 4];
+    let other = store.draft(&rt, rt.alloc(), more, 100, &runs);
+    let other = other.ok().expect(&rt, "a control");
+    assert!(rt; resettled(&control, &other) == None);
+
+    let fewer = |alloc| desk_of(&rt, alloc, &[row(1), row(2)], 4, 1);
+    let other = store.draft(&rt, rt.alloc(), fewer(rt.alloc()), 100, &store.runs[..2]);
+    let other = other.ok().expect(&rt, "a control");
+    assert!(rt; resettled(&control, &other) == Some(ResettleFault::InUse(three)));
+    let control = made(&rt, &mut store, control, Command::Fail(three));
+    let other = store.draft(&rt, rt.alloc(), fewer(rt.alloc()), 100, &store.runs[..2]);
+    let other = other.ok().expect(&rt, "a control");
+    assert!(rt; resettled(&control, &other) == None);
+}
+
+// The controls are of one moment, and the shards and the ceiling stay.
+#[test]
+fn other_settings_keep_shards_and_ceiling(rt: HostRuntime) {
+    let mut store = MemoryStore::new();
+    let control = store.elect(&rt, rt.alloc(), 7);
+    let servers = [row(1), row(2), row(3)];
+    let desk = desk_of(&rt, rt.alloc(), &servers, 3, 1);
+    let other = store.draft(&rt, rt.alloc(), desk, 100, &store.runs);
+    let other = other.ok().expect(&rt, "a control");
+    assert!(rt; resettled(&control, &other) == Some(ResettleFault::OtherShards));
+    let desk = desk_of(&rt, rt.alloc(), &servers, 4, 1);
+    let other = store.draft(&rt, rt.alloc(), desk, 99, &store.runs);
+    let other = other.ok().expect(&rt, "a control");
+    assert!(rt; resettled(&control, &other) == Some(ResettleFault::OtherCeiling));
+    let assign = Command::Change(shard(&rt, 0), Change::Assign(ServerId::of(1)));
+    let control = made(&rt, &mut store, control, assign);
+    assert!(rt; resettled(&control, &other) == Some(ResettleFault::Apart));
+}
+
+// A control of settings to which records and states don't keep isn't made.
+#[test]
+fn other_settings_keep_what_stands(rt: HostRuntime) {
+    let (one, two, k) = (ServerId::of(1), ServerId::of(2), shard(&rt, 0));
+    let mut store = MemoryStore::new();
+    let control = store.elect(&rt, rt.alloc(), 7);
+    let control = made(
+        &rt,
+        &mut store,
+        control,
+        Command::Change(k, Change::Assign(one)),
+    );
+    let control = made(&rt, &mut store, control, Command::Ask(two));
+    let _ = made(&rt, &mut store, control, Command::Approve(two));
+    let servers = [row(1), row(2), row(3)];
+    let none_leaves = desk_of(&rt, rt.alloc(), &servers, 4, 0);
+    let other = store.draft(&rt, rt.alloc(), none_leaves, 100, &store.runs);
+    let cap = CommandFault::Restart(RestartFault::GlobalCap);
+    assert!(rt; matches!(other, Err(LoadFault::Unreached(fault)) if fault == cap));
+    let without_owner = desk_of(&rt, rt.alloc(), &servers[1..], 4, 1);
+    let other = store.draft(&rt, rt.alloc(), without_owner, 100, &store.runs[1..]);
+    assert!(rt;
+        matches!(other, Err(LoadFault::Unreached(fault)) if fault == CommandFault::UnknownServer)
+    );
 }

@@ -2,7 +2,8 @@
 use crate::texts::assert_texts;
 use sm_codec::{Fault, ReadError};
 use sm_desk::CommandFault;
-use sm_lead::LoadFault;
+use sm_lead::{LoadFault, ResettleFault};
+use sm_ranges::ServerId;
 use sm_shard::ReplayFault;
 
 #[test]
@@ -36,6 +37,25 @@ fn faults_of_replays_have_texts(rt: HostRuntime) {
         ),
     ];
     assert_texts(&rt, rt.alloc(), &loaded);
+    let resettled = [
+        (
+            ResettleFault::Apart,
+            "the two controls weren't read by the same records and states",
+        ),
+        (
+            ResettleFault::OtherShards,
+            "the settings have another number of shards",
+        ),
+        (
+            ResettleFault::OtherCeiling,
+            "the settings have another ceiling",
+        ),
+        (
+            ResettleFault::InUse(ServerId::of(3)),
+            "server 3 has neither stopped nor failed, and the settings have no row of it",
+        ),
+    ];
+    assert_texts(&rt, rt.alloc(), &resettled);
     let replayed = [
         (ReplayFault::Memory, "out of memory"),
         (

@@ -1,8 +1,10 @@
 //! Whole scripts on the model, in memory.
 
+use sm_explain::{Listener, Sentence};
 use sm_lines::{Dialogue, RunFault, Status};
-use sm_model::run_model;
+use sm_model::{run_model, run_model_explained};
 use std::alloc::{AllocError, Global};
+use std::cell::Cell;
 use std::io::{Read, Write};
 use std::process::Abort;
 use std::test::Fail;
@@ -60,6 +62,32 @@ fn documented_example(rt: HostRuntime) -> Result<(), Fail> {
     }
     let script = script_of(rt.alloc(), FIRST_PATH)?;
     answer(&rt, rt.alloc(), &script)?;
+    Ok(())
+}
+
+/// Keeps of what it hears the number of the last line.
+#[derive(Drop)]
+struct LastRefused {
+    line: Cell<u64>,
+}
+
+impl Listener for LastRefused {
+    fn hear(&self, line: u64, _answer: &str, _sentence: Sentence) {
+        self.line.set(line);
+    }
+}
+
+#[test]
+fn explained_run_writes_the_script(rt: HostRuntime) -> Result<(), Fail> {
+    let alloc = rt.alloc();
+    let script = script_of(alloc, b"assign 1 1\nfly\nput m hello\n")?;
+    let mut written = Vec::new(alloc);
+    let refused = LastRefused { line: Cell::new(0) };
+    let mut dialogue = Dialogue::new(alloc, script.as_slice(), &mut written)?;
+    let status = run_model_explained(alloc, &mut dialogue, &refused)?;
+    assert!(rt; status == Status::Ran);
+    assert!(rt; refused.line.get() == 3);
+    assert!(rt; written.as_slice() == b"ok\nerror UnknownWord\ndone @1#0\n".as_slice());
     Ok(())
 }
 
