@@ -1,6 +1,6 @@
 use crate::Revision;
 
-/// A key that lies in the store.
+/// A key in the store.
 #[derive(Clone, Debug, PartialEq, Eq)]
 pub struct Pair {
     /// The key.
@@ -13,17 +13,17 @@ pub struct Pair {
     pub created: Revision,
 }
 
-/// What lay in the store at one moment.
+/// The keys in the store at one moment.
 #[derive(Clone, Debug, Default, PartialEq, Eq)]
 pub struct Reading {
     /// The moment.
     pub revision: Revision,
-    /// The keys that were asked for and lay there, in the order in which they were asked for.
+    /// The keys that were asked for and exist, in the order of the request.
     pub pairs: Vec<Pair>,
 }
 
 impl Reading {
-    /// The pair of this key, where it lay there.
+    /// Returns the pair of this key, if it exists.
     pub fn get(&self, key: &[u8]) -> Option<&Pair> {
         self.pairs.iter().find(|it| it.key == key)
     }

@@ -1,9 +1,9 @@
-/// Which room a transaction may take where the disk is nearly full.
+/// The room that a transaction may use if the disk is nearly full.
 #[derive(Clone, Copy, Debug, Default, PartialEq, Eq)]
 pub enum Room {
-    /// What is free.
+    /// The free room.
     #[default]
     Free,
-    /// Also what the store keeps back: for what makes room, or takes none for long.
+    /// Also the store's reserve: for a transaction that makes room, or takes it only for a short time.
     KeptBack,
 }

@@ -5,29 +5,30 @@ use crate::{
 use std::sync::mpsc;
 use std::time::Duration;
 
-/// Who is told what became of a transaction. It must not wait for the store.
+/// The callback for a transaction's outcome. It must not wait for the store.
 pub type Done = Box<dyn FnOnce(Result<Outcome, WriteError>) + Send>;
 
-/// How many pairs are read at once where keys alone are asked for, of a store that gives no keys alone.
+/// How many pairs are read at once to list keys, in a store that can't list keys by themselves.
 const PAGE: usize = 64;
 
-/// Keys with revisions, as etcd has them.
+/// Keys with revisions, as in etcd.
 ///
-/// All transactions are made one after another, each at once or not at all, and each that writes has a revision of its
-/// own, greater than those before it. A reading and a transaction see all that was told as made before they began.
+/// All transactions are made one after another, each as a whole or not at all. Each transaction that writes has its own
+/// revision, greater than those before it. A reading and a transaction see every transaction whose outcome was told
+/// before they began.
 pub trait Store: Send + std::marker::Sync {
-    /// Sends a transaction, and tells what became of it: by another thread, and exactly once.
+    /// Sends a transaction, and tells its outcome: on another thread, and exactly once.
     fn submit(&self, transaction: Transaction, done: Done);
 
-    /// Sends a transaction, and waits for what becomes of it.
+    /// Sends a transaction, and waits for its outcome.
     ///
     /// # Errors
     ///
-    /// As [`WriteError`] says: only after [`WriteError::Unknown`] may it have been made.
+    /// As [`WriteError`] says. It may have been made only after [`WriteError::Unknown`].
     fn make(&self, transaction: Transaction) -> Result<Outcome, WriteError> {
         let (tell, told) = mpsc::sync_channel(1);
         let done = move |outcome| {
-            // Who asked waits until it is told.
+            // The caller waits until it is told.
             let _ = tell.send(outcome);
         };
         self.submit(transaction, Box::new(done));
@@ -38,30 +39,30 @@ pub trait Store: Send + std::marker::Sync {
     ///
     /// # Errors
     ///
-    /// Where the store can't be asked, as [`ReadError`] says.
+    /// If the store can't be asked, as [`ReadError`] says.
     fn read(&self, keys: &[&[u8]]) -> Result<Reading, ReadError>;
 
-    /// Reads all keys that begin so, in their order, all at one moment.
+    /// Reads all keys with this prefix, in their order, all at one moment.
     ///
     /// # Errors
     ///
-    /// Where the store can't be asked, as [`ReadError`] says.
+    /// If the store can't be asked, as [`ReadError`] says.
     fn read_all(&self, prefix: &[u8]) -> Result<Reading, ReadError>;
 
-    /// Reads the first keys from this one on and before that end, in their order, at most so many, which are one at
-    /// least, all at one moment.
+    /// Reads the first keys from this one on and before that end, in their order, all at one moment. It reads at most
+    /// so many keys; `most` must be at least one.
     ///
     /// # Errors
     ///
-    /// Where the store can't be asked, as [`ReadError`] says.
+    /// If the store can't be asked, as [`ReadError`] says.
     fn read_range(&self, from: &[u8], end: &[u8], most: usize) -> Result<Reading, ReadError>;
 
-    /// Reads which keys there are from this one on and before that end, in their order, and not what lies there. Keys that
-    /// come or go meanwhile may be among them or not.
+    /// Lists the keys from this one on and before that end, in their order, without their values. Keys that come or go
+    /// meanwhile may be among them or not.
     ///
     /// # Errors
     ///
-    /// Where the store can't be asked, as [`ReadError`] says.
+    /// If the store can't be asked, as [`ReadError`] says.
     fn read_keys(&self, from: &[u8], end: &[u8]) -> Result<Vec<Vec<u8>>, ReadError> {
         let (mut keys, mut from) = (Vec::new(), from.to_vec());
         loop {
@@ -75,44 +76,44 @@ pub trait Store: Send + std::marker::Sync {
         }
     }
 
-    /// Tells what lies at all keys that begin so, and from then on each change of them.
+    /// Tells all keys with this prefix, and from then on each change of them.
     ///
     /// # Errors
     ///
-    /// Where the store can't be asked, as [`ReadError`] says. Later it is asked again until it answers.
+    /// If the store can't be asked, as [`ReadError`] says. Later it is asked again until it answers.
     fn watch(&self, prefix: &[u8], watcher: Watcher) -> Result<Watch, ReadError>;
 
-    /// Gives a lease that ends where it isn't kept for this long, which is counted in whole seconds and is one at
-    /// least.
+    /// Grants a lease, which ends if it isn't kept for this long. The length is counted in whole seconds, at least one.
     ///
     /// # Errors
     ///
-    /// Where the store can't be asked, as [`LeaseError`] says.
+    /// If the store can't be asked, as [`LeaseError`] says.
     fn grant(&self, length: Duration) -> Result<LeaseId, LeaseError>;
 
     /// Keeps a lease for its length from now on.
     ///
     /// # Errors
     ///
-    /// `Ended` where it has ended; else where the store can't be asked.
+    /// `Ended` if it has ended; otherwise if the store can't be asked.
     fn keep(&self, lease: LeaseId) -> Result<(), LeaseError>;
 
     /// Ends a lease now, and deletes its keys.
     ///
     /// # Errors
     ///
-    /// `Ended` where it had ended; else where the store can't be asked.
+    /// `Ended` if it had ended; otherwise if the store can't be asked.
     fn revoke(&self, lease: LeaseId) -> Result<(), LeaseError>;
 
-    /// How many bytes there is room for, of what may take what the store keeps back; none where that isn't known.
+    /// Returns how many bytes there is room for, for transactions that may use the store's reserve; nothing if that
+    /// isn't known.
     fn left(&self) -> Option<u64> {
         None
     }
 
-    /// Lets go what was deleted or written over, and has the store take writes again where that makes room.
+    /// Discards deleted and overwritten values, and has the store take writes again if that makes room.
     ///
     /// # Errors
     ///
-    /// Where the store can't be asked, as [`CompactError`] says.
+    /// If the store can't be asked, as [`CompactError`] says.
     fn compact(&self) -> Result<(), CompactError>;
 }

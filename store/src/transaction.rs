@@ -1,44 +1,44 @@
 use crate::{LeaseId, Reading, Revision, Room};
 
-/// A key whose revision has to be the one that was read.
+/// A key whose revision must be the one that was read.
 #[derive(Clone, Debug, PartialEq, Eq)]
 pub struct Compare {
     /// The key.
     pub key: Vec<u8>,
-    /// The revision at which it was read; [`Revision::NEVER`] where it lay nowhere.
+    /// The revision at which it was read, or [`Revision::NEVER`] if it didn't exist.
     pub revision: Revision,
 }
 
-/// A key that is written.
+/// A write of a key.
 #[derive(Clone, Debug, PartialEq, Eq)]
 pub struct Put {
     /// The key.
     pub key: Vec<u8>,
     /// Its value.
     pub value: Vec<u8>,
-    /// The lease with whose end it is deleted.
+    /// The lease whose end deletes it.
     pub lease: Option<LeaseId>,
 }
 
-/// What is made at once, where all of its compares hold, and else not at all.
+/// Writes that are made as a whole if all compares hold, and otherwise not at all.
 ///
-/// No key stands in it twice as written or deleted.
+/// No key may be written or deleted twice in it.
 #[derive(Clone, Debug, Default, PartialEq, Eq)]
 pub struct Transaction {
-    /// What has to hold.
+    /// The compares that must hold.
     pub compares: Vec<Compare>,
-    /// What is then written.
+    /// The writes that are then made.
     pub puts: Vec<Put>,
-    /// What is then deleted; a key that lies nowhere is none the less.
+    /// The deletions that are then made. A key that doesn't exist may be deleted.
     pub deletes: Vec<Vec<u8>>,
-    /// What is read where a compare doesn't hold.
+    /// The keys that are read if a compare doesn't hold.
     pub reads: Vec<Vec<u8>>,
-    /// Which room what is written may take.
+    /// The room that the writes may use.
     pub room: Room,
 }
 
 impl Transaction {
-    /// One that does nothing yet.
+    /// Makes an empty transaction.
     pub fn new() -> Transaction {
         Transaction::default()
     }
@@ -57,7 +57,7 @@ impl Transaction {
         self.put_under(key, value, None)
     }
 
-    /// Writes a key that is deleted with the lease's end.
+    /// Writes a key that the lease's end deletes.
     pub fn put_under(
         mut self,
         key: impl Into<Vec<u8>>,
@@ -78,19 +78,19 @@ impl Transaction {
         self
     }
 
-    /// Reads a key where a compare doesn't hold.
+    /// Reads a key if a compare doesn't hold.
     pub fn or_read(mut self, key: impl Into<Vec<u8>>) -> Transaction {
         self.reads.push(key.into());
         self
     }
 
-    /// Lets it take the room that the store keeps back.
+    /// Lets it use the store's reserve.
     pub fn with_kept_room(mut self) -> Transaction {
         self.room = Room::KeptBack;
         self
     }
 
-    /// Which room it may take: what only deletes makes some.
+    /// Returns the room that it may use. A transaction that only deletes makes room.
     pub fn room(&self) -> Room {
         match self.puts.is_empty() {
             true => Room::KeptBack,
@@ -98,23 +98,23 @@ impl Transaction {
         }
     }
 
-    /// How many bytes it writes.
+    /// Returns how many bytes it writes.
     pub(crate) fn bytes(&self) -> usize {
         let puts = self.puts.iter();
         puts.map(|it| it.key.len() + it.value.len()).sum()
     }
 
-    /// Whether it writes or deletes anything where it is made.
+    /// Returns whether it writes or deletes anything when it is made.
     pub fn writes(&self) -> bool {
         !(self.puts.is_empty() && self.deletes.is_empty())
     }
 }
 
-/// What became of a transaction.
+/// The outcome of a transaction.
 #[derive(Clone, Debug, PartialEq, Eq)]
 pub enum Outcome {
-    /// It was made: the store's revision then, which is that of what it wrote.
+    /// It was made. This is the store's revision then, which is the revision of its writes.
     Made(Revision),
-    /// A compare didn't hold, so nothing was written: what it was to read then.
+    /// A compare didn't hold, so nothing was written. This is the reading of the keys that it asked for.
     Lost(Reading),
 }

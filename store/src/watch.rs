@@ -6,7 +6,7 @@ use std::fmt;
 pub struct KeyChange {
     /// The key.
     pub key: Vec<u8>,
-    /// Its new value; none where it was deleted.
+    /// Its new value; nothing if it was deleted.
     pub value: Option<Vec<u8>>,
     /// The revision that did it.
     pub revision: Revision,
@@ -14,16 +14,16 @@ pub struct KeyChange {
     pub created: Revision,
 }
 
-/// What a watch tells.
+/// An event of a watch.
 #[derive(Clone, Debug, PartialEq, Eq)]
 pub enum Seen {
-    /// All keys that begin so, as they lay at a moment: first, and again where changes may have been missed.
+    /// All keys with the prefix at one moment: first, and again if changes may have been missed.
     All(Reading),
-    /// Changes after all that was told before, in the order of their revisions, up to this revision.
+    /// The changes after everything that was told before, in the order of their revisions, up to this revision.
     Changes(Revision, Vec<KeyChange>),
 }
 
-/// Who is told what a watch sees, one call after another. It must not wait for the store.
+/// The callback for a watch's events, one call after another. It must not wait for the store.
 pub type Watcher = Box<dyn FnMut(Seen) + Send>;
 
 /// A watch that goes on until it is dropped.
@@ -33,8 +33,8 @@ pub struct Watch {
 }
 
 impl Watch {
-    /// Returns a watch that runs this, once, when it is dropped: for [`Store::watch`](crate::Store::watch) of a store
-    /// of your own.
+    /// Makes a watch that calls this, once, when it is dropped: for [`Store::watch`](crate::Store::watch) of your own
+    /// store.
     ///
     /// ```
     /// use durkenzo_store::Watch;

@@ -1,4 +1,5 @@
-//! What a watch on etcd tells of what was compacted while it was away. Nothing is tried if etcd isn't installed.
+//! How a watch on etcd tells changes that were compacted while it was away. If etcd isn't installed, the tests do
+//! nothing.
 mod beside;
 
 use beside::relay::Relay;
@@ -6,7 +7,7 @@ use beside::{Member, PATIENCE};
 use durkenzo_store::{Access, Etcd, Outcome, Revision, Seen, Store, Transaction};
 use std::sync::mpsc::{self, Receiver};
 
-/// How many keys are watched, of which one is deleted while the watch is away.
+/// How many keys are watched. One is deleted while the watch is away.
 const KEYS: usize = 4;
 
 fn made(store: &Etcd, transaction: Transaction) -> Revision {
@@ -16,7 +17,7 @@ fn made(store: &Etcd, transaction: Transaction) -> Revision {
     }
 }
 
-/// What is told last of which keys there are, once this one is.
+/// Returns the keys in the last event, once this key is among them.
 fn keys_with(told: &Receiver<Seen>, last: &[u8]) -> Vec<Vec<u8>> {
     let mut keys: Vec<Vec<u8>> = Vec::new();
     while !keys.iter().any(|it| it == last) {
@@ -44,7 +45,7 @@ fn told_after(later: usize) -> Option<Vec<Vec<u8>>> {
     let followed = Etcd::new(Access::new([relay.endpoint.as_str()])).expect("an address");
     let watcher = Box::new(move |seen| drop(tell.send(seen)));
     let _watch = followed.watch(b"key/", watcher).expect("a watch");
-    // The watch follows once it tells a change.
+    // The watch is following once it tells a change.
     made(&store, Transaction::new().put("key/5", ""));
     keys_with(&told, b"key/5");
     relay.cut();
@@ -58,7 +59,7 @@ fn told_after(later: usize) -> Option<Vec<Vec<u8>>> {
     Some(keys_with(&told, b"key/6"))
 }
 
-/// Also if the deletion is the compaction's own revision, of which etcd keeps no deletions.
+/// This also holds if the deletion is the compaction's own revision, at which etcd keeps no deletions.
 #[test]
 fn tells_what_was_deleted_up_to_a_compaction() {
     for later in [0, 1] {

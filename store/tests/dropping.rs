@@ -1,4 +1,4 @@
-//! What a store tells may let go of the store last, and a watch goes on without the store.
+//! A store's callback may be its last owner, and a watch goes on without the store.
 mod beside;
 
 use beside::Member;
@@ -9,14 +9,14 @@ use std::time::Duration;
 
 const PATIENCE: Duration = Duration::from_secs(60);
 
-/// Whether the store's thread goes on once what it tells has let go of the store, which nobody else has then.
+/// Returns whether the store's thread goes on once a callback has dropped the store, which has no other owner then.
 fn is_let_go(store: impl Store + 'static) -> bool {
     let store: Arc<dyn Store> = Arc::new(store);
     let (release, released) = mpsc::channel::<()>();
     let (tell, told) = mpsc::channel();
     let last = store.clone();
     let done = move |_| {
-        // It comes to its end where the other one is dropped.
+        // It ends when the other one is dropped.
         let _ = released.recv();
         drop(last);
         let _ = tell.send(());

@@ -1,5 +1,5 @@
-//! What a folder has when each change of its files fails in turn: each write, sync and new length. Nothing is tried if
-//! no C compiler is installed.
+//! The content of a folder if each change of its files fails in turn: each write, sync and new length. If no C compiler
+//! is installed, the tests do nothing.
 mod beside;
 
 use beside::Folder;
@@ -12,12 +12,12 @@ use std::process::Command;
 /// How many transactions are made, and how many bytes each writes.
 const TRANSACTIONS: usize = 12;
 const LENGTH: usize = 6_000;
-/// As many changes fail one after another if the disk doesn't recover at once.
+/// So many changes fail one after another, if the disk doesn't recover at once.
 const SOME: u64 = 7;
-/// Error numbers of Linux: of a device, and of a disk without room.
+/// Linux's error numbers: of a device, and of a disk without room.
 const EIO: u32 = 5;
 const ENOSPC: u32 = 28;
-/// How many points are passed over, if DURKENZO_FAULTS isn't set, by which each is tried.
+/// How many points are skipped, unless DURKENZO_FAULTS is set: then each is tried.
 const STRIDE: usize = 3;
 
 /// How changes fail.
@@ -28,7 +28,7 @@ struct Failing {
     is_torn: bool,
 }
 
-/// The library that makes changes fail.
+/// Returns the library that makes changes fail.
 fn shim(folder: &Folder) -> Option<PathBuf> {
     let source = concat!(env!("CARGO_MANIFEST_DIR"), "/tests/failing_files.c");
     let library = folder.path().join("failing_files.so");
@@ -47,7 +47,8 @@ fn shim(folder: &Folder) -> Option<PathBuf> {
     Some(library)
 }
 
-/// The process whose files fail. It tells what became of each transaction, which writes two keys and deletes an older one.
+/// The process whose files fail. It tells the outcome of each transaction, which writes two keys and deletes an older
+/// one.
 #[test]
 #[ignore = "run by the test below"]
 fn writes_though_changes_fail() {
@@ -93,7 +94,8 @@ fn told(made: Result<Outcome, WriteError>) -> &'static str {
     }
 }
 
-/// What a process told of its transactions whose changes fail from this one on, and how many changes it tried.
+/// Runs a process whose changes fail from this one on. Returns the outcomes that it told, and how many changes it
+/// tried.
 fn told_by(
     folder: &Folder,
     shim: &Path,
@@ -130,7 +132,7 @@ fn told_by(
     (told, changes)
 }
 
-/// What lies in the folder is what was told: all of a transaction, or nothing of it.
+/// Checks that the folder has exactly the transactions that were told as made: all of a transaction, or nothing of it.
 fn check(folder: &Folder, told: &BTreeMap<usize, String>, at: u64) {
     let store = folder.open();
     let there = |key: String| {
@@ -157,7 +159,7 @@ fn check(folder: &Folder, told: &BTreeMap<usize, String>, at: u64) {
     store.make(put).expect("it goes on once nothing fails");
 }
 
-/// Has each change fail in turn, and returns how many do, and how many of the runs told that all was made.
+/// Makes each change fail in turn. Returns how many changes there are, and how many runs told that everything was made.
 fn each_fails(shim: &Path, failing: &Failing, stride: usize) -> (usize, usize) {
     let never = u64::MAX - failing.count;
     let (told, changes) = told_by(&Folder::new(), shim, never, failing);
@@ -198,7 +200,7 @@ fn keeps_what_was_told_though_any_change_of_its_files_fails() {
         };
         let (runs, unharmed) = each_fails(&shim, &failing, stride);
         println!("error {error}, {count} at once: {runs} runs, {unharmed} in which all was made");
-        // Most changes fill what is kept back, which may be less.
+        // Most changes fill the reserve, which may be smaller.
         assert!(unharmed + 3 < runs, "{unharmed} of {runs}");
     }
 }

@@ -1,4 +1,4 @@
-//! What a folder has, after a process was killed too, and what it refuses.
+//! The content of a folder, also after a process was killed, and the folders that are refused.
 mod beside;
 
 use beside::{Chance, Folder};
@@ -13,7 +13,7 @@ use std::process::{Command, Stdio};
 use std::thread;
 use std::time::Duration;
 
-/// How often a process is killed, where nothing else is said.
+/// How often a process is killed by default.
 const KILLED: u64 = 20;
 
 fn file(folder: &Folder) -> std::path::PathBuf {
@@ -132,7 +132,7 @@ fn refuses_a_torn_file() {
     assert!(matches!(opened, Err(OpenError::Damaged(..))), "{opened:?}");
 }
 
-/// A file of the first version has what it had, and gets checksums with what is written.
+/// A file of the first version keeps its keys, and gets checksums with new writes.
 #[test]
 fn reads_the_version_without_checksums() {
     let folder = Folder::new();
@@ -162,6 +162,21 @@ fn reads_the_version_without_checksums() {
         .map(|it| (&it.value[..], it.revision.0));
     assert_eq!(told.collect::<Vec<_>>(), [(&b"1"[..], 3), (b"3", 6)]);
     assert_eq!(reading.revision.0, 6);
+}
+
+/// The writes of a killed process may be in memory only. Once they are read, they are in the tables, which are synced.
+#[test]
+fn what_a_killed_process_wrote_is_on_the_disk_before_it_is_read() {
+    let (folder, copy) = (Folder::new(), Folder::new());
+    let store = folder.open();
+    store.make(Transaction::new().put("a", "1")).expect("made");
+    let log = |it: &Folder| it.path().join("durkenzo.sqlite-wal");
+    fs::copy(file(&folder), file(&copy)).expect("a copy");
+    let length = fs::copy(log(&folder), log(&copy)).expect("a copy");
+    assert!(length > 0, "the first store has it in the log");
+    let store = copy.open();
+    assert_eq!(fs::metadata(log(&copy)).expect("a log").len(), 0);
+    assert_eq!(store.read(&[b"a"]).expect("a reading").pairs.len(), 1);
 }
 
 /// A file of the version whose rows don't say when their keys were created.
@@ -196,7 +211,7 @@ fn dates_the_keys_of_an_earlier_version() {
     assert_eq!(created(), [10, 7]);
 }
 
-/// One bit of the file is another one: then it isn't opened, or what is read is right or refused.
+/// If one bit of the file is flipped, it isn't opened, or each reading is right or refused.
 #[test]
 fn gives_no_bytes_that_were_changed() {
     let folder = Folder::new();
@@ -236,7 +251,7 @@ fn gives_no_bytes_that_were_changed() {
     assert!(damaged > 50 && closed > 0, "{damaged} and {closed}");
 }
 
-/// A row that was changed is refused in each way to read it, and all others can be read and written.
+/// Each way to read a changed row is refused, and all other rows can be read and written.
 #[test]
 fn refuses_only_what_was_changed() {
     let folder = Folder::new();
@@ -268,7 +283,7 @@ fn refuses_only_what_was_changed() {
     assert_eq!(store.read_all(b"a/").expect("a reading").pairs.len(), 2);
 }
 
-/// Has a file system of so many megabytes, where one may be mounted.
+/// Mounts a file system of so many megabytes, if that is possible.
 fn on_a_disk_of(megabytes: u64, body: impl FnOnce(&Path) + std::panic::UnwindSafe) {
     let folder = Folder::new();
     let mount = Command::new("mount")
@@ -284,7 +299,7 @@ fn on_a_disk_of(megabytes: u64, body: impl FnOnce(&Path) + std::panic::UnwindSaf
     ended.expect("the disk was full as it should be");
 }
 
-/// Writes until the disk is full, and says how many keys that are.
+/// Writes until the disk is full, and returns how many keys were written.
 fn fill(store: &Embedded) -> usize {
     let refused = (0..1_000).find_map(|at| {
         let outcome = store.make(Transaction::new().put(format!("key/{at}"), vec![7; 50_000]));
@@ -302,7 +317,7 @@ fn reads_go_on_where_the_disk_is_full() {
     on_a_disk_of(1, reads_go_on);
 }
 
-/// Deletions are made on a full disk, and what may take what is kept back: then there is room again.
+/// On a full disk, deletions and other writes that may use the reserve are made. Then there is room again.
 #[test]
 fn a_full_disk_has_room_for_deletions() {
     for megabytes in [1, 6] {
@@ -313,7 +328,7 @@ fn a_full_disk_has_room_for_deletions() {
 fn deletions_go_on(folder: &Path) {
     let store = Embedded::in_folder(folder, Sync::Always).expect("a folder of our own");
     let count = fill(&store);
-    // As much as is asked for again and again.
+    // As many as are asked for are made, again and again.
     for it in 0..200 {
         let small = Transaction::new().put("number", it.to_string());
         store
@@ -323,7 +338,7 @@ fn deletions_go_on(folder: &Path) {
         let refused = store.make(large);
         assert!(matches!(refused, Err(WriteError::Full(_))), "{refused:?}");
     }
-    // What may take it can't use it up.
+    // Writes that may use the reserve can't use it up.
     let taken = (0..1_000).find(|it| {
         let large = Transaction::new().put(format!("more/{it}"), vec![7; 50_000]);
         store.make(large.with_kept_room()).is_err()
@@ -358,7 +373,7 @@ fn reads_go_on(folder: &Path) {
     assert_eq!(store.read_all(b"key/").expect("a reading").pairs.len(), at);
 }
 
-/// The process that is killed: four threads raise a counter each, and tell what was made.
+/// The process that is killed: four threads increment a counter each, and tell the outcomes.
 #[test]
 #[ignore = "run by the test below"]
 fn writes_until_it_is_killed() {
@@ -394,7 +409,8 @@ fn number(value: &[u8]) -> u64 {
     String::from_utf8_lossy(value).parse().expect("a number")
 }
 
-/// DURKENZO_KILLS says how often, where not as often as here. The system writes what a killed process left to it.
+/// DURKENZO_KILLS says how often, if not as often as here. The system still writes the bytes that a killed process left
+/// to it.
 #[test]
 fn loses_nothing_that_was_told_as_made() {
     let times = env::var("DURKENZO_KILLS")
@@ -429,7 +445,7 @@ fn loses_nothing_that_was_told_as_made() {
     }
 }
 
-/// What each thread of a process told last before it was killed.
+/// Returns the last outcome that each thread of a process told before it was killed.
 fn told_before_killed(folder: &Folder, sync: &str, lives: Duration) -> [u64; 4] {
     let mut process = Command::new(env::current_exe().expect("this test"))
         .args([

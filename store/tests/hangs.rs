@@ -1,5 +1,5 @@
-//! What becomes of watches and leases on etcd whose member hangs with its connections open. Nothing is tried where etcd
-//! isn't installed.
+//! How watches and leases on etcd go on if a member hangs with its connections open. If etcd isn't installed, the tests
+//! do nothing.
 mod beside;
 
 use beside::relay::Relay;
@@ -12,22 +12,22 @@ use std::sync::mpsc::{self, Receiver};
 use std::thread;
 use std::time::{Duration, Instant};
 
-/// How soon a change has to be told though a member hangs, on a machine that may be busy.
+/// How soon a change must be told although a member hangs, on a machine that may be busy.
 const SOON: Duration = Duration::from_secs(60);
-/// How long a member may take where another one hangs.
+/// How long a member may take while another one hangs.
 const SHORT: Duration = Duration::from_secs(2);
-/// How long a lease goes on that nobody keeps: longer than a machine that is busy stops a process, and a store takes to
+/// The length of a lease that nobody keeps. It is longer than a busy machine stops a process, and than a store takes to
 /// find a member that keeps it.
 const LEASE: Duration = Duration::from_secs(15);
-/// How long a member takes that is slow: longer than one is asked alone.
+/// How long a slow member takes. It is longer than the time for which one is asked alone.
 const SLOW: Duration = Duration::from_secs(4);
-/// How long one takes that hangs: longer than any test.
+/// How long a hanging member takes. It is longer than any test.
 const FOREVER: Duration = Duration::from_secs(600);
-/// For how long a watch is silent.
+/// How long a watch is silent.
 const SILENCE: Duration = Duration::from_secs(6);
 /// How many watches a process has.
 const WATCHES: usize = 4;
-/// How often a member may be left as a busy machine has it answer late.
+/// How often a member may be given up because a busy machine makes it answer late.
 const TRIES: usize = 5;
 
 fn on(endpoints: &[&str], patience: Duration) -> Etcd {
@@ -47,7 +47,7 @@ fn watch(store: &Etcd) -> (Watch, Receiver<Seen>) {
     (watch, told)
 }
 
-/// Writes through these members until it is known to be made, as they may have none that leads.
+/// Writes through these members until the write is known to be made, because they may have no leader.
 fn write(members: &[&Member]) -> Revision {
     let endpoints: Vec<_> = members.iter().map(|it| it.endpoint.as_str()).collect();
     let (store, end) = (on(&endpoints, SHORT), Instant::now() + PATIENCE);
@@ -59,7 +59,7 @@ fn write(members: &[&Member]) -> Revision {
     }
 }
 
-/// Hears on until this revision is told, as the change after those told before, and each once.
+/// Receives events until this revision is told. It must come after the earlier ones, and each only once.
 fn hear(told: &Receiver<Seen>, last: &mut Revision, revision: Revision) {
     let end = Instant::now() + SOON;
     while *last < revision {
@@ -93,7 +93,7 @@ fn watches_on_though_a_member_hangs() {
     hear(&told, &mut last, write(&[first]));
 }
 
-/// Less than a lease's length goes by until another member keeps it.
+/// Less than a lease's length passes until another member keeps it.
 #[test]
 fn keeps_a_lease_though_a_member_hangs() {
     let Some(members) = Member::start_cluster(3) else {
@@ -112,10 +112,10 @@ fn keeps_a_lease_though_a_member_hangs() {
     store.keep(lease).expect("another one keeps it");
 }
 
-/// How long a relay holds what a caller sends, by how many came before.
+/// How long a relay holds back a caller's bytes, by how many came before.
 type Delay = fn(usize) -> Duration;
 
-/// Whether a lease is kept by a member that relays with these delays are before.
+/// Returns whether a lease is kept through members behind relays with these delays.
 fn is_kept_by(delays: [Delay; 3], patience: Duration) -> Option<bool> {
     let member = Member::start(&[])?;
     let lease = member.store().grant(FOREVER).expect("a lease");
@@ -127,7 +127,7 @@ fn is_kept_by(delays: [Delay; 3], patience: Duration) -> Option<bool> {
     Some(is_kept)
 }
 
-/// A member that was asked early waits for the leader that hangs, though it has another one by now.
+/// A member that was asked early waits for the leader that hangs, although it has another leader by now.
 #[test]
 fn keeps_a_lease_by_a_member_that_hung_when_it_was_asked_first() {
     let at_first: Delay = |before| if before == 0 { FOREVER } else { Duration::ZERO };
@@ -135,7 +135,7 @@ fn keeps_a_lease_by_a_member_that_hung_when_it_was_asked_first() {
     assert_ne!(is_kept, Some(false));
 }
 
-/// A call that is slow goes on while others are asked.
+/// A slow call goes on while others are asked.
 #[test]
 fn keeps_a_lease_by_a_member_that_is_slow_where_others_hang() {
     let slow: Delay = |before| if before == 0 { SLOW } else { FOREVER };
@@ -149,7 +149,7 @@ fn keeps_no_lease_where_all_members_hang() {
     assert_ne!(is_kept, Some(true));
 }
 
-/// Whoever is told what became of a transaction may hold up what others are told, and no lease.
+/// A slow callback for a transaction's outcome may delay other callbacks, but no lease.
 #[test]
 fn keeps_a_lease_though_somebody_who_is_told_hangs() {
     let Some(member) = Member::start(&[]) else {
@@ -178,7 +178,7 @@ fn passes_over_a_member_that_begins_no_watch() {
     let Some(mut member) = Member::start(&[]) else {
         return;
     };
-    // Its system takes callers, and nobody hears them.
+    // Its system accepts callers, and nobody answers them.
     let listener = TcpListener::bind(("127.0.0.1", 0)).expect("a port");
     let hangs = format!("http://{}", listener.local_addr().expect("its address"));
     let store = on(&[&member.endpoint, &hangs], PATIENCE);
@@ -187,8 +187,8 @@ fn passes_over_a_member_that_begins_no_watch() {
     hear(&told, &mut { Revision::NEVER }, write(&[&member]));
 }
 
-/// How often a silent member is asked while watches follow it on, how often it may be for one of them, and how many
-/// watches were begun.
+/// Returns how often a silent member is asked while watches follow it, how often it may be asked for one of them, and
+/// how many watches were begun.
 fn asked_of_silent(member: &Member) -> (u64, u64, usize) {
     let relay = Relay::before(&member.endpoint);
     let store = on(&[&relay.endpoint], PATIENCE);
@@ -218,7 +218,8 @@ fn leaves_no_silent_member_that_is_well() {
     assert!(tries.len() < TRIES, "asked, at most, watches: {tries:?}");
 }
 
-/// A member answers what only compares by what it has itself, unless it is made to ask: others may have been told more.
+/// A member answers a transaction that only compares from its own data, unless it is made to ask. Others may have been
+/// told more.
 #[test]
 fn compares_by_what_most_members_have() {
     let Some(members) = Member::start_cluster(3) else {

@@ -1,4 +1,4 @@
-//! What a store on etcd says where members don't answer, or refuse. Nothing is tried where etcd isn't installed.
+//! The results of a store in etcd if members don't answer, or refuse. If etcd isn't installed, the tests do nothing.
 mod beside;
 
 use beside::{free_port, Folder, Member, PATIENCE};
@@ -16,9 +16,9 @@ use std::time::{Duration, Instant};
 
 const ASIDE: Duration = Duration::from_secs(60);
 const SHORT: Duration = Duration::from_secs(2);
-/// How many write in parallel.
+/// How many write at the same time.
 const WRITERS: usize = 64;
-/// For how long they begin anew, where none of them is told wrongly.
+/// How long they begin again as long as none of them is told wrongly.
 const ENOUGH: Duration = Duration::from_secs(120);
 
 fn on(endpoints: &[&str], patience: Duration) -> Etcd {
@@ -68,7 +68,7 @@ fn says_that_no_member_got_it() {
     ));
 }
 
-/// A member that takes a call and falls silent, or hangs up: it may have made it.
+/// A member takes a call and falls silent, or hangs up, so it may have made it.
 #[test]
 fn says_that_an_outcome_is_not_known() {
     for hangs_up in [true, false] {
@@ -103,13 +103,13 @@ fn passes_over_members_that_are_not_there() {
     assert_eq!(store.read(&[b"a"]).expect("a reading").pairs.len(), 1);
 }
 
-/// What a learner answers, and in place of a stream a member that reaches none that leads.
+/// The answers of a learner, and of a member without a leader in place of a stream.
 const FOR_ITSELF: [&str; 2] = [
     r#"{"error":"no","message":"etcdserver: rpc not supported for learner","code":14}"#,
     r#"{"error":{"grpc_code":14,"http_code":503,"message":"etcdserver: no leader"}}"#,
 ];
 
-/// A member that answers each call so.
+/// Returns a member that answers each call with this.
 fn refuser(told: &'static str) -> String {
     let listener = TcpListener::bind(("127.0.0.1", 0)).expect("a port");
     let endpoint = format!("http://{}", listener.local_addr().expect("its address"));
@@ -141,12 +141,12 @@ fn passes_over_members_that_refuse_for_themselves() {
         beside().read(&[b"a"]).expect("another one is read");
         let lease = beside().grant(ASIDE).expect("another one grants it");
         beside().keep(lease).expect("another one keeps it");
-        // It may have made what it refuses so.
+        // It may have made the call that it refuses with this.
         let (store, put) = (beside(), || Transaction::new().put("a", "1"));
         let made = store.make(put());
         assert!(matches!(made, Err(WriteError::Unknown(_))), "{made:?}");
         store.make(put()).expect("another one makes it");
-        // No lease has ended for that.
+        // No lease has ended because of that.
         let kept = on(&[&refuser(told)], PATIENCE).keep(lease);
         assert!(matches!(kept, Err(LeaseError::Unavailable(_))), "{kept:?}");
     }
@@ -166,7 +166,7 @@ fn says_that_the_quota_is_reached() {
         made.err().map(|it| (it, lies))
     };
     let refused: Vec<_> = (0..100).filter_map(put).take(3).collect();
-    // What takes the last of the room may be made, though a member says that there is none.
+    // A transaction that takes the last room may be made, although a member says that there is none.
     let is_right = |it: &(WriteError, bool)| match it {
         (WriteError::Full(_), lies) => !lies,
         (error, _) => matches!(error, WriteError::Unknown(_)),
@@ -175,7 +175,7 @@ fn says_that_the_quota_is_reached() {
     let is_full = |it: &(WriteError, bool)| matches!(it.0, WriteError::Full(_));
     assert!(refused.iter().any(is_full), "{refused:?}");
     assert_eq!(store.read(&[b"0"]).expect("reads go on").pairs.len(), 1);
-    // What is deleted makes room once it is let go.
+    // Deleted keys make room once they are compacted.
     let delete = |it, at: usize| Transaction::delete(it, format!("{at}"));
     let deleted = store.make((1..100).fold(Transaction::new(), delete));
     assert!(matches!(deleted, Ok(Outcome::Made(_))), "{deleted:?}");
@@ -185,7 +185,8 @@ fn says_that_the_quota_is_reached() {
     store.compact().expect("again");
 }
 
-/// Has writers fill the store in parallel, each until it is refused: by what, and which key it was to write.
+/// Makes writers fill the store at the same time, each until it is refused. Returns the refusals and the keys that they
+/// were to write.
 fn fill(store: &Etcd, round: usize) -> Vec<(Vec<u8>, WriteError)> {
     let write = |writer: usize| {
         let refused = |at: usize| {
@@ -205,7 +206,7 @@ fn fill(store: &Etcd, round: usize) -> Vec<(Vec<u8>, WriteError)> {
     })
 }
 
-/// Deletes what those wrote, and has it give the room back.
+/// Deletes the keys that those wrote, and has it return the room.
 fn empty(store: &Etcd) {
     let all = store.read_all(b"a/").expect("reads go on").pairs;
     for some in all.chunks(100) {
@@ -216,8 +217,8 @@ fn empty(store: &Etcd) {
     store.compact().expect("it makes room");
 }
 
-/// Of what is under way while the last room is taken a member makes some, and answers of it too that there is no space:
-/// that isn't told as if it weren't made.
+/// Among the transactions under way while the last room is taken, a member makes some, and still answers that there is
+/// no space. These aren't told as not made.
 #[test]
 fn says_nothing_of_what_takes_the_last_room() {
     let Some(member) = Member::start(&["--quota-backend-bytes", "4000000"]) else {
@@ -255,7 +256,7 @@ fn says_that_it_is_too_large() {
     assert!(matches!(made, Err(WriteError::TooLarge(_))), "{made:?}");
 }
 
-/// A member that is killed and begins again, and then one whose past is forgotten meanwhile.
+/// A member is killed and starts again, and then one whose past is compacted meanwhile.
 #[test]
 fn watches_on_after_a_member_was_away() {
     let Some(mut member) = Member::start(&[]) else {
@@ -331,7 +332,7 @@ fn gives_its_name_and_password() {
     }
 }
 
-/// Makes an authority of our own in this folder, and by it certificates of localhost and of a client.
+/// Makes our own authority in this folder, and certificates from it for localhost and for a client.
 fn vouch(folder: &Path) -> bool {
     let script = "
         openssl req -x509 -newkey rsa:2048 -nodes -days 2 -subj /CN=authority -keyout ca.key -out ca.pem
@@ -347,7 +348,7 @@ fn vouch(folder: &Path) -> bool {
         .is_ok_and(|it| it.status.success())
 }
 
-/// Sees that something is written within some time.
+/// Checks that something is written within some time.
 fn writes(store: &Etcd) {
     let end = Instant::now() + ASIDE;
     while let Err(error) = store.make(Transaction::new().put("a", "1")) {
@@ -356,7 +357,7 @@ fn writes(store: &Etcd) {
     }
 }
 
-/// A member is whom its certificate says, by a name or by an address.
+/// A member is identified by its certificate, by a name or by an address.
 #[test]
 fn knows_a_member_by_its_address() {
     let folder = Folder::new();

@@ -1,4 +1,4 @@
-//! Each store does what the simplest one would do.
+//! Each store behaves like the simplest one.
 mod beside;
 
 use beside::{over_each, Chance};
@@ -12,7 +12,7 @@ use std::sync::Arc;
 use std::thread;
 use std::time::{Duration, Instant};
 
-/// What a store should hold: the simplest one that there is.
+/// The expected content of a store, in the simplest store possible.
 #[derive(Default)]
 struct Simplest(BTreeMap<Vec<u8>, Pair>);
 
@@ -56,7 +56,7 @@ fn key(number: u64) -> Vec<u8> {
     format!("key/{number}").into_bytes()
 }
 
-/// A transaction over few keys: half of its compares hold.
+/// Returns a transaction over few keys, half of whose compares hold.
 fn by_chance(chance: &mut Chance, simplest: &Simplest) -> Transaction {
     let mut found = Transaction::new();
     for _ in 0..chance.below(3) {
@@ -219,13 +219,13 @@ fn tells_a_watch_all_changes_in_order() {
     });
 }
 
-/// How long a lease is that is kept for longer than that.
+/// The length of a lease that is kept for longer than that.
 const LEASE: Duration = Duration::from_secs(5);
-/// How long one is that nobody keeps, and that doesn't end in a test.
+/// The length of a lease that nobody keeps, and that doesn't end in a test.
 const LONG: Duration = Duration::from_secs(600);
 
-/// A lease that was kept for longer than it is, with a key under it: none where that wasn't kept for its length, as a
-/// machine that is busy stopped who keeps it.
+/// Returns a lease that was kept for longer than its length, with a key under it. Returns nothing if it wasn't kept in
+/// time, because a busy machine stopped its keeper.
 fn kept_lease(store: &dyn Store) -> Option<LeaseId> {
     let mut kept = Instant::now();
     let lease = store.grant(LEASE).expect("a lease");
@@ -281,7 +281,7 @@ fn until(is_so: impl Fn() -> bool) {
     }
 }
 
-/// Threads that raise counters by transactions that compare them.
+/// Threads increment counters with transactions that compare them.
 #[test]
 fn loses_no_rise_of_a_counter() {
     let raise = |store: &dyn Store, key: &[u8]| loop {

@@ -1,22 +1,23 @@
 use crate::{Pair, Revision};
 use crc32fast::Hasher;
 
-/// What the bytes of a row come to, by which changed ones are told: CRC-32 over its revision, its key and its value.
+/// The checksum of a row's bytes, which detects changes: CRC-32 over its revision, its key and its value.
 #[derive(Clone, Copy, Debug, PartialEq, Eq)]
 pub(super) struct RowChecksum(u32);
 
 impl RowChecksum {
-    /// That of this pair.
+    /// Returns the checksum of this pair.
     pub(super) fn of(pair: &Pair) -> RowChecksum {
         RowChecksum::of_row(&pair.key, &pair.value, pair.revision)
     }
 
-    /// That of when this pair's key was created, which stays while the key is written over.
+    /// Returns the checksum of the revision at which this pair's key was created. It stays while the key is
+    /// overwritten.
     pub(super) fn of_creation(pair: &Pair) -> RowChecksum {
         RowChecksum::of_row(&pair.key, &[], pair.created)
     }
 
-    /// That of the moment's row, which has neither key nor value.
+    /// Returns the checksum of the moment's row, which has neither key nor value.
     pub(super) fn of_moment(moment: Revision) -> RowChecksum {
         RowChecksum::of_row(&[], &[], moment)
     }
@@ -24,14 +25,14 @@ impl RowChecksum {
     fn of_row(key: &[u8], value: &[u8], revision: Revision) -> RowChecksum {
         let mut sum = Hasher::new();
         sum.update(&revision.0.to_be_bytes());
-        // Where the key ends is part of it.
+        // The key's length is part of it.
         sum.update(&key.len().to_be_bytes());
         sum.update(key);
         sum.update(value);
         RowChecksum(sum.finalize())
     }
 
-    /// As SQLite has it.
+    /// Returns the number that SQLite stores.
     pub(super) fn number(self) -> i64 {
         i64::from(self.0)
     }

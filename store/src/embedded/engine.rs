@@ -1,4 +1,5 @@
 use super::job::{Completion, Job};
+use super::job_queue::Batch;
 use super::leases::Leases;
 use super::tables::{Means, TableFailure, Tables};
 use super::watchers::Watchers;
@@ -6,38 +7,29 @@ use crate::{
     CompactError, KeyChange, Outcome, Pair, ReadError, Reading, Revision, Room, Transaction,
     WriteError,
 };
-use std::sync::mpsc::{Receiver, RecvTimeoutError};
 use std::time::{Duration, Instant};
 
-/// How many jobs are taken at once, at most.
-const MOST_JOBS: usize = 1_024;
-
-/// How many bytes they write before no more are taken.
-const MOST_BYTES: usize = 1 << 20;
-
-/// How often the tables may do what they do from time to time.
+/// How often the tables do their periodic work.
 const TICK: Duration = Duration::from_secs(1);
 
-/// The thread of an embedded store: it takes all jobs that wait, makes their transactions by one commit, and answers.
+/// The clock of an engine.
+pub(super) type Clock = Box<dyn Fn() -> Instant + Send>;
+
+/// Does the jobs of an embedded store. It makes the transactions of a batch in one commit (a group commit), and
+/// answers.
 pub(super) struct Engine<T> {
     tables: T,
-    jobs: Receiver<Job>,
+    clock: Clock,
     leases: Leases,
     watchers: Watchers,
     next_tick: Instant,
 }
 
-/// What was taken at once.
-struct Batch {
-    jobs: Vec<Job>,
-    is_last: bool,
-}
-
 /// Why transactions have no outcome.
 enum Trouble {
-    /// The disk is full: none was made.
+    /// The disk is full, so none was made.
     Full(String),
-    /// What was to be read isn't what was written there: none was made.
+    /// The bytes that were read aren't those that were written, so none was made.
     Damaged(String),
     /// None was made, and the tables can't be used any more.
     NotMade(String),
@@ -46,7 +38,7 @@ enum Trouble {
 }
 
 impl From<TableFailure> for Trouble {
-    /// Of a failure before the commit.
+    /// Makes the trouble of a failure before the commit.
     fn from(failure: TableFailure) -> Trouble {
         match failure {
             TableFailure::Full(reason) => Trouble::Full(reason),
@@ -57,63 +49,34 @@ impl From<TableFailure> for Trouble {
 }
 
 impl<T: Tables> Engine<T> {
-    pub(super) fn new(tables: T, jobs: Receiver<Job>) -> Engine<T> {
-        let next_tick = Instant::now() + TICK;
+    pub(super) fn new(tables: T, clock: Clock) -> Engine<T> {
+        let next_tick = clock() + TICK;
         Engine {
             tables,
-            jobs,
+            clock,
             leases: Leases::default(),
             watchers: Watchers::default(),
             next_tick,
         }
     }
 
-    /// Serves until it is told to end, or the tables can't be used any more. Who still waits is told that it ended.
-    pub(super) fn run(mut self) {
-        loop {
-            let batch = self.next_batch();
-            if !self.serve(batch.jobs) || batch.is_last || !self.tick() {
-                return;
-            }
-        }
+    /// Returns when something must be done even if no job comes.
+    pub(super) fn next_end(&self) -> Instant {
+        let end = self.leases.next_end();
+        end.map_or(self.next_tick, |it| it.min(self.next_tick))
     }
 
-    /// Waits for a job, or for the end of a lease, and takes all that is there.
-    fn next_batch(&mut self) -> Batch {
-        let end = self
-            .leases
-            .next_end()
-            .map_or(self.next_tick, |it| it.min(self.next_tick));
-        let first = match self
-            .jobs
-            .recv_timeout(end.saturating_duration_since(Instant::now()))
-        {
-            Ok(job) => job,
-            Err(why) => {
-                let is_last = why == RecvTimeoutError::Disconnected;
-                let jobs = Vec::new();
-                return Batch { jobs, is_last };
-            }
-        };
-        let mut jobs = Vec::new();
-        let waiting = std::iter::once(first).chain(self.jobs.try_iter());
-        let mut bytes = 0;
-        for job in waiting.take(MOST_JOBS) {
-            if matches!(job, Job::End) {
-                let is_last = true;
-                return Batch { jobs, is_last };
-            }
-            bytes += job.bytes();
-            jobs.push(job);
-            if bytes >= MOST_BYTES {
-                break;
-            }
+    /// Does a batch, and returns whether to go on: not if it was the last, or the tables can't be used any more.
+    pub(super) fn turn(&mut self, batch: Batch) -> bool {
+        let is_served = self.serve(batch.jobs) && self.tables.is_usable();
+        let is_usable = is_served && (batch.is_last || self.tick());
+        if !is_usable {
+            self.tables.give_up();
         }
-        let is_last = false;
-        Batch { jobs, is_last }
+        is_usable && !batch.is_last
     }
 
-    /// Serves what was taken, and says whether the tables can be used further.
+    /// Does these jobs, and returns whether the tables can still be used.
     fn serve(&mut self, jobs: Vec<Job>) -> bool {
         let (mut transactions, mut tickets, mut others) = (Vec::new(), Vec::new(), Vec::new());
         for job in jobs {
@@ -133,9 +96,9 @@ impl<T: Tables> Engine<T> {
         goes_on
     }
 
-    /// Deletes the keys of leases that ended; where the disk is full, the next time.
+    /// Deletes the keys of leases that ended. If the disk is full, the next call does it.
     fn end_leases(&mut self) -> bool {
-        let deletes = self.leases.ended(Instant::now());
+        let deletes = self.leases.ended((self.clock)());
         !deletes.writes()
             || !matches!(
                 self.make(&[deletes]),
@@ -143,7 +106,8 @@ impl<T: Tables> Engine<T> {
             )
     }
 
-    /// Makes these transactions and tells what became of them; where not all can be made, of each by itself.
+    /// Makes these transactions and tells their outcomes. If not all of them can be made together, makes each by
+    /// itself.
     fn make_and_tell(&mut self, transactions: &[Transaction], tickets: Vec<Completion>) -> bool {
         match self.make(transactions) {
             Ok(outcomes) => tickets
@@ -172,7 +136,7 @@ impl<T: Tables> Engine<T> {
         true
     }
 
-    /// Makes these transactions by one commit; if the disk has no room for one that is alone, makes it some.
+    /// Makes these transactions in one commit. If there is only one and the disk has no room for it, makes room.
     fn make(
         &mut self,
         transactions: &[Transaction],
@@ -194,7 +158,7 @@ impl<T: Tables> Engine<T> {
         made
     }
 
-    /// Makes these transactions, one after another, by one commit, and tells those who watch.
+    /// Makes these transactions, one after another, in one commit, and tells the watchers.
     fn make_at_once(
         &mut self,
         transactions: &[Transaction],
@@ -223,7 +187,7 @@ impl<T: Tables> Engine<T> {
         Ok(outcomes)
     }
 
-    /// What becomes of each, in their order; not yet committed.
+    /// Returns the outcome of each, in their order. They aren't committed yet.
     fn make_each(
         &mut self,
         transactions: &[Transaction],
@@ -265,7 +229,7 @@ impl<T: Tables> Engine<T> {
         Ok(Ok(Outcome::Made(if is_written { next } else { moment })))
     }
 
-    /// Writes what the transaction writes, and tells each change.
+    /// Makes the writes of the transaction, and notes each change.
     fn write(
         &mut self,
         transaction: &Transaction,
@@ -300,7 +264,7 @@ impl<T: Tables> Engine<T> {
         Ok(())
     }
 
-    /// Commits, and says what a failure means for what was to be made.
+    /// Commits. If that fails, returns its meaning for the transactions.
     fn commit(&mut self, moment: Revision) -> Result<(), Trouble> {
         match self.tables.commit(moment) {
             Ok(()) => Ok(()),
@@ -311,7 +275,7 @@ impl<T: Tables> Engine<T> {
         }
     }
 
-    /// Takes back what was written, after this trouble.
+    /// Takes back the writes, after this trouble.
     fn taken_back(&mut self, trouble: Trouble) -> Trouble {
         match self.tables.rollback() {
             Ok(()) => trouble,
@@ -347,9 +311,9 @@ impl<T: Tables> Engine<T> {
         })
     }
 
-    /// Answers what is no transaction. Who no longer waits needs no answer.
+    /// Answers a job that isn't a transaction. If its client no longer waits, it needs no answer.
     fn answer(&mut self, job: Job) {
-        let now = Instant::now();
+        let now = (self.clock)();
         match job {
             Job::Make(..) | Job::Unwatch(_) | Job::End => {}
             Job::Read(keys, tell) => {
@@ -388,9 +352,9 @@ impl<T: Tables> Engine<T> {
         }
     }
 
-    /// Has the tables do what they do from time to time, and says whether they can be used further.
+    /// Has the tables do their periodic work, and returns whether they can still be used.
     fn tick(&mut self) -> bool {
-        let now = Instant::now();
+        let now = (self.clock)();
         if now < self.next_tick {
             return true;
         }
@@ -399,7 +363,7 @@ impl<T: Tables> Engine<T> {
     }
 }
 
-/// The room that all of them may take.
+/// Returns the room that all of them may use.
 fn room_of(transactions: &[Transaction]) -> Room {
     let writing = transactions.iter().filter(|it| it.writes());
     match writing

@@ -5,14 +5,14 @@ use crate::{
 use std::sync::mpsc::Sender;
 use std::time::Duration;
 
-/// What the store's thread is asked for.
+/// A job of the store's thread.
 pub(super) enum Job {
     Make(Transaction, Completion),
     Read(Vec<Vec<u8>>, Sender<Result<Reading, ReadError>>),
     ReadAll(Vec<u8>, Sender<Result<Reading, ReadError>>),
-    /// The first keys from this one on and before that end, at most so many.
+    /// Reads the first keys from this one on and before that end, at most so many.
     ReadRange(Vec<u8>, Vec<u8>, usize, Sender<Result<Reading, ReadError>>),
-    /// The keys from this one on and before that end.
+    /// Lists the keys from this one on and before that end.
     ReadKeys(Vec<u8>, Vec<u8>, Sender<Result<Vec<Vec<u8>>, ReadError>>),
     Watch(u64, Vec<u8>, Watcher, Sender<Result<(), ReadError>>),
     Unwatch(u64),
@@ -20,17 +20,17 @@ pub(super) enum Job {
     Keep(LeaseId, Sender<Result<(), LeaseError>>),
     Revoke(LeaseId, Sender<Result<(), LeaseError>>),
     Compact(Sender<Result<(), CompactError>>),
-    /// How much room is left.
+    /// Returns how much room is left.
     Left(Sender<Option<u64>>),
-    /// Ends the thread, after all that was asked before.
+    /// Ends the thread, after all earlier jobs.
     End,
 }
 
-/// Who is told what became of a transaction: once, also where its job is dropped.
+/// The callback for a transaction's outcome. It is called once, even if the job is dropped.
 pub(super) struct Completion(Option<Done>);
 
 impl Job {
-    /// How many bytes it writes.
+    /// Returns how many bytes it writes.
     pub(super) fn bytes(&self) -> usize {
         match self {
             Job::Make(transaction, _) => transaction.bytes(),

@@ -2,20 +2,20 @@ use crate::{LeaseError, LeaseId, Transaction};
 use std::collections::{BTreeMap, BTreeSet, HashMap};
 use std::time::{Duration, Instant};
 
-/// A lease that goes on.
+/// A lease that hasn't ended.
 struct Lease {
     length: Duration,
     end: Instant,
     keys: BTreeSet<Vec<u8>>,
 }
 
-/// The leases of an embedded store. They end with the process, as do those who keep them.
+/// The leases of an embedded store. They end with the process, because so do their holders.
 #[derive(Default)]
 pub(super) struct Leases {
     last: i64,
     kept: BTreeMap<LeaseId, Lease>,
     of_key: HashMap<Vec<u8>, LeaseId>,
-    /// The keys of leases that have ended, which still lie in the store.
+    /// The keys of leases that have ended, which are still in the store.
     due: BTreeSet<Vec<u8>>,
 }
 
@@ -43,7 +43,7 @@ impl Leases {
         Ok(())
     }
 
-    /// Has a lease end now.
+    /// Ends a lease now.
     pub(super) fn revoke(&mut self, id: LeaseId, now: Instant) -> Result<(), LeaseError> {
         let lease = self.kept.get_mut(&id).ok_or(LeaseError::Ended(id))?;
         lease.end = now;
@@ -54,12 +54,13 @@ impl Leases {
         self.kept.contains_key(&id)
     }
 
-    /// When the next one ends.
+    /// Returns when the next one ends.
     pub(super) fn next_end(&self) -> Option<Instant> {
         self.kept.values().map(|it| it.end).min()
     }
 
-    /// Ends the leases that aren't kept any longer, and gives what deletes their keys, which may be tried again.
+    /// Ends the leases that aren't kept any longer. Returns the transaction that deletes their keys, which may be tried
+    /// again.
     pub(super) fn ended(&mut self, now: Instant) -> Transaction {
         let over: Vec<_> = self
             .kept
@@ -79,7 +80,7 @@ impl Leases {
         }
     }
 
-    /// Takes note of what a transaction wrote and deleted.
+    /// Notes the writes and deletions of a transaction.
     pub(super) fn note(&mut self, transaction: &Transaction) {
         for key in &transaction.deletes {
             self.let_go(key);

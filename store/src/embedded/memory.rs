@@ -2,14 +2,14 @@ use super::tables::{TableFailure, Tables};
 use crate::{LeaseId, Pair, Revision, Room};
 use std::collections::BTreeMap;
 
-/// Tables in memory, where nothing fails.
+/// Tables in memory, in which nothing fails.
 #[derive(Default)]
 pub(super) struct MemoryTables {
     moment: Revision,
     entries: BTreeMap<Vec<u8>, Entry>,
 }
 
-/// What lies at a key.
+/// The value of a key.
 struct Entry {
     value: Vec<u8>,
     revision: Revision,
@@ -87,7 +87,7 @@ impl Tables for MemoryTables {
     }
 
     fn rollback(&mut self) -> Result<(), TableFailure> {
-        // Nothing fails, so nothing is taken back but nothing.
+        // Nothing fails, so there is nothing to take back.
         Ok(())
     }
 }

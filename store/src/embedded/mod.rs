@@ -1,16 +1,25 @@
-//! A store inside the process: a thread of its own makes what is sent, all that waits at once.
+//! A store inside the process. Its own thread makes the transactions, all waiting ones together.
 mod checksum;
+mod disk;
 mod engine;
+mod engine_server;
 mod job;
+mod job_queue;
 mod leases;
 mod memory;
 mod open_error;
 mod reserve;
 mod sqlite;
+#[cfg(feature = "simulated")]
+mod stepped;
 mod sync;
+mod system_room_file;
 mod tables;
+mod unsynced_log;
 mod watchers;
 
+#[cfg(feature = "simulated")]
+pub use disk::{Disk, FileLength, RoomFile};
 pub use open_error::OpenError;
 pub use sync::Sync;
 
@@ -18,62 +27,70 @@ use crate::{
     CompactError, LeaseError, LeaseId, Outcome, ReadError, Reading, Store, Transaction, Watch,
     Watcher, WriteError,
 };
+use disk::SystemDisk;
 use engine::Engine;
+use engine_server::EngineServer;
 use job::{Completion, Job};
+use job_queue::JobQueue;
 use memory::MemoryTables;
 use sqlite::Sqlite;
 use std::fmt;
 use std::path::Path;
 use std::sync::atomic::{AtomicU64, Ordering};
-use std::sync::mpsc::{self, Receiver, Sender};
+use std::sync::mpsc::{self, Sender};
 use std::thread::{self, JoinHandle};
-use std::time::Duration;
+use std::time::{Duration, Instant};
+#[cfg(feature = "simulated")]
+use stepped::Stepped;
 use tables::Tables;
 
-/// A store that lies in this process, or in a folder that this process has for itself.
+/// A store in this process, or in a folder that only this process uses.
 ///
-/// Dropping it makes what was sent before.
+/// Dropping it first makes the transactions that were sent before.
 pub struct Embedded {
     jobs: Sender<Job>,
     watches: AtomicU64,
+    /// Its thread; nothing if nobody waits for the thread's end.
     thread: Option<JoinHandle<()>>,
+    #[cfg(feature = "simulated")]
+    stepped: Option<Stepped>,
 }
 
 impl Embedded {
-    /// One in memory, which is empty, and gone with the process.
+    /// Makes a store in memory, which is empty, and gone with the process.
     pub fn in_memory() -> Embedded {
-        let (jobs, asked) = mpsc::channel();
-        Embedded::over(MemoryTables::default(), jobs, asked)
+        Embedded::over(MemoryTables::default())
     }
 
-    /// One in this folder, which is made where it isn't there. Keys under a lease aren't there any more.
+    /// Opens the store in this folder, which is made if it doesn't exist. Keys under a lease are gone.
     ///
     /// # Errors
     ///
-    /// As [`OpenError`] says; the folder then stays as it was.
+    /// As [`OpenError`] says. Then the folder stays as it was.
     pub fn in_folder(folder: &Path, sync: Sync) -> Result<Embedded, OpenError> {
-        let tables = Sqlite::open(folder, sync)?;
-        let (jobs, asked) = mpsc::channel();
-        Ok(Embedded::over(tables, jobs, asked))
+        let tables = Sqlite::open(&SystemDisk, folder, sync)?;
+        Ok(Embedded::over(tables))
     }
 
-    fn over<T: Tables + Send + 'static>(
-        tables: T,
-        jobs: Sender<Job>,
-        asked: Receiver<Job>,
-    ) -> Embedded {
-        let thread = thread::spawn(move || Engine::new(tables, asked).run());
+    fn over<T: Tables + Send + 'static>(tables: T) -> Embedded {
+        let (jobs, asked) = mpsc::channel();
+        let engine = Engine::new(tables, Box::new(Instant::now));
+        let serving = EngineServer::new(engine, JobQueue::new(asked));
         Embedded {
             jobs,
             watches: AtomicU64::new(0),
-            thread: Some(thread),
+            thread: Some(thread::spawn(move || serving.run())),
+            #[cfg(feature = "simulated")]
+            stepped: None,
         }
     }
 
-    /// Sends a job and waits for its answer; none where the thread has ended.
+    /// Sends a job and waits for its answer. Returns nothing if the thread has ended.
     fn ask<A>(&self, job: impl FnOnce(Sender<A>) -> Job) -> Option<A> {
         let (tell, told) = mpsc::channel();
         self.jobs.send(job(tell)).ok()?;
+        #[cfg(feature = "simulated")]
+        self.step();
         told.recv().ok()
     }
 }
@@ -84,7 +101,7 @@ impl Store for Embedded {
         transaction: Transaction,
         done: Box<dyn FnOnce(Result<Outcome, WriteError>) + Send>,
     ) {
-        // Where the thread has ended, the ticket tells so.
+        // If the thread has ended, the completion tells that.
         let _ = self
             .jobs
             .send(Job::Make(transaction, Completion::new(done)));
@@ -148,10 +165,12 @@ impl Store for Embedded {
 impl Drop for Embedded {
     fn drop(&mut self) {
         let _ = self.jobs.send(Job::End);
-        // What the thread tells may have the store last, and a thread can't wait for itself.
+        #[cfg(feature = "simulated")]
+        self.step();
+        // A callback on the thread may be the last owner of the store, and a thread can't join itself.
         let is_own = |it: &JoinHandle<()>| it.thread().id() == thread::current().id();
         if let Some(thread) = self.thread.take().filter(|it| !is_own(it)) {
-            // A thread that panicked has said so.
+            // A thread that panicked has logged that.
             let _ = thread.join();
         }
     }

@@ -8,22 +8,22 @@ pub enum OpenError {
     /// The system refuses the folder.
     #[error("the folder {0} can't be used: {1}")]
     Folder(PathBuf, #[source] io::Error),
-    /// Another process has it.
+    /// Another process uses it.
     #[error("the folder {0} is in use by another process")]
     InUse(PathBuf),
-    /// Its file isn't of such a store.
+    /// Its file isn't one of such a store.
     #[error("the file {0} isn't of this program")]
     Foreign(PathBuf),
-    /// Its file has another version of its form.
+    /// Its file has another format version.
     #[error(
         "the file {file} has version {found} of its form, and this program knows version {known}"
     )]
     OtherVersion {
         /// The file.
         file: PathBuf,
-        /// Its version.
+        /// The file's version.
         found: i64,
-        /// This program's.
+        /// This program's version.
         known: i64,
     },
     /// Its file was cut or changed.

@@ -1,19 +1,14 @@
-use rustix::fs::{fallocate, fstatvfs, FallocateFlags};
-use rustix::io::Errno;
-use std::fs::File;
-use std::io::{self, Seek, SeekFrom, Write};
-use std::os::unix::fs::MetadataExt;
+use super::disk::{Disk, RoomFile};
+use std::io;
 use std::path::Path;
 
 /// The name of the file in the folder.
 const FILE: &str = "durkenzo.room";
-/// How much is kept back at most, and which part of a smaller disk.
+/// The most bytes that are reserved, and the part of a smaller disk.
 const MOST: u64 = 8 << 20;
 const PART: u64 = 4;
-/// How many bytes a block has by which the system counts what a file takes.
-const BLOCK: u64 = 512;
 
-/// How much of it is kept back now, of two halves.
+/// How much is reserved now, of two halves.
 #[derive(Clone, Copy, Debug, PartialEq, Eq, PartialOrd, Ord)]
 pub(super) enum Kept {
     Nothing,
@@ -21,59 +16,54 @@ pub(super) enum Kept {
     Whole,
 }
 
-/// Room of the disk that is kept back for what makes room: a file that has it, and holds nothing.
+/// Room on the disk that is reserved for writes that make room. It is a file that takes the room and has no content.
 ///
-/// One half lets tables grow by what is written in order to make room. The other half comes back each time, as it is
-/// lent for what doesn't let them grow.
+/// One half lets tables grow by writes that make room. The other half always comes back, because it is only lent to
+/// transactions that don't let tables grow.
 pub(super) struct Reserve {
-    file: File,
+    file: Box<dyn RoomFile>,
     whole: u64,
     kept: Kept,
 }
 
 impl Reserve {
-    /// That of the folder, with as much as it has, and can get now.
-    pub(super) fn open(folder: &Path) -> io::Result<Reserve> {
-        let mut options = File::options();
-        let options = options.read(true).write(true).create(true).truncate(false);
-        let file = options.open(folder.join(FILE))?;
-        let disk = fstatvfs(&file)?;
-        let whole = MOST.min(disk.f_blocks * disk.f_frsize / PART);
-        let of_file = file.metadata()?;
-        // A copy of the file may have no room of its own.
-        let has = of_file.len().min(of_file.blocks() * BLOCK);
+    /// Opens the reserve of the folder, with as much room as it has and can get now.
+    pub(super) fn open(disk: &dyn Disk, folder: &Path) -> io::Result<Reserve> {
+        let file = disk.room_file(&folder.join(FILE))?;
+        let whole = MOST.min(file.disk_size()? / PART);
+        let has = file.room()?;
         let kept = match () {
             () if has >= whole => Kept::Whole,
             () if has >= whole / 2 => Kept::Half,
             () => Kept::Nothing,
         };
         let mut reserve = Reserve { file, whole, kept };
-        // A file of another length is cut to one that is known.
+        // A file with another length is cut to a known one.
         reserve.lend(kept);
         reserve.take_back();
         Ok(reserve)
     }
 
-    /// How much is kept back now.
+    /// Returns how much is reserved now.
     pub(super) fn kept(&self) -> Kept {
         self.kept
     }
 
-    /// How many bytes a half has.
+    /// Returns how many bytes a half has.
     pub(super) fn half(&self) -> u64 {
         self.whole / 2
     }
 
-    /// How many bytes are free beside it.
+    /// Returns how many bytes are free beside it.
     pub(super) fn free(&self) -> u64 {
-        fstatvfs(&self.file).map_or(0, |disk| disk.f_bavail * disk.f_frsize)
+        self.file.free().unwrap_or(0)
     }
 
-    /// Lets all go but this much.
+    /// Lends everything except this much.
     pub(super) fn lend(&mut self, left: Kept) {
         let left = left.min(self.kept);
-        // What isn't let go is kept on.
-        if self.file.set_len(self.size(left)).is_ok() {
+        // If the cut fails, it stays reserved.
+        if self.file.set_length(self.size(left)).is_ok() {
             self.kept = left;
         }
     }
@@ -81,25 +71,12 @@ impl Reserve {
     /// Takes as much back as the disk has.
     pub(super) fn take_back(&mut self) {
         for more in [Kept::Whole, Kept::Half] {
-            if more <= self.kept || self.allocate(more).is_ok() {
+            if more <= self.kept || self.file.allocate(self.size(more)).is_ok() {
                 self.kept = self.kept.max(more);
                 return;
             }
-            // What it got of it others may need.
+            // Others may need the part of it that it got.
             self.lend(self.kept);
-        }
-    }
-
-    fn allocate(&mut self, kept: Kept) -> io::Result<()> {
-        let size = self.size(kept);
-        match fallocate(&self.file, FallocateFlags::empty(), 0, size) {
-            // Where the file system can't, written bytes take as much.
-            Err(Errno::OPNOTSUPP | Errno::NOSYS) => {
-                self.file.seek(SeekFrom::Start(0))?;
-                io::copy(&mut io::Read::take(io::repeat(0), size), &mut self.file)?;
-                self.file.flush()
-            }
-            told => Ok(told?),
         }
     }
 
@@ -114,15 +91,20 @@ impl Reserve {
 
 #[cfg(test)]
 mod tests {
+    use super::super::disk::SystemDisk;
     use super::*;
-    use std::fs;
+    use std::fs::{self, File};
+    use std::os::unix::fs::MetadataExt;
+
+    /// The block size in which the system counts a file's room.
+    const BLOCK: u64 = 512;
 
     #[test]
     fn what_is_lent_is_taken_back() {
         let folder = std::env::temp_dir().join(format!("durkenzo-reserve-{}", std::process::id()));
         fs::create_dir_all(&folder).unwrap();
         let length = || fs::metadata(folder.join(FILE)).unwrap().len();
-        let mut reserve = Reserve::open(&folder).unwrap();
+        let mut reserve = Reserve::open(&SystemDisk, &folder).unwrap();
         let whole = length();
         assert!(whole > 0 && reserve.kept() == Kept::Whole);
         reserve.lend(Kept::Half);
@@ -132,11 +114,14 @@ mod tests {
         reserve.take_back();
         assert_eq!((length(), reserve.kept()), (whole, Kept::Whole));
         drop(reserve);
-        // As a copy has it.
+        // The file looks like this if it is copied.
         let copy = File::create(folder.join(FILE)).unwrap();
         copy.set_len(whole).unwrap();
         assert_eq!(copy.metadata().unwrap().blocks(), 0);
-        assert_eq!(Reserve::open(&folder).unwrap().kept(), Kept::Whole);
+        assert_eq!(
+            Reserve::open(&SystemDisk, &folder).unwrap().kept(),
+            Kept::Whole
+        );
         assert!(copy.metadata().unwrap().blocks() * BLOCK >= whole);
         fs::remove_dir_all(&folder).unwrap();
     }

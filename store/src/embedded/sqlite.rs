@@ -1,20 +1,24 @@
 use super::checksum::RowChecksum;
+use super::disk::{make_folders, Disk};
 use super::reserve::{Kept, Reserve};
 use super::tables::{Means, TableFailure, Tables};
+use super::unsynced_log::UnsyncedLog;
 use super::{OpenError, Sync};
 use crate::{LeaseId, Pair, Revision, Room};
-use rusqlite::{params, Connection, ErrorCode, OptionalExtension, Row};
-use std::fs;
+use rusqlite::config::DbConfig;
+use rusqlite::{params, Connection, ErrorCode, OpenFlags, OptionalExtension, Row};
 use std::io;
 use std::path::{Path, PathBuf};
 
 /// The name of the file in the folder.
 const FILE: &str = "durkenzo.sqlite";
-/// What marks the file as ours.
+/// The end of the name of SQLite's log, behind the name of the file.
+const LOG: &str = "-wal";
+/// The mark that the file is ours.
 const APPLICATION: i64 = 0x4475_726b;
-/// The version of its form.
+/// The version of the file's format.
 const VERSION: i64 = 3;
-/// The version before, whose rows don't say when their keys were created.
+/// The earlier version, whose rows don't say when their keys were created.
 const UNDATED: i64 = 2;
 /// The version before that, whose rows have no checksums.
 const UNSUMMED: i64 = 1;
@@ -25,21 +29,21 @@ const SCHEMA: &str = "
     CREATE TABLE moment (revision INTEGER NOT NULL, checksum INTEGER);
     INSERT INTO moment (revision) VALUES (0);
 ";
-/// Rows that were there before have no checksum until they are written again.
+/// Older rows have no checksum until they are written again.
 const SUMMED: &str = "
     ALTER TABLE pairs ADD COLUMN checksum INTEGER;
     ALTER TABLE moment ADD COLUMN checksum INTEGER;
     ALTER TABLE pairs ADD COLUMN created INTEGER;
     ALTER TABLE pairs ADD COLUMN created_checksum INTEGER;
 ";
-/// Keys that were there before tell [`FIRST`] until they are deleted.
+/// Older keys have [`FIRST`] until they are deleted.
 const DATED: &str = "
     ALTER TABLE pairs ADD COLUMN created INTEGER;
     ALTER TABLE pairs ADD COLUMN created_checksum INTEGER;
 ";
-/// The revision that created keys of an earlier version, which kept no such revision.
+/// The creation revision of keys from an earlier version, which kept none.
 const FIRST: Revision = Revision(1);
-/// A key that is written over keeps when it was created, and the checksum of that.
+/// An overwritten key keeps the revision of its creation, and that revision's checksum.
 const PUT: &str = "
     INSERT INTO pairs (key, value, revision, lease, checksum, created, created_checksum)
     VALUES (?1, ?2, ?3, ?4, ?5, ?6, ?7)
@@ -48,46 +52,47 @@ const PUT: &str = "
     RETURNING created
 ";
 
-/// Why nothing is written where a little room is left.
+/// Why nothing is written although there is a little room left.
 const KEPT_BACK: &str = "the disk is full, but for what is kept back so that keys can be deleted";
-/// How many pages SQLite's log has at most before they go to the tables.
+/// The most pages of SQLite's log before they go to the tables.
 const LOG_PAGES: u64 = 1_000;
 
-/// Tables in a file of SQLite, which this process has for itself.
+/// Tables in an SQLite file that only this process uses.
 pub(super) struct Sqlite {
     connection: Connection,
     reserve: Reserve,
-    /// What of the reserve is lent to a transaction, if it is, and how much was kept back before.
+    /// The part of the reserve that is lent to a transaction, if any is, and how much was reserved before.
     lent: Option<(Means, Kept)>,
-    /// Which room the transaction under way may take, and how many pages there were before it, if that matters.
+    /// The room that the transaction under way may use, and how many pages there were before it, if that matters.
     under_way: (Room, u64),
     page_size: u64,
     moment: Revision,
-    sync: Sync,
+    /// SQLite's log, if it is synced by this store only.
+    unsynced: Option<UnsyncedLog>,
     is_written: bool,
 }
 
 impl Sqlite {
-    /// Opens the file of a folder, or makes it; keys under a lease are deleted.
-    pub(super) fn open(folder: &Path, sync: Sync) -> Result<Sqlite, OpenError> {
-        fs::create_dir_all(folder).map_err(|error| OpenError::Folder(folder.to_owned(), error))?;
+    /// Opens the file of a folder, or makes it. Keys under a lease are deleted.
+    pub(super) fn open(disk: &dyn Disk, folder: &Path, sync: Sync) -> Result<Sqlite, OpenError> {
+        make_folders(disk, folder).map_err(|error| OpenError::Folder(folder.to_owned(), error))?;
         let file = folder.join(FILE);
-        opened(folder, &file, sync).map_err(|error| match error {
+        opened(disk, folder, &file, sync).map_err(|error| match error {
             NotOpened::Sqlite(error) => open_error(folder, file, &error),
             NotOpened::Form(error) => error(file),
-            NotOpened::Reserve(error) => OpenError::Folder(folder.to_owned(), error),
+            NotOpened::Folder(error) => OpenError::Folder(folder.to_owned(), error),
         })
     }
 }
 
-/// Why a file isn't opened.
+/// Why a file can't be opened.
 enum NotOpened {
     Sqlite(rusqlite::Error),
     Form(Box<dyn FnOnce(PathBuf) -> OpenError>),
-    Reserve(io::Error),
+    Folder(io::Error),
 }
 
-/// How a file is before it is used.
+/// The format of a file before it is used.
 #[derive(Clone, Copy, PartialEq, Eq)]
 enum Form {
     New,
@@ -99,7 +104,7 @@ enum Form {
 }
 
 impl Form {
-    /// What gives such a file the latest form, if it isn't of that form already.
+    /// Returns the statements that give such a file the latest format, if it doesn't have it.
     fn bettering(self) -> Option<&'static str> {
         match self {
             Form::New | Form::Latest => None,
@@ -115,35 +120,52 @@ impl From<rusqlite::Error> for NotOpened {
     }
 }
 
-fn opened(folder: &Path, file: &Path, sync: Sync) -> Result<Sqlite, NotOpened> {
-    let connection = Connection::open(file)?;
-    connection.set_prepared_statement_cache_capacity(32);
-    connection.pragma_update(None, "locking_mode", "EXCLUSIVE")?;
-    // As SQLite advises where a file may be spoilt.
-    connection.pragma_update(None, "trusted_schema", "OFF")?;
-    connection.pragma_update(None, "cell_size_check", "ON")?;
-    // Debian's SQLite overwrites each page that becomes free, which takes as much room as what is deleted had.
-    connection.pragma_update(None, "secure_delete", "FAST")?;
+fn opened(disk: &dyn Disk, folder: &Path, file: &Path, sync: Sync) -> Result<Sqlite, NotOpened> {
+    let connection = connected(disk, file)?;
     let form = form(&connection)?;
-    connection.pragma_update(None, "journal_mode", "WAL")?;
+    // If the log couldn't be synced once, the system may hold what the disk never gets, and says of a later sync that
+    // all is well. The tables must not get ahead of the log.
+    let log = file.with_file_name(format!("{FILE}{LOG}"));
+    disk.write_again(&log).map_err(NotOpened::Folder)?;
+    begin_log(&connection)?;
     connection.pragma_update(None, "synchronous", level(sync))?;
     if form == Form::New {
         let marks = format!("PRAGMA application_id = {APPLICATION};");
         connection.execute_batch(&bettered(&format!("{SCHEMA} {marks}")))?;
     }
     look_through(&connection)?;
-    let mut reserve = Reserve::open(folder).map_err(NotOpened::Reserve)?;
+    let mut reserve = Reserve::open(disk, folder).map_err(NotOpened::Folder)?;
     if let Some(schema) = form.bettering() {
-        // A full disk may have room for it by what is kept back.
+        // A full disk may have room for it in the reserve.
         reserve.lend(Kept::Nothing);
         connection.execute_batch(&bettered(schema))?;
         reserve.take_back();
     }
     let moment = moment_without_leases(&connection)?;
+    // The writes of a killed process may be in memory only, so they are read only once they are on the disk. If the
+    // tables have no room for them, the log has them there.
+    match moved_log(&connection, &mut reserve) {
+        Err(error) if error.sqlite_error_code() == Some(ErrorCode::DiskFull) => {}
+        moved => moved?,
+    }
+    // The process before may have deleted its log as it ended. If that came back once power is lost, it would make what
+    // this process reads as not made.
+    disk.sync_folder(folder).map_err(NotOpened::Folder)?;
     let page_size = count(&connection, "page_size")?;
-    // What is in the log may have to go to the tables by what is kept back.
+    // The log's pages must fit into the tables with the reserve.
     let most_pages = (reserve.half() / page_size).clamp(1, LOG_PAGES);
-    connection.pragma_update(None, "wal_autocheckpoint", most_pages)?;
+    let unsynced = match sync {
+        Sync::Second => {
+            // SQLite cuts its log when it begins it anew, so the log's length tells how much of it isn't moved.
+            connection.pragma_update(None, "journal_size_limit", 0)?;
+            let most = most_pages * page_size;
+            Some(UnsyncedLog::new(disk.length_of(&log), most))
+        }
+        Sync::Always | Sync::No => None,
+    };
+    let most_of_sqlite = unsynced.as_ref().map_or(most_pages, |_| 0);
+    connection.pragma_update(None, "wal_autocheckpoint", most_of_sqlite)?;
+    keep_log(&connection, false)?;
     Ok(Sqlite {
         connection,
         reserve,
@@ -151,12 +173,35 @@ fn opened(folder: &Path, file: &Path, sync: Sync) -> Result<Sqlite, NotOpened> {
         under_way: (Room::Free, 0),
         page_size,
         moment,
-        sync,
+        unsynced,
         is_written: true,
     })
 }
 
-/// What SQLite calls it.
+/// Connects to the file. Its log stays as it is if it isn't opened after all.
+fn connected(disk: &dyn Disk, file: &Path) -> rusqlite::Result<Connection> {
+    let connection = match disk.sqlite_name() {
+        Some(name) => Connection::open_with_flags_and_vfs(file, OpenFlags::default(), name)?,
+        None => Connection::open(file)?,
+    };
+    keep_log(&connection, true)?;
+    connection.set_prepared_statement_cache_capacity(32);
+    connection.pragma_update(None, "locking_mode", "EXCLUSIVE")?;
+    // SQLite advises this for files that may be corrupt.
+    connection.pragma_update(None, "trusted_schema", "OFF")?;
+    connection.pragma_update(None, "cell_size_check", "ON")?;
+    // Debian's SQLite overwrites each page that becomes free, which takes as much room as the deleted data.
+    connection.pragma_update(None, "secure_delete", "FAST")?;
+    Ok(connection)
+}
+
+/// Says whether the log stays as it is when the connection is closed, or goes to the tables. It must stay if it
+/// couldn't be synced: the process that opens the folder next writes it again.
+fn keep_log(connection: &Connection, stays: bool) -> rusqlite::Result<bool> {
+    connection.set_db_config(DbConfig::SQLITE_DBCONFIG_NO_CKPT_ON_CLOSE, stays)
+}
+
+/// Returns SQLite's name of it.
 fn level(sync: Sync) -> &'static str {
     match sync {
         Sync::Always => "FULL",
@@ -165,32 +210,66 @@ fn level(sync: Sync) -> &'static str {
     }
 }
 
-/// Refuses a file that is damaged. A quicker check doesn't see that an index has lost a key, which then couldn't be
-/// read.
+/// Makes changes go to SQLite's log first. The file is written only when the statement's end is asked for: a caller
+/// that takes only the first row doesn't learn that it failed. SQLite then says "wal", and goes on without a log.
+fn begin_log(connection: &Connection) -> Result<(), NotOpened> {
+    let mut pragma = connection.prepare("PRAGMA journal_mode = WAL")?;
+    let mut rows = pragma.query([])?;
+    let mode: Option<String> = rows.next()?.map(|row| row.get(0)).transpose()?;
+    while rows.next()?.is_some() {}
+    match mode.as_deref() {
+        Some("wal") => Ok(()),
+        _ => Err(NotOpened::Form(Box::new(|file| {
+            OpenError::Other(file, "its changes can't be logged".to_owned())
+        }))),
+    }
+}
+
+/// Moves SQLite's log to its tables, which may use the reserve meanwhile, and returns the log's room.
+fn moved_log(connection: &Connection, reserve: &mut Reserve) -> rusqlite::Result<()> {
+    reserve.lend(Kept::Nothing);
+    let truncate = "PRAGMA wal_checkpoint(TRUNCATE)";
+    // If that fails, the log stays as it is, and it is tried again.
+    let moved = connection.query_row(truncate, [], |_| Ok(()));
+    reserve.take_back();
+    moved
+}
+
+/// Refuses a damaged file. A faster check doesn't see that an index has lost a key, which then couldn't be read.
 fn look_through(connection: &Connection) -> Result<(), NotOpened> {
     let check = "integrity_check";
     let found: String = connection.pragma_query_value(None, check, |row| row.get(0))?;
     match &*found {
         "ok" => Ok(()),
+        _ if is_unread(&found) => Err(NotOpened::Form(Box::new(|file| {
+            OpenError::Other(file, found)
+        }))),
         _ => Err(damaged(found)),
     }
+}
+
+/// Returns whether a check found a page that couldn't be read, so that its content isn't known. SQLite says that only
+/// in words.
+fn is_unread(found: &str) -> bool {
+    let unread = ["failed to get page", "unable to get the page"];
+    unread.iter().any(|it| found.contains(it))
 }
 
 fn damaged(why: String) -> NotOpened {
     NotOpened::Form(Box::new(|file| OpenError::Damaged(file, why)))
 }
 
-/// What gives the file this form of the schema, all at once.
+/// Returns the statements that give the file this schema, all in one transaction.
 fn bettered(schema: &str) -> String {
     format!("BEGIN IMMEDIATE; {schema} PRAGMA user_version = {VERSION}; COMMIT")
 }
 
-/// The count that SQLite tells by this name.
+/// Returns the count with this name in SQLite.
 fn count(connection: &Connection, name: &str) -> rusqlite::Result<u64> {
     connection.pragma_query_value(None, name, |row| row.get(0))
 }
 
-/// How the file is; refuses one that isn't ours, or of another version.
+/// Returns the format of the file. Refuses a file that isn't ours, or has another version.
 fn form(connection: &Connection) -> Result<Form, NotOpened> {
     let tables = "SELECT count(*) = 0 FROM sqlite_schema";
     let is_new = connection.query_row(tables, [], |row| row.get(0))?;
@@ -209,7 +288,7 @@ fn form(connection: &Connection) -> Result<Form, NotOpened> {
     }
 }
 
-/// Deletes the keys under leases, and gives the moment after it.
+/// Deletes the keys under leases, and returns the moment after that.
 fn moment_without_leases(connection: &Connection) -> Result<Revision, NotOpened> {
     connection.execute_batch("BEGIN IMMEDIATE")?;
     let mut moment = moment(connection)?;
@@ -221,7 +300,7 @@ fn moment_without_leases(connection: &Connection) -> Result<Revision, NotOpened>
     Ok(moment)
 }
 
-/// The moment, if its row has what was written.
+/// Returns the moment, if its row has the bytes that were written.
 fn moment(connection: &Connection) -> Result<Revision, NotOpened> {
     let words = "SELECT revision, checksum FROM moment";
     let (moment, sum) = connection.query_row(words, [], |row| {
@@ -260,14 +339,14 @@ impl From<rusqlite::Error> for TableFailure {
             Some(ErrorCode::DiskFull | ErrorCode::OutOfMemory) => {
                 TableFailure::Full(error.to_string())
             }
-            // Of a row whose head was changed, or that holds another kind of value.
+            // The row's header was changed, or the row has another kind of value.
             Some(ErrorCode::DatabaseCorrupt) | None => TableFailure::Damaged(error.to_string()),
             _ => TableFailure::Broken(error.to_string()),
         }
     }
 }
 
-/// SQLite's numbers have a sign, and revisions rise by one: none gets so far.
+/// SQLite's numbers are signed, and revisions ascend by one, so none gets that far.
 fn number(revision: Revision) -> i64 {
     i64::try_from(revision.0).unwrap_or(i64::MAX)
 }
@@ -276,12 +355,12 @@ fn revision(number: i64) -> Revision {
     Revision(number.unsigned_abs())
 }
 
-/// The revision that created a key, by what its row says of that.
+/// Returns the revision that created a key, from its row.
 fn created(number: Option<i64>) -> Revision {
     number.map_or(FIRST, revision)
 }
 
-/// The pair of a row, if it has the bytes that were written.
+/// Returns the pair of a row, if the row has the bytes that were written.
 fn pair(row: &Row<'_>) -> Result<Pair, TableFailure> {
     let pair = Pair {
         key: row.get(0)?,
@@ -306,23 +385,44 @@ fn changed(key: &[u8]) -> String {
 }
 
 impl Sqlite {
-    /// Moves SQLite's log to its tables, which may take what is kept back for that while, and gives back the log's
-    /// room.
-    fn tidy(&mut self) -> rusqlite::Result<()> {
-        self.reserve.lend(Kept::Nothing);
-        let truncate = "PRAGMA wal_checkpoint(TRUNCATE)";
-        // Where that fails, the log stays as it is, and it is tried again.
-        let truncated = self.connection.query_row(truncate, [], |_| Ok(()));
-        self.reserve.take_back();
-        truncated
+    /// Moves SQLite's log to the tables, and returns the log's room.
+    fn tidy(&mut self) -> Result<(), TableFailure> {
+        self.check_log()?;
+        let moved = moved_log(&self.connection, &mut self.reserve);
+        self.note_move(&moved);
+        Ok(moved?)
     }
 
-    /// How many bytes of the tables are free.
+    /// Syncs SQLite's log, and moves it to the tables as far as they have room.
+    fn checkpoint(&mut self) -> Result<(), TableFailure> {
+        let passive = "PRAGMA wal_checkpoint(PASSIVE)";
+        let moved = self.connection.query_row(passive, [], |_| Ok(()));
+        self.note_move(&moved);
+        match moved.map_err(TableFailure::from) {
+            // The log is synced before the tables need room.
+            Ok(()) | Err(TableFailure::Full(_)) => {
+                self.is_written = false;
+                Ok(())
+            }
+            failed => failed,
+        }
+    }
+
+    fn note_move(&mut self, moved: &rusqlite::Result<()>) {
+        self.unsynced.iter_mut().for_each(|it| it.note(moved));
+    }
+
+    /// Fails if SQLite's log may lack what was committed.
+    fn check_log(&self) -> Result<(), TableFailure> {
+        self.unsynced.as_ref().map_or(Ok(()), UnsyncedLog::check)
+    }
+
+    /// Returns how many bytes in the tables are free.
     fn free_within(&self) -> rusqlite::Result<u64> {
         Ok(count(&self.connection, "freelist_count")? * self.page_size)
     }
 
-    /// Whether what is kept back stays, or comes back, where the transaction under way is made.
+    /// Returns whether the reserve stays, or comes back, if the transaction under way is made.
     fn leaves_what_is_kept(&self) -> rusqlite::Result<bool> {
         let (room, pages) = self.under_way;
         let stood = self.lent.map_or(self.reserve.kept(), |it| it.1);
@@ -335,7 +435,7 @@ impl Sqlite {
         if !may_grow && count(&self.connection, "page_count")? > pages {
             return Ok(false);
         }
-        // Pages that are free within the tables stand for the half that they took.
+        // Free pages in the tables make up for the half that they took.
         Ok(!is_short || self.free_within()? >= self.reserve.half())
     }
 }
@@ -395,6 +495,7 @@ impl Tables for Sqlite {
     }
 
     fn begin(&mut self, room: Room) -> Result<(), TableFailure> {
+        self.check_log()?;
         if self.lent.is_none() {
             self.reserve.take_back();
         }
@@ -437,19 +538,33 @@ impl Tables for Sqlite {
         }
         self.connection.execute_batch("COMMIT")?;
         (self.moment, self.is_written) = (moment, true);
+        if self.unsynced.as_ref().is_some_and(UnsyncedLog::is_long) {
+            // The commit is made, whatever this does. If it wasn't a sync that failed, the next tick tries it again.
+            let _ = self.checkpoint();
+        }
         Ok(())
     }
 
     fn rollback(&mut self) -> Result<(), TableFailure> {
-        // SQLite has taken it back by itself after some failures.
+        // After some failures SQLite has taken it back itself.
         match self.connection.is_autocommit() {
             true => Ok(()),
             false => Ok(self.connection.execute_batch("ROLLBACK")?),
         }
     }
 
+    fn is_usable(&self) -> bool {
+        self.check_log().is_ok()
+    }
+
+    fn give_up(&mut self) {
+        // SQLite doesn't refuse it to a connection that is open.
+        let _ = keep_log(&self.connection, true);
+    }
+
     fn make_room(&mut self, means: Means) -> bool {
-        // What is refused leaves its bytes in the log: where that can't be cut, they would take what is lent for good.
+        // A refused transaction leaves its bytes in the log. If that can't be cut, they would take the lent room
+        // forever.
         if means == Means::Log && self.tidy().is_err() {
             return false;
         }
@@ -465,7 +580,7 @@ impl Tables for Sqlite {
 
     fn take_room_back(&mut self) {
         self.lent = None;
-        // The next one that is refused tries it again.
+        // The next refused transaction tries it again, unless it was a sync that failed.
         let _ = self.tidy();
     }
 
@@ -479,27 +594,144 @@ impl Tables for Sqlite {
     }
 
     fn compact(&mut self) -> Result<(), TableFailure> {
-        if let Err(TableFailure::Full(_)) = self.tidy().map_err(TableFailure::from) {
-            return Ok(());
+        match self.tidy() {
+            Ok(()) => {}
+            Err(TableFailure::Full(_)) => return Ok(()),
+            failed => return failed,
         }
         self.reserve.lend(Kept::Nothing);
         let vacuumed = self.connection.execute_batch("VACUUM");
         let tidied = self.tidy();
-        match vacuumed.and(tidied).map_err(TableFailure::from) {
-            // What was deleted stays free within the file, for what is written next.
+        match vacuumed.map_err(TableFailure::from).and(tidied) {
+            // Deleted bytes stay free in the file, for the next writes.
             Err(TableFailure::Full(_)) => Ok(()),
             told => told,
         }
     }
 
-    /// Writes to the disk what was committed since: the log of SQLite first, then its tables.
+    /// Syncs recent commits to the disk: SQLite's log first, then its tables.
     fn tick(&mut self) -> Result<(), TableFailure> {
         self.reserve.take_back();
-        if self.sync == Sync::Second && self.is_written {
-            self.connection
-                .query_row("PRAGMA wal_checkpoint(PASSIVE)", [], |_| Ok(()))?;
-            self.is_written = false;
+        match self.unsynced.is_some() && self.is_written {
+            true => self.checkpoint(),
+            false => Ok(()),
         }
-        Ok(())
+    }
+}
+
+#[cfg(test)]
+mod tests {
+    use super::super::disk::{FileLength, RoomFile, SystemDisk};
+    use super::*;
+    use std::fs;
+    use std::sync::Mutex;
+
+    /// The system's disk, which notes what it is asked.
+    #[derive(Default)]
+    struct NotedDisk(Mutex<Vec<String>>);
+
+    impl NotedDisk {
+        fn note(&self, what: &str, name: &Path) {
+            let name = name.file_name().unwrap_or_default().to_string_lossy();
+            self.0
+                .lock()
+                .expect("no panic")
+                .push(format!("{what} {name}"));
+        }
+    }
+
+    impl Disk for NotedDisk {
+        fn make_folder(&self, folder: &Path) -> io::Result<()> {
+            SystemDisk.make_folder(folder)
+        }
+
+        fn sync_folder(&self, folder: &Path) -> io::Result<()> {
+            self.note("sync", folder);
+            SystemDisk.sync_folder(folder)
+        }
+
+        fn write_again(&self, file: &Path) -> io::Result<()> {
+            self.note("write", file);
+            SystemDisk.write_again(file)
+        }
+
+        fn room_file(&self, file: &Path) -> io::Result<Box<dyn RoomFile>> {
+            SystemDisk.room_file(file)
+        }
+
+        fn length_of(&self, file: &Path) -> FileLength {
+            SystemDisk.length_of(file)
+        }
+    }
+
+    fn folder(name: &str) -> PathBuf {
+        std::env::temp_dir().join(format!("durkenzo-{name}-{}", std::process::id()))
+    }
+
+    /// A log that was deleted, or that the disk doesn't have, undoes nothing that was read.
+    #[test]
+    fn the_disk_has_the_log_and_the_folder_before_anything_is_read() {
+        let (folder, disk) = (folder("noted"), NotedDisk::default());
+        drop(Sqlite::open(&disk, &folder, Sync::Always).expect("it is opened"));
+        let asked = disk.0.into_inner().expect("no panic");
+        let name = folder.file_name().expect("a name").to_string_lossy();
+        let wanted = [
+            "write durkenzo.sqlite-wal".to_owned(),
+            format!("sync {name}"),
+        ];
+        assert!(asked.ends_with(&wanted), "{asked:?}");
+        fs::remove_dir_all(&folder).expect("removed");
+    }
+
+    #[test]
+    fn the_log_of_tables_that_cant_be_used_stays_for_who_opens_them_next() {
+        let folder = folder("given-up");
+        let has_log = || {
+            let log = fs::metadata(folder.join("durkenzo.sqlite-wal"));
+            log.is_ok_and(|it| it.len() > 0)
+        };
+        let open = || Sqlite::open(&SystemDisk, &folder, Sync::Always).expect("it is opened");
+        let mut tables = open();
+        let pair = Pair {
+            key: b"key".to_vec(),
+            value: b"value".to_vec(),
+            revision: Revision(1),
+            created: Revision(1),
+        };
+        let made = tables
+            .begin(Room::Free)
+            .and_then(|()| tables.put(&pair, None));
+        assert!(made.is_ok() && tables.commit(Revision(1)).is_ok());
+        tables.give_up();
+        drop(tables);
+        assert!(has_log());
+        let tables = open();
+        assert!(tables.pair_of(b"key").is_ok_and(|it| it == Some(pair)));
+        drop(tables);
+        assert!(!has_log());
+        fs::remove_dir_all(&folder).expect("removed");
+    }
+
+    /// A check that can't read a page says so in these words. The page isn't changed then.
+    #[test]
+    fn a_page_that_cant_be_read_isnt_told_as_damaged() {
+        let head = "*** in database main ***\n";
+        for unread in [
+            "Page 4: unable to get the page. error code=266",
+            "On tree page 2 cell 0: failed to get page 7",
+        ] {
+            assert!(is_unread(&format!("{head}{unread}")), "{unread}");
+        }
+        assert!(!is_unread(&format!("{head}Page 3: never used")));
+        assert!(!is_unread(
+            "non-unique entry in index sqlite_autoindex_pairs_1"
+        ));
+    }
+
+    /// SQLite keeps another mode, as for tables in memory, and says so only with the mode.
+    #[test]
+    fn tables_without_a_log_arent_opened() {
+        let connection = Connection::open_in_memory().expect("memory");
+        assert!(matches!(begin_log(&connection), Err(NotOpened::Form(_))));
     }
 }

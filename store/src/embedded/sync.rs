@@ -1,14 +1,15 @@
 use std::str::FromStr;
 
-/// When what was told as made is on the disk.
+/// When a transaction whose outcome was told is on the disk.
 #[derive(Clone, Copy, Debug, Default, PartialEq, Eq)]
 pub enum Sync {
-    /// Before it is told.
+    /// Before its outcome is told.
     #[default]
     Always,
-    /// Within a second or so: that much is lost where the machine stops, and nothing where the process alone does.
+    /// Within about a second. If the machine stops, or a sync fails, the transactions of about the last second may be
+    /// lost. None is lost if only the process stops. If a sync fails, the store ends, and must be opened again.
     Second,
-    /// When the system writes it: nothing is lost where the process alone stops.
+    /// When the system writes it. Nothing is lost if only the process stops.
     No,
 }
 

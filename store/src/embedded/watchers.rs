@@ -1,11 +1,11 @@
 use crate::{KeyChange, Reading, Revision, Seen, Watcher};
 
-/// Those who watch an embedded store.
+/// The watchers of an embedded store.
 #[derive(Default)]
 pub(super) struct Watchers(Vec<(u64, Vec<u8>, Watcher)>);
 
 impl Watchers {
-    /// Adds one, and tells it what lies there.
+    /// Adds a watcher, and tells it the present pairs.
     pub(super) fn add(
         &mut self,
         number: u64,
@@ -17,12 +17,12 @@ impl Watchers {
         self.0.push((number, prefix, watcher));
     }
 
-    /// Drops one.
+    /// Drops a watcher.
     pub(super) fn remove(&mut self, number: u64) {
         self.0.retain(|(it, ..)| *it != number);
     }
 
-    /// Tells each what changed of its keys.
+    /// Tells each watcher the changes of its keys.
     pub(super) fn tell(&mut self, moment: Revision, changes: &[KeyChange]) {
         for (_, prefix, watcher) in &mut self.0 {
             let of_it: Vec<_> = changes

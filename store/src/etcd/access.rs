@@ -8,23 +8,23 @@ use std::path::PathBuf;
 use std::time::Duration;
 use thiserror::Error;
 
-/// How etcd is reached.
+/// The access to etcd.
 #[derive(Clone)]
 pub struct Access {
-    /// The members' addresses, as `http://10.0.0.1:2379` or `https://etcd.example:2379`.
+    /// The members' addresses, for instance `http://10.0.0.1:2379` or `https://etcd.example:2379`.
     pub endpoints: Vec<String>,
-    /// The user's name and password, where etcd asks for them.
+    /// The user's name and password, if etcd asks for them.
     pub user: Option<(String, String)>,
-    /// A file with the certificates of who may vouch for members, in PEM; where none is named, the system's.
+    /// A file in PEM with the authorities of members' certificates. If none is named, the system's are used.
     pub roots: Option<PathBuf>,
-    /// The files with this client's certificates and its key, in PEM, where etcd asks for them.
+    /// The files in PEM with this client's certificates and its key, if etcd asks for them.
     pub identity: Option<(PathBuf, PathBuf)>,
-    /// How long an answer is waited for.
+    /// How long to wait for an answer.
     pub patience: Duration,
 }
 
 impl Access {
-    /// Of these members, without a user, and with five seconds for an answer.
+    /// Makes the access to these members, without a user, and with five seconds for an answer.
     pub fn new<E: Into<String>>(endpoints: impl IntoIterator<Item = E>) -> Access {
         Access {
             endpoints: endpoints.into_iter().map(Into::into).collect(),
@@ -35,7 +35,7 @@ impl Access {
         }
     }
 
-    /// The members' addresses, each without what may follow its port.
+    /// Returns the members' addresses, each without the part behind its port.
     pub(super) fn members(&self) -> Result<Vec<String>, StartError> {
         let found: Result<Vec<_>, _> = self.endpoints.iter().map(|it| member(it)).collect();
         match found? {
@@ -44,7 +44,7 @@ impl Access {
         }
     }
 
-    /// How to speak TLS, if a member's address asks for it. Otherwise no file is read.
+    /// Returns the TLS configuration, if a member's address asks for it. Otherwise no file is read.
     pub(super) fn tls(&self) -> Result<Option<Tls>, StartError> {
         let is_asked = self.members()?.iter().any(|it| it.starts_with("https:"));
         let tls = is_asked.then(|| Tls::new(self.roots.as_deref(), self.identity.as_ref()));
@@ -53,7 +53,7 @@ impl Access {
 }
 
 impl fmt::Debug for Access {
-    /// Without the password.
+    /// Shows everything except the password.
     fn fmt(&self, f: &mut fmt::Formatter<'_>) -> fmt::Result {
         let user = self.user.as_ref().map(|(name, _)| name);
         f.debug_struct("Access")
@@ -77,22 +77,22 @@ fn member(endpoint: &str) -> Result<String, StartError> {
     }
 }
 
-/// Why a store on etcd can't begin.
+/// Why a store in etcd can't begin.
 #[derive(Debug, Error)]
 pub enum StartError {
     /// No member is named.
     #[error("name a member of etcd, as http://10.0.0.1:2379")]
     NoEndpoint,
-    /// An address can't be read.
+    /// An address is malformed.
     #[error("{0} is no address of a member, as http://10.0.0.1:2379 is")]
     BadEndpoint(String),
     /// A file of certificates or of a key can't be used.
     #[error("the file {0} can't be used: {1}")]
     BadFile(PathBuf, String),
-    /// OpenSSL gives no TLS.
+    /// OpenSSL can't be set up.
     #[error("OpenSSL gives no TLS: {0}")]
     Tls(#[from] ErrorStack),
-    /// The system gives no thread.
+    /// The system refuses a thread.
     #[error("the system gives no thread: {0}")]
     Thread(#[from] io::Error),
 }

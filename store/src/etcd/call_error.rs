@@ -1,7 +1,7 @@
 use crate::{CompactError, LeaseError, LeaseId, ReadError, WriteError};
 use serde::Deserialize;
 
-/// Why a call of etcd gave nothing.
+/// Why a call of etcd failed.
 #[derive(Clone, Debug)]
 pub(super) enum CallError {
     /// No member got it.
@@ -12,7 +12,7 @@ pub(super) enum CallError {
     Refused(GrpcStatus),
 }
 
-/// What a member says where it refuses a call.
+/// The answer of a member that refuses a call.
 #[derive(Clone, Debug, Default, Deserialize)]
 #[serde(default)]
 pub(super) struct GrpcStatus {
@@ -29,7 +29,7 @@ impl GrpcStatus {
     const EXHAUSTED: u32 = 8;
     const OUT_OF_RANGE: u32 = 11;
     const UNAUTHENTICATED: u32 = 16;
-    /// Those by which any member would refuse the call.
+    /// With these codes any member would refuse the call.
     const OF_CALL: [u32; 7] = [
         GrpcStatus::INVALID,
         GrpcStatus::NOT_FOUND,
@@ -40,23 +40,23 @@ impl GrpcStatus {
         GrpcStatus::UNAUTHENTICATED,
     ];
 
-    /// Whether it says why. What comes in place of a stream doesn't, in words of its own.
+    /// Returns whether it says why. An answer in place of a stream doesn't, in its own words.
     pub(super) fn is_told(&self) -> bool {
         self.code > 0 || !self.message.is_empty()
     }
 
-    /// Whether another member may do what this one refused, as it is neither for what is asked nor for who asks: it
-    /// reaches none that leads, is a learner, or its gateway doesn't reach it.
+    /// Returns whether another member may do the call: this one reaches no leader, is a learner, or can't be reached by
+    /// its gateway. The refusal is neither about the call nor about the user.
     fn is_of_member(&self) -> bool {
         !GrpcStatus::OF_CALL.contains(&self.code) && !self.is_of_user()
     }
 
-    /// Whether there is no token of a user, or it has ended.
+    /// Returns whether the user's token is missing, or has ended.
     pub(super) fn is_of_token(&self) -> bool {
         self.code == GrpcStatus::UNAUTHENTICATED || self.message.contains("user name is empty")
     }
 
-    /// Whether what is asked for was let go already.
+    /// Returns whether the revision was compacted already.
     pub(super) fn is_of_compacted(&self) -> bool {
         self.message.contains("has been compacted")
     }
@@ -67,7 +67,7 @@ impl GrpcStatus {
             || self.message.contains("larger than max")
     }
 
-    /// Whether it is refused for who asks, or who doesn't say it.
+    /// Returns whether it is refused because of the user, or because no user is given.
     pub(super) fn is_of_user(&self) -> bool {
         matches!(self.code, GrpcStatus::DENIED | GrpcStatus::UNAUTHENTICATED)
             || self.message.contains("authentication")
@@ -76,17 +76,18 @@ impl GrpcStatus {
 }
 
 impl CallError {
-    /// That a member answers more than is held.
+    /// Returns the error that a member's answer is longer than allowed.
     pub(super) fn too_long() -> CallError {
         CallError::Unknown("etcd's answer is too long".to_owned())
     }
 
-    /// That no member answers in the time that it has.
+    /// Returns the error that no member answers in time.
     pub(super) fn late() -> CallError {
         CallError::Unknown("no member answered in time".to_owned())
     }
 
-    /// Whether another member may do it: this one got it, and doesn't answer, or refused it for itself.
+    /// Returns whether another member may do it, because this one got it and doesn't answer, or refused it for its own
+    /// reasons.
     pub(super) fn is_of_member(&self) -> bool {
         match self {
             CallError::Unreachable(_) => false,
@@ -95,12 +96,14 @@ impl CallError {
         }
     }
 
-    /// Whether another member may be asked, if that may be done twice: this one can't be reached, or it is of this one.
+    /// Returns whether another member may be asked, for a call that may be done twice: this one can't be reached, or
+    /// the reason is its own.
     pub(super) fn is_passed_over(&self) -> bool {
         matches!(self, CallError::Unreachable(_)) || self.is_of_member()
     }
 
-    /// What it means for a transaction. Only what a member refuses before it proposes it isn't made.
+    /// Returns its meaning for a transaction. A transaction surely isn't made only if a member refuses it before it
+    /// proposes it.
     pub(super) fn of_write(self) -> WriteError {
         match self {
             CallError::Unreachable(reason) => WriteError::Unavailable(reason),
@@ -118,7 +121,7 @@ impl CallError {
         }
     }
 
-    /// What it means for a reading.
+    /// Returns its meaning for a reading.
     pub(super) fn of_read(self) -> ReadError {
         match self {
             CallError::Unreachable(reason) | CallError::Unknown(reason) => {
@@ -129,7 +132,7 @@ impl CallError {
         }
     }
 
-    /// What it means where room is to be given back.
+    /// Returns its meaning for a compaction.
     pub(super) fn of_compaction(self) -> CompactError {
         match self {
             CallError::Unreachable(reason) | CallError::Unknown(reason) => {
@@ -140,7 +143,7 @@ impl CallError {
         }
     }
 
-    /// What it means for a lease.
+    /// Returns its meaning for a lease.
     pub(super) fn of_lease(self, lease: LeaseId) -> LeaseError {
         match self {
             CallError::Unreachable(reason) | CallError::Unknown(reason) => {

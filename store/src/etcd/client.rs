@@ -16,27 +16,26 @@ use std::num::NonZeroUsize;
 use std::sync::Arc;
 use std::time::Duration;
 
-/// How many keys etcd reads by one transaction.
+/// How many keys one transaction of etcd reads.
 const MOST_OPERATIONS: usize = 128;
 
-/// How many pairs are asked for at a time.
+/// How many pairs are read at a time.
 const PAGE: usize = 512;
-/// How many keys are, if their values aren't.
+/// How many keys are read at a time, without values.
 const KEYS: usize = 8_192;
 
-/// The client of etcd by which a store on it asks its members. It decides which member is asked, how long, and how
-/// often; it has no threads, no sockets and no clock of its own, so whoever gives it an [`Environment`] and polls it
-/// can simulate it.
+/// The etcd client of a store. It decides which member is asked, how long, and how often. It has no threads, no sockets
+/// and no clock. So a caller that gives it an [`Environment`] and polls it can simulate it.
 ///
-/// Each call is as the one of [`Store`](crate::Store) by its name.
+/// Each call is like the call of [`Store`](crate::Store) with its name.
 #[derive(Clone)]
 pub struct EtcdClient {
     gateway: Arc<Gateway>,
 }
 
 impl EtcdClient {
-    /// Returns a client of so many members, which waits so long for an answer. The user is a name and a password, if
-    /// etcd asks for them.
+    /// Makes a client of so many members, which waits so long for an answer. The user is a name and a password, if etcd
+    /// asks for them.
     pub fn new(
         environment: Arc<dyn Environment>,
         members: NonZeroUsize,
@@ -53,7 +52,7 @@ impl EtcdClient {
     ///
     /// # Errors
     ///
-    /// As [`WriteError`] says. Only after [`WriteError::Unknown`] may it have been made, and after [`WriteError::Full`]
+    /// As [`WriteError`] says. It may have been made only after [`WriteError::Unknown`], and after [`WriteError::Full`]
     /// if it made a new key that was deleted before the client could look.
     pub async fn make(&self, transaction: &Transaction) -> Result<Outcome, WriteError> {
         let request = TransactionRequest::of(transaction);
@@ -81,7 +80,7 @@ impl EtcdClient {
         read(&self.gateway, keys).await
     }
 
-    /// Reads all keys that begin so.
+    /// Reads all keys with this prefix.
     ///
     /// # Errors
     ///
@@ -90,7 +89,7 @@ impl EtcdClient {
         read_all(&self.gateway, prefix).await
     }
 
-    /// Reads the first keys from this one on and before that end, so many at most.
+    /// Reads the first keys from this one on and before that end, at most so many.
     ///
     /// # Errors
     ///
@@ -104,7 +103,7 @@ impl EtcdClient {
         read_range(&self.gateway, &RangeRequest::part(from, end, most)).await
     }
 
-    /// Reads which keys there are from this one on and before that end.
+    /// Lists the keys from this one on and before that end.
     ///
     /// # Errors
     ///
@@ -113,12 +112,12 @@ impl EtcdClient {
         read_keys(&self.gateway, from.to_vec(), end).await
     }
 
-    /// Tells this reading of all keys that begin so, and then each change after it. It goes on until it is dropped.
+    /// Tells this reading of all keys with this prefix, and then each change after it. It goes on until it is dropped.
     pub async fn watch(self, prefix: Vec<u8>, reading: Reading, watcher: Watcher) {
         watch_loop::watch(self.gateway, prefix, reading, watcher).await;
     }
 
-    /// Gives a lease of this length.
+    /// Grants a lease of this length.
     ///
     /// # Errors
     ///
@@ -156,7 +155,7 @@ impl EtcdClient {
         ended.await.map(drop).map_err(|it| it.of_lease(lease))
     }
 
-    /// Lets go what was deleted or written over.
+    /// Discards old revisions of deleted and overwritten keys.
     ///
     /// # Errors
     ///
@@ -172,9 +171,9 @@ impl fmt::Debug for EtcdClient {
     }
 }
 
-/// Whether a transaction wasn't made that was refused for want of room: etcd may make one that takes the last of it,
-/// and still refuse it. If a key that it compares and writes is as it was, it wasn't made. A new key may also have been
-/// made and deleted since, which the client can't see.
+/// Returns whether a transaction wasn't made that was refused for lack of room. etcd may make a transaction that takes
+/// the last room, and still refuse it. If a key that it compares and writes is as it was, it wasn't made. A new key may
+/// also have been made and deleted since, which the client can't see.
 async fn is_unmade(gateway: &Gateway, transaction: &Transaction) -> bool {
     let is_written = |key: &[u8]| transaction.puts.iter().any(|it| it.key == key);
     let Some(compared) = transaction.compares.iter().find(|it| is_written(&it.key)) else {
@@ -187,7 +186,7 @@ async fn is_unmade(gateway: &Gateway, transaction: &Transaction) -> bool {
     })
 }
 
-/// Reads these keys at one moment: that of the first transaction, at which later ones read too.
+/// Reads these keys at one moment: the first transaction's, at which later ones read, too.
 async fn read(gateway: &Gateway, keys: &[Vec<u8>]) -> Result<Reading, ReadError> {
     let mut found = Reading::default();
     let none: &[Vec<u8>] = &[];
@@ -208,7 +207,7 @@ async fn read(gateway: &Gateway, keys: &[Vec<u8>]) -> Result<Reading, ReadError>
     Ok(found)
 }
 
-/// Reads all keys that begin so, page by page, at the moment of the first page.
+/// Reads all keys with this prefix, page by page, at the moment of the first page.
 pub(super) async fn read_all(gateway: &Gateway, prefix: &[u8]) -> Result<Reading, ReadError> {
     let mut found = Reading::default();
     let mut from = prefix.to_vec();
@@ -240,7 +239,7 @@ async fn read_range(gateway: &Gateway, asked: &RangeRequest) -> Result<Reading, 
     })
 }
 
-/// Reads which keys there are in this range, page by page.
+/// Lists the keys in this range, page by page.
 async fn read_keys(
     gateway: &Gateway,
     mut from: Vec<u8>,
@@ -262,8 +261,7 @@ async fn read_keys(
     }
 }
 
-/// Lets go what isn't there any more, has each member give its room back, and ends the alarms of a quota that was
-/// reached.
+/// Discards old revisions, has each member return its room, and ends the alarms of a full quota.
 async fn compact(gateway: &Gateway) -> Result<(), CompactError> {
     let moment = read(gateway, &[]).await.map_err(CompactError::from)?;
     let asked = Compaction::up_to(moment.revision);
@@ -271,7 +269,7 @@ async fn compact(gateway: &Gateway) -> Result<(), CompactError> {
         .once::<IgnoredAny>("/v3/kv/compaction", &asked)
         .await;
     match found {
-        // Somebody else has done it.
+        // Somebody else has compacted it.
         Err(CallError::Refused(it)) if it.is_of_compacted() => {}
         found => drop(found.map_err(CallError::of_compaction)?),
     }

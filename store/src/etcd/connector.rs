@@ -13,21 +13,21 @@ use tokio::net::TcpStream;
 use tokio::time::timeout;
 use tokio_openssl::SslStream;
 
-/// Why a member isn't reached.
+/// Why a member can't be reached.
 pub(super) type Unreached = Box<dyn Error + Send + Sync>;
 
-/// Makes connections to members, by TLS if their addresses say so.
+/// Makes connections to members, with TLS if their addresses say so.
 #[derive(Clone)]
 pub(super) struct Connector {
     plain: HttpConnector,
-    /// How to speak TLS, if an address asks for it.
+    /// The TLS configuration, if an address asks for it.
     tls: Option<Tls>,
     /// How long the handshake may take.
     patience: Duration,
 }
 
 impl Connector {
-    /// Gives a member this time to be reached, and the same again for the handshake.
+    /// Makes a connector that waits this long for a connection, and as long again for the handshake.
     pub(super) fn new(tls: Option<Tls>, patience: Duration) -> Connector {
         let mut plain = HttpConnector::new();
         plain.enforce_http(false);
@@ -66,7 +66,7 @@ impl Service<Uri> for Connector {
     }
 }
 
-/// Does the handshake with the member of this name or address.
+/// Does the handshake with the member that has this name or address.
 async fn met(tls: &Tls, host: &str, socket: TcpStream) -> Result<MemberConnection, Unreached> {
     let mut stream = SslStream::new(tls.session(host)?, socket)?;
     Pin::new(&mut stream).connect().await?;

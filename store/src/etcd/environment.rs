@@ -1,16 +1,16 @@
-//! What the client of etcd needs around it: members that answer calls, and time.
+//! The environment of the etcd client: members that answer calls, and time.
 use std::fmt;
 use std::future::Future;
 use std::pin::Pin;
 use std::time::Instant;
 use thiserror::Error;
 
-/// What comes later.
+/// A result that comes later.
 pub type Later<'a, T> = Pin<Box<dyn Future<Output = T> + Send + 'a>>;
 
-/// Calls members of etcd, and tells the time. A program calls them by sockets; a simulation by what it has.
+/// Calls members of etcd, and tells the time. A program does that with sockets, and a simulation without.
 pub trait Environment: Send + Sync + 'static {
-    /// Posts a call to a member. The call may be dropped before it is answered; the member may still have done it.
+    /// Sends a call to a member. The call may be dropped before it is answered. The member may still have done it.
     fn call(&self, call: MemberCall) -> Later<'static, Result<MemberAnswer, NoAnswer>>;
 
     /// Returns this moment.
@@ -23,20 +23,20 @@ pub trait Environment: Send + Sync + 'static {
 /// A call of a member's JSON gateway.
 #[derive(Clone)]
 pub struct MemberCall {
-    /// Which of the members is called, from 0 on.
+    /// The number of the member that is called, from 0 on.
     pub member: usize,
-    /// The path of the call, as `/v3/kv/txn`.
+    /// The path of the call, for instance `/v3/kv/txn`.
     pub path: &'static str,
     /// The token of a user, if one is needed.
     pub token: Option<String>,
-    /// Whether the member is to end the stream that it answers by once it reaches none that leads.
+    /// Whether the member must end its answer, a stream, once it reaches no leader.
     pub needs_leader: bool,
-    /// What is asked, in JSON.
+    /// The request, in JSON.
     pub asked: Vec<u8>,
 }
 
 impl fmt::Debug for MemberCall {
-    /// Without the token, and without what is asked, which may hold a password.
+    /// Shows neither the token nor the request, which may contain a password.
     fn fmt(&self, f: &mut fmt::Formatter<'_>) -> fmt::Result {
         f.debug_struct("MemberCall")
             .field("member", &self.member)
@@ -46,16 +46,16 @@ impl fmt::Debug for MemberCall {
     }
 }
 
-/// What a member answers.
+/// The answer of a member.
 pub struct MemberAnswer {
-    /// The status of HTTP.
+    /// The HTTP status.
     pub status: u16,
     /// The bytes of the answer, which may be a stream.
     pub body: Box<dyn AnswerBody>,
 }
 
 impl MemberAnswer {
-    /// Returns whether the member did what was asked.
+    /// Returns whether the member did the call.
     pub(super) fn is_success(&self) -> bool {
         (200..300).contains(&self.status)
     }
@@ -67,7 +67,7 @@ pub trait AnswerBody: Send {
     fn append_next<'a>(&'a mut self, held: &'a mut Vec<u8>) -> Later<'a, Result<bool, NoAnswer>>;
 }
 
-/// Why a member gives no answer.
+/// Why a member doesn't answer.
 #[derive(Clone, Debug, Error)]
 pub enum NoAnswer {
     /// It didn't get the call.

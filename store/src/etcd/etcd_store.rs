@@ -7,24 +7,24 @@ use std::fmt;
 use std::sync::Arc;
 use std::time::Duration;
 
-/// A store on etcd, of version 3.4 or later.
+/// A store in etcd, of version 3.4 or later.
 ///
-/// A member that can't be reached, or refuses a call for itself, is passed over for the next one. A transaction that a
+/// If a member can't be reached, or refuses a call for its own reasons, the next one is asked. A transaction that a
 /// member may have got is never sent again: its outcome is then [`WriteError::Unknown`](crate::WriteError::Unknown).
 pub struct Etcd {
-    /// Watches have it too, so that they go on without the store.
+    /// Watches share it, so that they go on without the store.
     caller: Arc<MemberCaller>,
-    /// Who grants, keeps and ends leases: whoever is told of something by the other one may hold that one up for longer
-    /// than a lease.
+    /// Grants, keeps and ends leases. It is separate because a slow callback on the other one may delay that one longer
+    /// than a lease lasts.
     keeper: MemberCaller,
 }
 
 impl Etcd {
-    /// One on these members; none is asked yet.
+    /// Makes a store in these members. None is asked yet.
     ///
     /// # Errors
     ///
-    /// If an address can't be read, a file of certificates can't be used, or the system gives no thread.
+    /// If an address is malformed, a file of certificates can't be used, or the system refuses a thread.
     pub fn new(access: Access) -> Result<Etcd, StartError> {
         let keeper = MemberCaller::new("leases", access.clone())?;
         let caller = Arc::new(MemberCaller::new("etcd", access)?);

@@ -11,31 +11,31 @@ use std::sync::atomic::{AtomicUsize, Ordering};
 use std::sync::{Arc, Mutex, MutexGuard, PoisonError};
 use std::time::{Duration, Instant};
 
-/// Where keys are read.
+/// The path of readings.
 pub(super) const RANGE: &str = "/v3/kv/range";
-/// Where changes are told, bit by bit.
+/// The path of watches, which tell changes as a stream.
 const WATCH: &str = "/v3/watch";
-/// How long a member may take for what it does to all that it has.
+/// How long a member may take to do something to all of its data.
 const LONG: Duration = Duration::from_secs(30);
-/// How long a member may take to begin a watch, and to say that it is well: members without a leader elect one in less,
-/// mostly.
+/// How long a member may take to begin a watch, and to answer whether it is well. Members without a leader mostly elect
+/// one in less time.
 const SHORT: Duration = Duration::from_secs(2);
-/// How long a member may take to keep a lease before another one is asked beside it.
+/// How long a member may take to keep a lease before another one is also asked.
 const BRIEF: Duration = Duration::from_secs(1);
-/// How many calls of a member may be under way at once, and how often it is asked at once where all fail.
+/// The most calls of a member at the same time, and how often it is asked without a pause if all fail.
 const BESIDE: usize = 2;
-/// The gateways of the members: a call goes to the member that answered last, and to the next where it can't be
+/// The gateways of the members. A call goes to the member that answered last, and to the next one if that can't be
 /// reached.
 pub(super) struct Gateway {
     environment: Arc<dyn Environment>,
     members: usize,
-    /// How long an answer is waited for.
+    /// How long to wait for an answer.
     patience: Duration,
     /// The user's name and password, if etcd asks for them.
     user: Option<(String, String)>,
     current: AtomicUsize,
     token: Mutex<Option<String>>,
-    /// One of each member.
+    /// One for each member.
     pulses: Vec<Pulse>,
 }
 
@@ -51,7 +51,7 @@ struct Authenticated {
 }
 
 impl Gateway {
-    /// Calls so many members, of which there is one at least.
+    /// Makes the gateways of so many members, at least one.
     pub(super) fn new(
         environment: Arc<dyn Environment>,
         members: usize,
@@ -69,7 +69,7 @@ impl Gateway {
         }
     }
 
-    /// This moment.
+    /// Returns this moment.
     fn now(&self) -> Instant {
         self.environment.now()
     }
@@ -79,7 +79,7 @@ impl Gateway {
         self.environment.wait_until(self.now() + time).await;
     }
 
-    /// What the call gives, if it does so in that time.
+    /// Returns the result of the call, if it comes within that time.
     async fn within<T>(
         &self,
         patience: Duration,
@@ -88,7 +88,7 @@ impl Gateway {
         self.until(self.now() + patience, call).await
     }
 
-    /// What the call gives, if it does so until then.
+    /// Returns the result of the call, if it comes by then.
     async fn until<T>(
         &self,
         end: Instant,
@@ -98,7 +98,7 @@ impl Gateway {
         found.unwrap_or_else(|| Err(CallError::late()))
     }
 
-    /// Calls a member, and no other where the first may have got the call.
+    /// Calls a member. If the first one may have got the call, no other is called.
     pub(super) async fn once<T: DeserializeOwned>(
         &self,
         path: &'static str,
@@ -108,8 +108,8 @@ impl Gateway {
         self.reach(self.patience, &call).await
     }
 
-    /// Calls a member, and where it doesn't answer, or refuses for itself, the others in turn: for what may be done
-    /// twice.
+    /// Calls a member. If it doesn't answer, or refuses for its own reasons, calls the others in turn. So the call must
+    /// be one that may be done twice.
     pub(super) async fn again<T: DeserializeOwned>(
         &self,
         path: &'static str,
@@ -119,8 +119,8 @@ impl Gateway {
         self.in_turn(self.patience, &call).await
     }
 
-    /// Calls each member that can be reached, one after another, for what may take minutes; where one fails, none after
-    /// it.
+    /// Calls each member that can be reached, one after another. Each may take minutes. After a failure, none is
+    /// called.
     pub(super) async fn each<T: DeserializeOwned>(
         &self,
         path: &'static str,
@@ -135,8 +135,8 @@ impl Gateway {
         Ok(())
     }
 
-    /// Calls a member that answers by a stream, and takes the first that it gives; where it gives none soon, others
-    /// beside it too: for what may be done twice.
+    /// Calls a member that answers with a stream, and returns the stream's first element. If none comes soon, also asks
+    /// other members. So the call must be one that may be done twice.
     pub(super) async fn first<T: DeserializeOwned>(
         &self,
         path: &'static str,
@@ -146,7 +146,7 @@ impl Gateway {
         self.within(self.patience, self.beside(call)).await
     }
 
-    /// Has this member, and no other, tell changes by a stream, which it begins soon or not at all.
+    /// Makes this member, and no other, tell changes as a stream. The stream begins soon or not at all.
     pub(super) async fn watch(
         &self,
         member: usize,
@@ -156,15 +156,15 @@ impl Gateway {
         Ok(LineStream::new(found.body))
     }
 
-    /// Whether this member, and no other for it, answers the next question after a key: it has to ask most members, so
-    /// one that reaches no leader, or whose disk hangs, is found too.
+    /// Returns whether this member itself, and no other for it, can read the revision of a key. For that it must ask a
+    /// majority of members, so a member is also found out that reaches no leader, or whose disk hangs.
     pub(super) async fn is_well(&self, member: usize, key: &[u8]) -> bool {
         let question = async {
             let asked = RangeRequest::counting(key);
             let found = self.ask::<IgnoredAny>(member, RANGE, &asked);
             match self.within(SHORT, found).await {
                 Ok(_) => true,
-                // To whom it isn't shown it is refused after the others were asked.
+                // If the user may not see the key, the refusal comes after the others were asked.
                 Err(CallError::Refused(it)) => it.is_of_user(),
                 Err(_) => false,
             }
@@ -174,8 +174,8 @@ impl Gateway {
             .await
     }
 
-    /// Has a member do this, and where it doesn't answer, or refuses for itself, the others in turn, with this patience
-    /// for each.
+    /// Makes a member do this. If it doesn't answer, or refuses for its own reasons, the others do it in turn, each
+    /// with this patience.
     async fn in_turn<T, F: Future<Output = Result<T, CallError>>>(
         &self,
         patience: Duration,
@@ -191,11 +191,11 @@ impl Gateway {
         }
     }
 
-    /// Has a member do this; another one at once if it fails, and one more, beside those that are slow, each `BRIEF`
-    /// until one has done it.
+    /// Makes a member do this. If it fails, another one does it at once. If it is slow, one more is also asked each
+    /// `BRIEF`, until one has done it.
     ///
-    /// A call that is slow goes on, as all may be. Its member is asked once more beside it, as the call may wait for a
-    /// leader that hangs though the member knows another one by now.
+    /// A slow call goes on, because all may be slow. Its member is asked once more, because the call may wait for a
+    /// leader that hangs although the member knows another leader by now.
     async fn beside<T, F>(&self, call: impl Fn(usize) -> F) -> Result<T, CallError>
     where
         F: Future<Output = Result<T, CallError>>,
@@ -228,8 +228,8 @@ impl Gateway {
         }
     }
 
-    /// Has the first member that can be reached do this, with this patience for the search too. The next call goes to
-    /// another one where it doesn't answer, or refuses for itself.
+    /// Makes the first member that can be reached do this, with this patience also for the search. If that member
+    /// doesn't answer, or refuses for its own reasons, the next call goes to another one.
     async fn reach<T, F: Future<Output = Result<T, CallError>>>(
         &self,
         patience: Duration,
@@ -252,7 +252,7 @@ impl Gateway {
         Err(CallError::Unreachable(last))
     }
 
-    /// The first that this member's stream gives.
+    /// Returns the first element of this member's stream.
     async fn first_of<T: DeserializeOwned>(
         &self,
         member: usize,
@@ -265,7 +265,7 @@ impl Gateway {
         told.result.ok_or_else(error)
     }
 
-    /// Asks this member, and no other.
+    /// Asks only this member.
     async fn ask<T: DeserializeOwned>(
         &self,
         member: usize,
@@ -275,7 +275,7 @@ impl Gateway {
         read(&whole(self.send(member, path, asked).await?).await?)
     }
 
-    /// Sends a member a call with the user's token, with a new one where that has ended.
+    /// Sends a member a call with the user's token. If the token has ended, gets a new one.
     async fn send(
         &self,
         member: usize,
@@ -309,21 +309,21 @@ impl Gateway {
         self.token.lock().unwrap_or_else(PoisonError::into_inner)
     }
 
-    /// The member that the next call goes to.
+    /// Returns the member to which the next call goes.
     pub(super) fn current(&self) -> usize {
         self.current.load(Ordering::Relaxed)
     }
 
-    /// Has the next call go to another member than this one.
+    /// Makes the next call go to another member than this one.
     pub(super) fn pass_over(&self, member: usize) {
         let next = (member + 1) % self.members;
-        // Where another call has passed it over already, nothing is to do.
+        // If another call has already done that, there is nothing to do.
         let _ = self
             .current
             .compare_exchange(member, next, Ordering::Relaxed, Ordering::Relaxed);
     }
 
-    /// Posts to this member.
+    /// Posts the call to this member.
     async fn post(
         &self,
         member: usize,
@@ -354,14 +354,14 @@ impl From<NoAnswer> for CallError {
     }
 }
 
-/// The first member, of those from this one on, that may have another call beside those that are under way.
+/// Returns the first member, from this one on, that may have another call beside those under way.
 fn with_room(under_way: &[usize], from: usize) -> Option<usize> {
     let members = (from..).map(|it| it % under_way.len());
     let mut members = members.take(under_way.len());
     members.find(|it| under_way[*it] < BESIDE)
 }
 
-/// All that a member answers, which is no more than it may be.
+/// Returns the whole answer of a member. It must not be longer than allowed.
 async fn whole(found: MemberAnswer) -> Result<Vec<u8>, CallError> {
     let (mut body, mut held) = (found.body, Vec::new());
     while body.append_next(&mut held).await.map_err(broken)? {
@@ -372,7 +372,7 @@ async fn whole(found: MemberAnswer) -> Result<Vec<u8>, CallError> {
     Ok(held)
 }
 
-/// What it means that an answer doesn't come to its end.
+/// Returns the error of an answer that doesn't reach its end.
 fn broken(error: NoAnswer) -> CallError {
     CallError::Unknown(error.to_string())
 }
@@ -382,7 +382,7 @@ fn read<T: DeserializeOwned>(bytes: &[u8]) -> Result<T, CallError> {
         .map_err(|error| CallError::Unknown(format!("etcd's answer can't be read: {error}")))
 }
 
-/// What a member says that refuses a call.
+/// Returns the answer of a member that refuses a call.
 async fn refusal(found: MemberAnswer) -> CallError {
     let status = found.status;
     match whole(found)

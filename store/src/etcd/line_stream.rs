@@ -2,15 +2,14 @@ use super::call_error::CallError;
 use super::environment::AnswerBody;
 use serde::de::DeserializeOwned;
 
-/// How many bytes of an answer are held, of a stream between two ends of lines: a gateway takes no more from its
-/// member.
+/// The most bytes of an answer, or between two line feeds of a stream. A gateway takes no more from its member.
 pub(super) const LONGEST: usize = 1 << 31;
 
-/// What a member answers bit by bit, a line each.
+/// A member's stream, one element in a line.
 pub(super) struct LineStream {
     body: Box<dyn AnswerBody>,
     held: Vec<u8>,
-    /// How many of them are of no line's end.
+    /// How many of them were searched for a line feed.
     seen: usize,
 }
 
@@ -23,7 +22,7 @@ impl LineStream {
         }
     }
 
-    /// The next line, read.
+    /// Returns the next line, parsed.
     pub(super) async fn next<T: DeserializeOwned>(&mut self) -> Result<T, CallError> {
         let unknown = |error: String| CallError::Unknown(error);
         loop {

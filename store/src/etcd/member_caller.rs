@@ -8,11 +8,11 @@ use std::sync::Arc;
 use tokio::runtime::{Builder, Handle, Runtime};
 use tokio::task::JoinHandle;
 
-/// Who calls members: a thread, and connections that it has alone.
+/// Calls members, with its own thread and its own connections.
 pub(super) struct MemberCaller {
     client: EtcdClient,
     handle: Handle,
-    /// There until the end.
+    /// It is there until the end.
     runtime: Option<Runtime>,
 }
 
@@ -43,14 +43,14 @@ impl MemberCaller {
         self.handle.spawn(work)
     }
 
-    /// Runs this on the thread, and waits for what it gives; none where that has ended.
+    /// Runs this on the thread, and waits for its result. Returns nothing if the thread has ended.
     pub(super) fn wait_for<A: Send + 'static>(
         &self,
         work: impl Future<Output = A> + Send + 'static,
     ) -> Option<A> {
         let (tell, told) = mpsc::sync_channel(1);
         self.spawn(async move {
-            // Who asked waits until it is told.
+            // The caller waits for it.
             let _ = tell.send(work.await);
         });
         told.recv().ok()
@@ -59,7 +59,7 @@ impl MemberCaller {
 
 impl Drop for MemberCaller {
     fn drop(&mut self) {
-        // What the thread tells may have the store last, and a thread can't wait for itself.
+        // A callback on the thread may be the last owner of the store, and a thread can't join itself.
         if let Some(runtime) = self.runtime.take() {
             runtime.shutdown_background();
         }

@@ -1,7 +1,7 @@
-//! A store on the members of a cluster of etcd, reached by their JSON gateway.
+//! A store in the members of an etcd cluster, which are reached through their JSON gateways.
 //!
-//! The client decides which member is asked, how long, and how often; it gets the time and calls members by an
-//! [`Environment`]. `sockets` has the connections, and `member_caller` the threads, of a store on etcd.
+//! The client decides which member is asked, how long, and how often. It gets the time from an [`Environment`], through
+//! which it also calls members. `sockets` has the connections, and `member_caller` the threads, of a store in etcd.
 #[cfg(feature = "etcd")]
 mod access;
 mod call_error;

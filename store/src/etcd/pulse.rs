@@ -3,17 +3,17 @@ use std::future::Future;
 use std::time::{Duration, Instant};
 use tokio::sync::Mutex;
 
-/// How long a stream is silent before its member is asked whether it is well, and how long after that again.
+/// How long a stream is silent before its member is asked whether it is well, and the pause before it is asked again.
 pub(super) const QUIET: Duration = Duration::from_secs(1);
 
-/// Whether a member answered when it was asked last, and when that was: for all who follow it, so that many cost it no
+/// Whether a member answered the last question, and when. All watches of the member share it, so that many cost it no
 /// more than one.
 #[derive(Default)]
 pub(super) struct Pulse(Mutex<Option<(Instant, bool)>>);
 
 impl Pulse {
-    /// Whether the member answers this question, which is asked a while after the one before; where it didn't answer
-    /// that just now, this isn't asked.
+    /// Returns whether the member answers this question. It is asked some time after the last one. If the member just
+    /// didn't answer that, this one isn't asked.
     pub(super) async fn is_felt(
         &self,
         environment: &dyn Environment,

@@ -1,9 +1,9 @@
-//! Which of several futures comes first, by no runtime.
+//! Finds out which of several futures ends first, without a runtime.
 use std::future::{poll_fn, Future};
 use std::pin::{pin, Pin};
 use std::task::Poll;
 
-/// What this gives, unless that has come to its end before.
+/// Returns the result of this, unless the other one has ended before.
 pub(super) async fn before<T>(
     gives: impl Future<Output = T>,
     end: impl Future<Output = ()>,
@@ -16,7 +16,7 @@ pub(super) async fn before<T>(
     .await
 }
 
-/// Calls of members that go on beside each other.
+/// Calls of members that go on at the same time.
 pub(super) struct Calls<F>(Vec<(usize, Pin<Box<F>>)>);
 
 impl<F: Future> Calls<F> {
@@ -29,7 +29,7 @@ impl<F: Future> Calls<F> {
         self.0.push((member, Box::pin(call)));
     }
 
-    /// Waits for the first that comes to its end, and takes it out; none if no call goes on.
+    /// Waits for the first call that ends, and takes it out. Returns nothing if no call goes on.
     pub(super) async fn next(&mut self) -> Option<(usize, F::Output)> {
         poll_fn(|context| {
             let mut ended =

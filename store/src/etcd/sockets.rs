@@ -1,4 +1,4 @@
-//! The connections to members. Only here are they called, and does the client of a store wait for time to pass.
+//! The connections to members. Only here are members called, and only here does a store's client wait for time to pass.
 use super::connector::Connector;
 use super::environment::{AnswerBody, Environment, Later, MemberAnswer, MemberCall, NoAnswer};
 use super::{Access, StartError};
@@ -7,9 +7,9 @@ use hyper::{header, Body, Client, Request};
 use std::time::{Duration, Instant};
 use tokio::time::sleep_until;
 
-/// How long a member may take to be reached, and then for the handshake of TLS.
+/// How long a member may take to be connected, and then to do the TLS handshake.
 const REACH: Duration = Duration::from_secs(1);
-/// What has a member end a stream once it reaches none that leads.
+/// The header that makes a member end a stream once it reaches no leader.
 const HAS_LEADER: (&str, &str) = ("Grpc-Metadata-hasleader", "true");
 
 /// The connections to the members of an etcd.
@@ -48,6 +48,7 @@ impl Sockets {
 
 impl Environment for Sockets {
     fn call(&self, call: MemberCall) -> Later<'static, Result<MemberAnswer, NoAnswer>> {
+        let member = self.members[call.member].clone();
         let asked = self.request(call).map(|it| self.client.request(it));
         Box::pin(async move {
             match asked?.await {
@@ -55,8 +56,10 @@ impl Environment for Sockets {
                     status: found.status().as_u16(),
                     body: Box::new(found.into_body()),
                 }),
-                Err(error) if error.is_connect() => Err(NoAnswer::Unreachable(error.to_string())),
-                Err(error) => Err(NoAnswer::Broken(error.to_string())),
+                Err(error) if error.is_connect() => {
+                    Err(NoAnswer::Unreachable(format!("{member}: {error}")))
+                }
+                Err(error) => Err(NoAnswer::Broken(format!("{member}: {error}"))),
             }
         })
     }

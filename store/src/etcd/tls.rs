@@ -11,21 +11,21 @@ use std::fs;
 use std::net::IpAddr;
 use std::path::{Path, PathBuf};
 
-/// Where Debian's package of certificates puts them.
+/// The path of the certificates in Debian's package.
 const OF_SYSTEM: &str = "/etc/ssl/certs/ca-certificates.crt";
 /// How many authorities may stand between a member's certificate and a trusted one.
 const MOST_BETWEEN: u32 = 3;
-/// The suites of TLS 1.2: all have forward secrecy, and none has a group that the other side makes up.
+/// The cipher suites of TLS 1.2. All have forward secrecy, and none has a group that the other side makes up.
 const SUITES: &str = "ECDHE+AESGCM:ECDHE+CHACHA20:@SECLEVEL=2";
-/// What the first line of a key of any kind contains.
+/// The first line of a key of any kind contains this.
 const KEY: &str = "PRIVATE KEY-----";
 
-/// Whom to trust, and who this client is.
+/// The trusted authorities, and this client's identity.
 #[derive(Clone)]
 pub(super) struct Tls(SslConnector);
 
 impl Tls {
-    /// Trusts the authorities in this file, or the system's if no file is named.
+    /// Makes the configuration that trusts the authorities in this file, or the system's if no file is named.
     pub(super) fn new(
         roots: Option<&Path>,
         identity: Option<&(PathBuf, PathBuf)>,
@@ -41,9 +41,9 @@ impl Tls {
         Ok(Tls(builder.build()))
     }
 
-    /// Begins a connection to the member of this name or address, for which it must show a certificate.
+    /// Begins a connection to the member with this name or address, for which it must show a certificate.
     pub(super) fn session(&self, host: &str) -> Result<Ssl, ErrorStack> {
-        // In a URL an address may stand in brackets.
+        // In a URL an address may be in brackets.
         let host = host.trim_matches(['[', ']']);
         let is_name = host.parse::<IpAddr>().is_err();
         let asked = self.0.configure()?.use_server_name_indication(is_name);
@@ -55,7 +55,7 @@ impl Tls {
     }
 }
 
-/// TLS 1.2 and 1.3 without resumption and renegotiation. It trusts nobody yet.
+/// Returns a builder for TLS 1.2 and 1.3 without resumption and renegotiation. It trusts nobody yet.
 fn builder() -> Result<SslConnectorBuilder, ErrorStack> {
     let mut builder = SslConnector::builder(SslMethod::tls_client())?;
     builder.set_min_proto_version(Some(SslVersion::TLS1_2))?;
@@ -78,7 +78,7 @@ fn store(certificates: &[X509]) -> Result<X509Store, ErrorStack> {
     Ok(store.build())
 }
 
-/// Has this client show its certificate, if the key belongs to it.
+/// Makes this client show its certificate, if the key belongs to it.
 fn show(
     builder: &mut SslConnectorBuilder,
     chain: &[X509],
@@ -110,7 +110,7 @@ fn certificates(file: &Path) -> Result<Vec<X509>, StartError> {
     }
 }
 
-/// The first key of the file. A key with a password is refused.
+/// Returns the first key of the file. A key with a password is refused.
 fn private_key(file: &Path) -> Result<PKey<Private>, StartError> {
     let bytes = read(file)?;
     if !String::from_utf8_lossy(&bytes).contains(KEY) {

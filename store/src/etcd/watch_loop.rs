@@ -7,18 +7,18 @@ use crate::{KeyChange, Reading, Revision, Seen, Watcher};
 use std::sync::Arc;
 use std::time::Duration;
 
-/// How long is waited before a watch that ended is asked for again.
+/// The pause before a watch that ended is asked for again.
 const PAUSE: Duration = Duration::from_millis(100);
 
-/// Why a watch has to be asked for again.
+/// Why a watch must be asked for again.
 enum Ended {
     /// The member doesn't answer any more.
     Lost,
-    /// What came after the moment is forgotten.
+    /// The changes after the moment were compacted.
     Forgotten,
 }
 
-/// Tells what was read, and then each change after it, as long as it is let.
+/// Tells the reading, and then each change after it, as long as it may.
 pub(super) async fn watch(
     gateway: Arc<Gateway>,
     prefix: Vec<u8>,
@@ -41,7 +41,7 @@ pub(super) async fn watch(
     }
 }
 
-/// Follows this member from this moment on, until it ends.
+/// Follows this member from this moment on, until its stream ends.
 async fn follow(
     gateway: &Gateway,
     member: usize,
@@ -74,7 +74,8 @@ async fn follow(
     }
 }
 
-/// Waits until a member whose stream is silent isn't well: one that hangs with its connection open ends no stream.
+/// Waits until a member with a silent stream isn't well, because a member that hangs with its connection open ends no
+/// stream.
 async fn until_lost(gateway: &Gateway, member: usize, key: &[u8]) {
     gateway.wait(QUIET).await;
     while gateway.is_well(member, key).await {}

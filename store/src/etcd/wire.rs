@@ -1,4 +1,4 @@
-//! What crosses to etcd's gateway and back: JSON with keys and values in base64, and numbers as texts.
+//! The messages of etcd's gateway: JSON with keys and values in base64, and numbers as texts.
 use crate::{LeaseId, Outcome, Pair, Reading, Revision, Transaction};
 use serde::{Deserialize, Deserializer, Serialize, Serializer};
 use std::time::Duration;
@@ -41,7 +41,7 @@ mod number {
     }
 }
 
-/// A revision that has to be the same: each field costs etcd time, so what is usual isn't said, here and below.
+/// A revision that must be the same. Each field costs etcd time, so default values are left out, here and below.
 #[derive(Serialize)]
 struct Compared {
     #[serde(with = "bytes")]
@@ -73,7 +73,7 @@ enum Operation {
 }
 
 impl Operation {
-    /// Reads a key at this moment; at the present where it is `NEVER`.
+    /// Reads a key at this moment, or at the present if it is `NEVER`.
     fn read(key: &[u8], moment: Revision) -> Operation {
         Operation::Read(RangeRequest {
             revision: moment.0,
@@ -81,14 +81,14 @@ impl Operation {
         })
     }
 
-    /// Has a member ask who leads before it answers: it answers a transaction that only compares by what it has itself,
-    /// which may be behind what others were told.
+    /// Makes a member ask the leader before it answers. Otherwise it answers a transaction that only compares from its
+    /// own data, which may be out of date compared with others.
     fn ask(key: &[u8]) -> Operation {
         Operation::Read(RangeRequest::counting(key))
     }
 }
 
-/// A range of keys: one, or all up to an end.
+/// A range of keys: one key, or all up to an end.
 #[derive(Default, Serialize)]
 pub(super) struct RangeRequest {
     #[serde(with = "bytes")]
@@ -106,7 +106,7 @@ pub(super) struct RangeRequest {
 }
 
 impl RangeRequest {
-    /// Whether this key is there, at the present.
+    /// Returns the request whether this key is there, at the present.
     pub(super) fn counting(key: &[u8]) -> RangeRequest {
         RangeRequest {
             count_only: true,
@@ -114,7 +114,8 @@ impl RangeRequest {
         }
     }
 
-    /// The first keys from this one on and before that end, at the present, and not what lies there.
+    /// Returns the request for the first keys from this one on and before that end, at the present, without their
+    /// values.
     pub(super) fn keys(from: &[u8], end: &[u8], limit: usize) -> RangeRequest {
         RangeRequest {
             keys_only: true,
@@ -122,7 +123,7 @@ impl RangeRequest {
         }
     }
 
-    /// The first keys from this one on and before that end, at the present.
+    /// Returns the request for the first pairs from this key on and before that end, at the present.
     pub(super) fn part(from: &[u8], end: &[u8], limit: usize) -> RangeRequest {
         RangeRequest {
             key: from.to_vec(),
@@ -133,7 +134,7 @@ impl RangeRequest {
         }
     }
 
-    /// Keys from this one on that begin so.
+    /// Returns the request for pairs from this key on with this prefix.
     pub(super) fn page(from: &[u8], prefix: &[u8], limit: usize, moment: Revision) -> RangeRequest {
         RangeRequest {
             key: from.to_vec(),
@@ -145,7 +146,7 @@ impl RangeRequest {
     }
 }
 
-/// The first key after all that begin so; for etcd, a zero where there is none.
+/// Returns the first key after all with this prefix. If there is none, returns a zero byte, as etcd expects.
 fn end_of(prefix: &[u8]) -> Vec<u8> {
     match prefix.iter().rposition(|it| *it < u8::MAX) {
         Some(at) => [&prefix[..at], &[prefix[at] + 1]].concat(),
@@ -165,7 +166,7 @@ pub(super) struct TransactionRequest {
 }
 
 impl TransactionRequest {
-    /// Reads these keys at this moment; at the present where it is `NEVER`.
+    /// Returns the request that reads these keys at this moment, or at the present if it is `NEVER`.
     pub(super) fn reading(keys: &[Vec<u8>], moment: Revision) -> TransactionRequest {
         let reads = keys
             .iter()
@@ -208,7 +209,7 @@ impl TransactionRequest {
     }
 }
 
-/// Whether a number says no more than none would.
+/// Returns whether a number has its default value.
 fn is_usual<T: Default + PartialEq>(number: &T) -> bool {
     *number == T::default()
 }
@@ -220,7 +221,7 @@ pub(super) struct Header {
     pub(super) revision: u64,
 }
 
-/// A key that lies there.
+/// A pair in the store.
 #[derive(Default, Deserialize)]
 #[serde(default)]
 pub(super) struct Stored {
@@ -266,7 +267,7 @@ struct OperationResult {
     response_range: Option<RangeResult>,
 }
 
-/// What became of a transaction.
+/// The outcome of a transaction.
 #[derive(Default, Deserialize)]
 #[serde(default)]
 pub(super) struct TransactionResult {
@@ -300,7 +301,7 @@ impl TransactionResult {
     }
 }
 
-/// A lease that is asked for, or named.
+/// A lease that is requested, or named.
 #[derive(Clone, Default, Serialize)]
 pub(super) struct LeaseRequest {
     #[serde(rename = "TTL", with = "number")]
@@ -331,7 +332,7 @@ pub(super) struct Granted {
     pub(super) id: i64,
 }
 
-/// What a stream gives at a time.
+/// An element of a stream.
 #[derive(Deserialize)]
 pub(super) struct Streamed<T> {
     pub(super) result: Option<T>,
@@ -343,7 +344,7 @@ pub(super) struct KeepAliveResponse {
     pub(super) length: i64,
 }
 
-/// A watch that is asked for.
+/// The request for a watch.
 #[derive(Serialize)]
 pub(super) struct WatchRequest {
     create_request: WatchCreate,
@@ -360,8 +361,9 @@ struct WatchCreate {
 }
 
 impl WatchRequest {
-    /// Of all keys that begin so, from this moment on, of which all is known. At the revision of a compaction etcd
-    /// keeps no deletions, and says only to who asks for what was before it that something is gone.
+    /// Returns the request to watch all keys with this prefix, after this moment, up to which everything is known. At
+    /// the revision of a compaction etcd keeps no deletions. It tells only those who ask for earlier revisions that
+    /// something is gone.
     pub(super) fn from(prefix: &[u8], moment: Revision) -> WatchRequest {
         let (key, range_end) = (prefix.to_vec(), end_of(prefix));
         WatchRequest {
@@ -374,7 +376,7 @@ impl WatchRequest {
     }
 }
 
-/// What a watch tells.
+/// An element of a watch's stream.
 #[derive(Default, Deserialize)]
 #[serde(default)]
 pub(super) struct WatchResult {
@@ -404,7 +406,7 @@ impl From<WatchEvent> for crate::KeyChange {
     }
 }
 
-/// What was written before this revision and isn't there any more is let go.
+/// The request to discard the revisions before this one.
 #[derive(Serialize)]
 pub(super) struct Compaction {
     #[serde(with = "number")]
@@ -421,11 +423,11 @@ impl Compaction {
     }
 }
 
-/// Nothing more is said.
+/// An empty message.
 #[derive(Serialize)]
 pub(super) struct Nothing {}
 
-/// An alarm of a member, and what is to become of it.
+/// An alarm of a member, and the action on it.
 #[derive(Serialize)]
 pub(super) struct AlarmRequest {
     action: &'static str,
@@ -437,7 +439,7 @@ pub(super) struct AlarmRequest {
 impl AlarmRequest {
     const NO_SPACE: &'static str = "NOSPACE";
 
-    /// Which members say that their quota is reached.
+    /// Returns the request for the members whose quota is full.
     pub(super) fn all() -> AlarmRequest {
         AlarmRequest {
             action: "GET",
@@ -446,7 +448,7 @@ impl AlarmRequest {
         }
     }
 
-    /// This one doesn't any more.
+    /// Returns the request to end this alarm.
     pub(super) fn end(alarm: Alarm) -> AlarmRequest {
         AlarmRequest {
             action: "DEACTIVATE",

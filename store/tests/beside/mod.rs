@@ -1,6 +1,6 @@
-//! What the tests of stores share.
+//! The common part of the tests of stores.
 #![allow(dead_code)]
-use durkenzo_store::{Access, Embedded, Etcd, ReadError, Store, Sync};
+use durkenzo_store::{Access, Embedded, Etcd, PrefixedStore, ReadError, Store, Sync};
 use std::env;
 use std::fs;
 use std::io::{Read, Write};
@@ -14,12 +14,12 @@ use std::time::{Duration, Instant, SystemTime, UNIX_EPOCH};
 pub mod plain;
 pub mod relay;
 
-/// How often etcd is begun, if it ends at once.
+/// How often etcd is started, if it ends at once.
 const TRIES: u32 = 10;
-/// How long an answer is waited for, on a machine that may be busy.
+/// How long to wait for an answer, on a machine that may be busy.
 pub const PATIENCE: Duration = Duration::from_secs(30);
 
-/// A folder that is gone when it is dropped.
+/// A folder that is removed when it is dropped.
 pub struct Folder(PathBuf);
 
 impl Folder {
@@ -50,7 +50,7 @@ impl Drop for Folder {
     }
 }
 
-/// A member of etcd of our own, on loopback, in a folder.
+/// Our own member of etcd, on loopback, in a folder.
 pub struct Member {
     process: Child,
     folder: Folder,
@@ -60,14 +60,14 @@ pub struct Member {
 }
 
 impl Member {
-    /// One, where etcd is installed.
+    /// Starts a member, if etcd is installed.
     pub fn start(options: &[&str]) -> Option<Member> {
         let member = Member::begin_alone("http://127.0.0.1", options)?;
         member.wait_until_up();
         Some(member)
     }
 
-    /// A cluster of as many as this, where etcd is installed.
+    /// Returns a cluster of so many members, if etcd is installed.
     pub fn start_cluster(members: usize) -> Option<Vec<Member>> {
         let peers: Vec<_> = (0..members).map(|_| address()).collect();
         let named = peers.iter().enumerate();
@@ -81,13 +81,13 @@ impl Member {
         members.inspect(|it| it.iter().for_each(Member::wait_until_up))
     }
 
-    /// One that speaks TLS by these options; it listens, and may not be up yet.
+    /// Starts a member that speaks TLS with these options. It listens, and may not be up yet.
     pub fn start_with_tls(options: &[&str]) -> Option<Member> {
         Member::begin_alone("https://localhost", options)
     }
 
-    /// One that listens at a port of this host. It ends if another program takes a port of its own, so it is begun anew
-    /// at others.
+    /// Starts a member that listens at a port of this host. It ends if another program takes one of its ports, so it is
+    /// started again at others.
     fn begin_alone(host: &str, options: &[&str]) -> Option<Member> {
         for _ in 0..TRIES {
             let endpoint = format!("{host}:{}", free_port());
@@ -99,7 +99,7 @@ impl Member {
         panic!("etcd ends as soon as it begins");
     }
 
-    /// Waits until it listens; false if it ended before.
+    /// Waits until it listens. Returns false if it ended before.
     fn listens(&mut self) -> bool {
         let end = Instant::now() + Duration::from_secs(60);
         let (_, authority) = self.endpoint.split_once("//").expect("a scheme");
@@ -126,7 +126,7 @@ impl Member {
         })
     }
 
-    /// Kills it, and has it begin again over the same folder.
+    /// Kills it, and starts it again over the same folder.
     pub fn begin_again(&mut self) {
         self.kill();
         self.process =
@@ -139,7 +139,7 @@ impl Member {
         let _ = self.process.wait();
     }
 
-    /// Has it hang, with its connections open: from now on, whichever of its threads gets a processor.
+    /// Makes it hang, with its connections open, from now on, whichever of its threads gets a processor.
     pub fn stop(&self) {
         self.signal("-STOP");
         while !self.is_stopped() {
@@ -154,7 +154,7 @@ impl Member {
         stats.all(|it| it.contains(") T "))
     }
 
-    /// Has it go on.
+    /// Lets it go on.
     pub fn go_on(&self) {
         self.signal("-CONT");
     }
@@ -187,7 +187,7 @@ impl Member {
             TcpStream::connect(self.endpoint.trim_start_matches("http://")).expect("it listens");
         let length = asked.len();
         let asked = format!("POST {path} HTTP/1.0\r\nContent-Length: {length}\r\n\r\n{asked}");
-        // In one piece, as the system holds back a second one.
+        // It is sent in one piece, because the system would delay a second one.
         stream.write_all(asked.as_bytes()).expect("it hears");
         let mut answer = String::new();
         stream.read_to_string(&mut answer).expect("it answers");
@@ -224,12 +224,12 @@ impl Drop for Member {
     }
 }
 
-/// One on loopback that nobody has.
+/// Returns a free address on loopback.
 fn address() -> String {
     format!("http://127.0.0.1:{}", free_port())
 }
 
-/// A port at which nobody listens, of those that the system gives to no connection of its own.
+/// Returns a port at which nobody listens, of those that the system gives to no connection of its own.
 pub fn free_port() -> u16 {
     let since = SystemTime::now().duration_since(UNIX_EPOCH);
     let mut chance = Chance(since.expect("a time after 1970").as_nanos() as u64);
@@ -241,7 +241,7 @@ pub fn free_port() -> u16 {
     }
 }
 
-/// A stream of numbers that a seed gives.
+/// A stream of pseudo-random numbers from a seed.
 pub struct Chance(pub u64);
 
 impl Chance {
@@ -253,10 +253,14 @@ impl Chance {
     }
 }
 
-/// Has a test run over each store: in memory, in a folder, on etcd where that is installed, and one that isn't ours.
+/// Runs a test over each store: in memory, in a folder, in etcd if that is installed, and one that isn't ours.
 pub fn over_each(test: impl Fn(&dyn Store)) {
     test(&plain::Plain::new());
     test(&Embedded::in_memory());
+    test(&PrefixedStore::new(
+        Embedded::in_memory(),
+        "/part/".parse().expect("it is a prefix"),
+    ));
     let folder = Folder::new();
     test(&folder.open());
     match Member::start(&[]) {

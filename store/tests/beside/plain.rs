@@ -1,4 +1,5 @@
-//! A store that is implemented outside of the crate, as a user's would be: in memory, by a thread that does all.
+//! A store that is implemented outside of the crate, as a user's would be: in memory, with a thread that does all the
+//! work.
 use durkenzo_store::{
     CompactError, Done, KeyChange, LeaseError, LeaseId, Outcome, Pair, ReadError, Reading,
     Revision, Seen, Store, Transaction, Watch, Watcher, WriteError,
@@ -9,15 +10,15 @@ use std::sync::mpsc::{self, Receiver, RecvTimeoutError, Sender};
 use std::thread;
 use std::time::{Duration, Instant};
 
-/// How often leases are looked at.
+/// How often leases are checked.
 const STEP: Duration = Duration::from_millis(50);
 
 type Job = Box<dyn FnOnce(&mut Kept) + Send>;
 
-/// A key, its new value, which a deleted one hasn't, and the lease under which it is written.
+/// A key, its new value (nothing if it was deleted), and its lease.
 type Written = (Vec<u8>, Option<Vec<u8>>, Option<LeaseId>);
 
-/// What lies in the store, and who is told of it.
+/// The store's keys, and its watchers.
 #[derive(Default)]
 struct Kept {
     revision: Revision,
@@ -93,7 +94,7 @@ impl Kept {
         Ok(Outcome::Made(self.write(deleted.chain(written).collect())))
     }
 
-    /// Writes and deletes these keys, and tells who watches.
+    /// Writes and deletes these keys, and tells the watchers.
     fn write(&mut self, changes: Vec<Written>) -> Revision {
         let (revision, mut made) = (self.revision.next(), Vec::new());
         for (key, value, lease) in changes {
@@ -136,7 +137,7 @@ impl Kept {
         }
     }
 
-    /// Ends a lease, and deletes its keys; returns whether it went on.
+    /// Ends a lease, and deletes its keys. Returns whether it hadn't ended before.
     fn end(&mut self, lease: LeaseId) -> bool {
         let keys = self.leased.iter().filter(|(_, it)| **it == lease);
         let keys = keys.map(|(key, _)| (key.clone(), None, None)).collect();
@@ -161,7 +162,7 @@ impl Plain {
         }
     }
 
-    /// Has the thread do this work, and returns what it makes of it.
+    /// Makes the thread do this work, and returns the result.
     fn ask<A: Send + 'static>(&self, work: impl FnOnce(&mut Kept) -> A + Send + 'static) -> A {
         let (tell, told) = mpsc::channel();
         self.jobs

@@ -5,12 +5,12 @@ use std::sync::{Arc, Mutex, PoisonError};
 use std::thread;
 use std::time::Duration;
 
-/// Passes on what is sent to a member, and holds what was.
+/// Passes on the bytes that are sent to a member, and can hold them back.
 pub struct Relay {
     pub endpoint: String,
     sent: Arc<Mutex<Vec<u8>>>,
     callers: Arc<AtomicUsize>,
-    /// The connections that go on; none can begin while there is no list.
+    /// The connections that go on. None can begin while there is no list.
     connections: Connections,
 }
 
@@ -18,12 +18,12 @@ pub struct Relay {
 type Connections = Arc<Mutex<Option<Vec<TcpStream>>>>;
 
 impl Relay {
-    /// One before the member at this address.
+    /// Makes a relay before the member at this address.
     pub fn before(endpoint: &str) -> Relay {
         Relay::slow(endpoint, |_| Duration::ZERO)
     }
 
-    /// One that passes on nothing of a caller for so long, by how many came before.
+    /// Makes a relay that passes on nothing from a caller for so long, by how many came before.
     pub fn slow(endpoint: &str, delay: fn(usize) -> Duration) -> Relay {
         let listener = TcpListener::bind(("127.0.0.1", 0)).expect("a port");
         let own = listener.local_addr().expect("its address");
@@ -67,7 +67,7 @@ impl Relay {
             .lock()
             .unwrap_or_else(PoisonError::into_inner);
         for it in connections.take().into_iter().flatten() {
-            // One that has ended already stays so.
+            // A connection that has ended already stays so.
             let _ = it.shutdown(Shutdown::Both);
         }
     }
@@ -81,12 +81,12 @@ impl Relay {
         connections.get_or_insert_with(Vec::new);
     }
 
-    /// How many callers came.
+    /// Returns how many callers came.
     pub fn callers(&self) -> usize {
         self.callers.load(Ordering::Relaxed)
     }
 
-    /// How many calls of this path were sent.
+    /// Returns how many calls with this path were sent.
     pub fn calls(&self, path: &str) -> usize {
         let sent = lock(&self.sent);
         String::from_utf8_lossy(&sent)
@@ -99,7 +99,7 @@ fn lock(sent: &Mutex<Vec<u8>>) -> std::sync::MutexGuard<'_, Vec<u8>> {
     sent.lock().unwrap_or_else(PoisonError::into_inner)
 }
 
-/// Passes on all that comes, until either end hangs up.
+/// Passes on all bytes, until either end hangs up.
 fn pass(mut from: TcpStream, mut to: TcpStream, mut note: impl FnMut(&[u8])) {
     let mut some = [0; 4_096];
     while let Ok(length @ 1..) = from.read(&mut some) {
