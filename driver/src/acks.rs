@@ -1,8 +1,9 @@
-/// When a process lets go of the records by which its server executes no more.
+/// When a process acks the records by which its server no longer executes.
 #[derive(Clone, Copy, Debug, PartialEq, Eq)]
 pub enum Acks {
-    /// As it reads the next record. This suits requests that go through a log, because each batch compares the record.
+    /// When it reads the next record. This suits requests that go through a log, because each batch compares the
+    /// record.
     AsRead,
-    /// When its service says so by [`Member::ack`](crate::Member::ack), once nothing is executed by them any more.
+    /// When its service calls [`Member::ack`](crate::Member::ack), once nothing executes by the records any more.
     ByService,
 }

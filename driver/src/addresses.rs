@@ -1,8 +1,8 @@
-/// Where a server is reached.
+/// The addresses of a server.
 #[derive(Clone, Debug, Default, PartialEq, Eq)]
 pub struct Addresses {
-    /// By other servers.
+    /// The address for other servers.
     pub servers: String,
-    /// By clients.
+    /// The address for clients.
     pub clients: String,
 }

@@ -1,6 +1,6 @@
 use std::vec::IntoIter;
 
-/// The parts of a base that are being written: each with its key.
+/// The parts of a base that are being written, each with its key.
 pub(crate) struct BaseParts {
     waiting: IntoIter<(Vec<u8>, Vec<u8>)>,
     under_way: usize,
@@ -8,7 +8,7 @@ pub(crate) struct BaseParts {
 }
 
 impl BaseParts {
-    /// Parts of which none is written.
+    /// Makes the list of these parts. None of them is written yet.
     pub(crate) fn new(parts: Vec<(Vec<u8>, Vec<u8>)>) -> BaseParts {
         BaseParts {
             waiting: parts.into_iter(),
@@ -17,7 +17,8 @@ impl BaseParts {
         }
     }
 
-    /// The next part, which is under way then; none where none is left, or one wasn't written.
+    /// Returns the next part, which is under way from now on. Returns nothing if none is left, or if one wasn't
+    /// written.
     pub(crate) fn next(&mut self) -> Option<(Vec<u8>, Vec<u8>)> {
         if self.has_failed {
             return None;
@@ -27,7 +28,7 @@ impl BaseParts {
         Some(next)
     }
 
-    /// One is over. Whether all were written, once none is under way and none comes.
+    /// Notes the end of a part. Once none is under way and none comes, returns whether all were written.
     pub(crate) fn end(&mut self, is_written: bool) -> Option<bool> {
         self.under_way -= 1;
         self.has_failed |= !is_written;

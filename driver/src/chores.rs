@@ -3,14 +3,14 @@ use std::fmt;
 use std::sync::mpsc::Receiver;
 use std::sync::Arc;
 
-/// What the threads of a process do, of one that was opened by [`Durable::open_without_threads`]: whoever simulates the
-/// process does it, one piece after another.
+/// The work of a process's threads, if the process was opened by [`Durable::open_without_threads`]. Whoever simulates
+/// the process does it, one piece after another.
 ///
 /// [`Durable::open_without_threads`]: crate::Durable::open_without_threads
 pub struct Chores {
     inner: Arc<DurableInner>,
     handed: Receiver<ReaderJob>,
-    /// What is to be read, in the order in which it was asked for.
+    /// The readings that are due, in the order in which they were asked for.
     jobs: Vec<ReaderJob>,
 }
 
@@ -29,19 +29,20 @@ impl Chores {
         self.jobs.len()
     }
 
-    /// Reads the store for the reading at this place of those that are due. Returns the call that tells the process
-    /// what was read, which may come later: four threads read at once. None if no reading is due at this place.
+    /// Reads the store for the due reading at this place. Returns the call that tells the process the result. The call
+    /// may come later, because four threads read at once. Returns nothing if no reading is due at this place.
     pub fn read(&mut self, place: usize) -> Option<ReadBack> {
         let is_due = place < self.readings();
         is_due.then(|| self.inner.read(self.jobs.remove(place)))
     }
 
-    /// Has each shard refuse what has waited in vain, and begin the base that is due. A process does so each 10 ms.
+    /// Makes each shard refuse the work that has waited in vain, and begin the base that is due. A process does so
+    /// every 10 ms.
     pub fn tick(&self) {
         self.inner.tick_shards();
     }
 
-    /// Takes another number for the process, if many others have begun since. A process does so each second.
+    /// Takes another number for the process, if many others have begun since. A process does so every second.
     pub fn keep_number(&self) {
         self.inner.keep_number();
     }

@@ -2,12 +2,12 @@ use std::fmt;
 use std::sync::Arc;
 use std::time::Instant;
 
-/// How a process tells the time: by the machine's clock, unless whoever simulates the process moves another one.
+/// The clock of a process. It is the machine's clock, unless whoever simulates the process uses another one.
 #[derive(Clone)]
 pub struct Clock(Arc<dyn Fn() -> Instant + Send + Sync>);
 
 impl Clock {
-    /// Returns a clock that this function tells, which must never go back.
+    /// Makes a clock from this function, whose time must never go back.
     pub fn new(now: impl Fn() -> Instant + Send + Sync + 'static) -> Clock {
         Clock(Arc::new(now))
     }
@@ -19,7 +19,7 @@ impl Clock {
 }
 
 impl Default for Clock {
-    /// The machine's clock.
+    /// Returns the machine's clock.
     fn default() -> Clock {
         Clock::new(Instant::now)
     }

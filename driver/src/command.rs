@@ -1,10 +1,10 @@
 use durkenzo::{Change, RestartStep};
 use durkenzo_store_sys::DirectorStep;
 
-/// The steps of restarts have the numbers after those of the changes.
+/// The steps of restarts are numbered after the changes.
 const CHANGES: u8 = DirectorStep::REASSIGN;
 
-/// What the control is asked for: the nine changes of a shard, and the five steps of a server's restart.
+/// A command for the control: the nine changes of a shard, and the five steps of a server's restart.
 #[derive(Clone, Copy, Debug, PartialEq, Eq)]
 pub enum ControlCommand {
     /// The vacant shard gets this owner.
@@ -19,7 +19,7 @@ pub enum ControlCommand {
     DropShard(u16),
     /// The migration is given up.
     Cancel(u16),
-    /// Nobody executes on the shard.
+    /// No server executes the shard.
     Pause(u16),
     /// Its owner executes again.
     Resume(u16),
@@ -37,7 +37,7 @@ pub enum ControlCommand {
     Fail(u16),
 }
 
-/// What a command changes.
+/// The subject of a command: what it changes.
 #[derive(Clone, Copy, Debug, PartialEq, Eq)]
 pub enum Subject {
     /// The record of this shard.
@@ -46,7 +46,7 @@ pub enum Subject {
     Server(u16),
 }
 
-/// A command by what it is given to.
+/// The kinds of a command, by its subject.
 enum Given {
     Shard(u16, Change),
     Server(u16, RestartStep),
@@ -104,7 +104,7 @@ impl ControlCommand {
         }
     }
 
-    /// Returns what it changes.
+    /// Returns the shard or the server that it changes.
     pub fn subject(self) -> Subject {
         match self.given() {
             Given::Shard(shard, _) => Subject::Shard(shard),
@@ -112,7 +112,7 @@ impl ControlCommand {
         }
     }
 
-    /// Returns the server that it newly has a shard go to, if it names one.
+    /// Returns the server to which it newly moves a shard, if it names one.
     pub fn taker(self) -> Option<u16> {
         match self.given() {
             Given::Shard(_, change) => change.server(),
@@ -120,7 +120,7 @@ impl ControlCommand {
         }
     }
 
-    /// Returns the word that scripts, operators and metrics have for it.
+    /// Returns its word in scripts, in operators' commands and in metrics.
     pub fn word(self) -> &'static str {
         match self.given() {
             Given::Shard(_, change) => change.word(),
@@ -128,7 +128,7 @@ impl ControlCommand {
         }
     }
 
-    /// Returns its kind, its shard and its server, as the library has them: 0 for what it doesn't name.
+    /// Returns its kind, its shard and its server, as the library numbers them. A part that it doesn't name is 0.
     pub(crate) fn parts(self) -> (u8, u16, u16) {
         match self.given() {
             Given::Shard(shard, change) => (change.number(), shard, change.server().unwrap_or(0)),
@@ -136,7 +136,7 @@ impl ControlCommand {
         }
     }
 
-    /// Returns the command of these parts, if there is one.
+    /// Returns the command with these parts, if there is one.
     fn of(kind: u8, shard: u16, server: u16) -> Option<ControlCommand> {
         let change = Change::of_number(kind, server).map(|it| ControlCommand::of_shard(shard, it));
         let step = || RestartStep::of_number(kind.checked_sub(CHANGES)?);
@@ -144,19 +144,19 @@ impl ControlCommand {
     }
 }
 
-/// What comes next of a shard, a restart or a drain, as the proved control says.
+/// The next step of a shard, a restart or a drain, as the proved control chooses it.
 #[derive(Clone, Copy, Debug, PartialEq, Eq)]
 pub enum Next {
     /// Nothing is under way.
     Nothing,
     /// This command.
     Command(ControlCommand),
-    /// It goes on once others have read further, or the command is allowed.
+    /// It waits until others have read further, or the command is allowed.
     Waits,
 }
 
 impl Next {
-    /// That of these parts, if there is one.
+    /// Returns the next step with these parts, if there is one.
     pub(crate) fn of(kind: u8, shard: u16, server: u16) -> Option<Next> {
         match kind {
             DirectorStep::NOTHING => Some(Next::Nothing),

@@ -16,7 +16,7 @@ pub enum CommandFault {
     SameServer,
     /// The shard's generations are spent.
     ChangeSpent,
-    /// The record has an admission, or has changed: it is to be read again.
+    /// The record has an admission, or has changed: it must be read again.
     Busy,
     /// There is no such server.
     UnknownServer,
@@ -50,7 +50,7 @@ pub enum CommandFault {
     NotFollowed,
     /// A server that the command waits for hasn't acked the shard's record.
     NotAcked,
-    /// The server's process is the one that was stopped, or none was seen.
+    /// The server's process is the one that was stopped, or isn't known.
     EarlierProcess,
     /// The library answered this code, which this version doesn't know.
     Other(u32),
@@ -95,7 +95,7 @@ impl fmt::Display for CommandFault {
             CommandFault::SameServer => "the server owns the shard",
             CommandFault::ChangeSpent => "the shard's generations are spent",
             CommandFault::Busy => {
-                "the record has an admission, or has changed: it is to be read again"
+                "the record has an admission, or has changed: it must be read again"
             }
             CommandFault::UnknownServer => "there is no such server",
             CommandFault::Leaving => "the server is leaving",
@@ -118,7 +118,7 @@ impl fmt::Display for CommandFault {
                 "a server that the command waits for hasn't acked the shard's record"
             }
             CommandFault::EarlierProcess => {
-                "the server's process is the one that was stopped, or none was seen"
+                "the server's process is the one that was stopped, or isn't known"
             }
             CommandFault::Other(code) => return write!(f, "the library answered code {code}"),
         })
@@ -128,7 +128,7 @@ impl fmt::Display for CommandFault {
 impl Error for CommandFault {}
 
 impl CommandFault {
-    /// Returns the fault of a change for the same reason, if that fault has no record.
+    /// Returns the fault of a change with the same reason, if that fault has no record.
     pub fn as_change(self) -> Option<ChangeFault> {
         Some(match self {
             CommandFault::UnknownShard => ChangeFault::UnknownShard,
@@ -157,7 +157,7 @@ impl CommandFault {
         })
     }
 
-    /// Returns the fault of a step of a restart for the same reason, if that fault has no record.
+    /// Returns the fault of a restart's step with the same reason, if that fault has no record.
     pub fn as_restart(self) -> Option<RestartFault> {
         Some(match self {
             CommandFault::UnknownServer => RestartFault::UnknownServer,

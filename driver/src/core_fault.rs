@@ -2,12 +2,12 @@ use durkenzo_store_sys::Code;
 use std::error::Error;
 use std::fmt;
 
-/// Why a proved server doesn't go on: it is closed, and another one reads the shard anew.
+/// Why a proved server can't go on. It is closed, and another one reads the shard from the beginning.
 #[derive(Clone, Copy, Debug, PartialEq, Eq)]
 pub(crate) struct CoreFault(pub(crate) Code);
 
 impl CoreFault {
-    /// Whether what lies in the store is wrong, which reading it again doesn't mend.
+    /// Returns whether the store's content is wrong. Then reading it again doesn't help.
     pub(crate) fn is_damage(self) -> bool {
         matches!(self.0, Code::BAD_BYTES | Code::BAD_LOG)
     }

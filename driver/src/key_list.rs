@@ -2,19 +2,19 @@ use crate::request::get_bytes;
 use crate::{Key, MapReply};
 use durkenzo_store::Revision;
 
-/// A key that is read if there is none to read, so that the transaction compares whether the keys are still those.
+/// A key that is read if there is no other key, so that the transaction compares whether the keys are still the same.
 const ANY: &[u8] = &[0];
 
-/// What a server listed of its keys, after all requests up to the head of this revision.
+/// The keys that a server has listed. They are those after all requests up to the head at this revision.
 pub(crate) struct KeyList {
     server: u16,
     logged: Revision,
     found: Found,
 }
 
-/// What was listed.
+/// The result of a listing.
 pub(crate) enum Found {
-    /// Keys, of which the round reads what they hold.
+    /// Keys, whose values the round reads.
     Pairs(Vec<Key>),
     Keys(Vec<Key>),
     Count(u64),
@@ -29,8 +29,8 @@ impl KeyList {
         }
     }
 
-    /// Returns the bytes of requests that read what the listed keys hold. If there is nothing to read, returns those of
-    /// one request, by which the server says who executes.
+    /// Returns the bytes of requests that read the values of the listed keys. If there are none, returns those of one
+    /// request, by which the server says who executes.
     pub(crate) fn requests(list: Option<&KeyList>) -> Vec<Vec<u8>> {
         match list.map(|it| &it.found) {
             Some(Found::Pairs(keys)) if !keys.is_empty() => {
@@ -40,17 +40,17 @@ impl KeyList {
         }
     }
 
-    /// Whether this server listed it, and still has the head of that revision.
+    /// Returns whether this server made the list, and still has the head of that revision.
     pub(crate) fn is_by(&self, server: u16, logged: Option<Revision>) -> bool {
         self.is_of(server) && Some(self.logged) == logged
     }
 
-    /// Whether this server listed it.
+    /// Returns whether this server made the list.
     pub(crate) fn is_of(&self, server: u16) -> bool {
         self.server == server
     }
 
-    /// Returns what the step is told, by the replies to its requests.
+    /// Returns the replies to the step, from the replies to its requests.
     pub(crate) fn told(self, replies: Vec<MapReply>) -> Vec<MapReply> {
         match self.found {
             Found::Count(count) => vec![MapReply::Count(count as i64)],

@@ -1,23 +1,24 @@
-//! The keys of the store, and the bytes at those that were never written.
+//! The keys of the store, and their values if they were never written.
 //!
 //! | key | holds |
 //! |---|---|
-//! | `settings` | what shards and servers there are, written once |
+//! | `settings` | the shards and servers: the settings in force |
 //! | `process` | how many processes have begun here |
-//! | `leader` | the process that sends commands, under its lease where there are several |
-//! | `server/SERVER` | a process that runs this server, under its lease: where it is, and how far it follows records |
-//! | `ack/SHARD/SERVER` | the generation up to which that process let go of the shard, or is prepared for it |
+//! | `leader` | the process that sends commands, under its lease if there are several processes |
+//! | `server/SERVER` | the server's process, under its lease: its addresses, and its place in the records |
+//! | `ran/SERVER` | the process of the server that last executed by permits, under no lease |
+//! | `ack/SHARD/SERVER` | up to this generation that process executes by no record, or is prepared for the latest |
 //! | `lowest/SERVER` | the process that ran it last, and the first of the numbers by which it still has requests |
 //! | `commands` | the process that sent the latest command |
-//! | `state/SERVER` | how far a server's restart has come, and of which process that is said |
-//! | `drain/SERVER` | that the server's shards go elsewhere, until they have |
-//! | `home/SHARD` | the server to which the shard comes home, which it left for that one's restart |
-//! | `record/SHARD` | who executes the shard |
-//! | `head/SHARD` | how many batches its log has, and what stands for the first of them |
+//! | `state/SERVER` | how far a server's restart has come, and the process to which that applies |
+//! | `drain/SERVER` | the intent that the server's shards go to others, until they have |
+//! | `home/SHARD` | the server to which the shard comes home, because it left for that server's restart |
+//! | `record/SHARD` | the servers that execute the shard |
+//! | `head/SHARD` | how many batches its log has, and the base that replaces the first of them |
 //! | `batch/SHARD/NUMBER` | requests that were made together |
-//! | `base/SHARD/NUMBER/PLACE` | a part of what stands for so many batches |
+//! | `base/SHARD/NUMBER/PLACE` | a part of the base that replaces so many batches |
 //!
-//! Numbers have as many digits as they may need, so that keys are in their order.
+//! Numbers have a fixed number of digits, so that keys are in numerical order.
 
 use crate::ServerState;
 
@@ -25,26 +26,27 @@ use crate::ServerState;
 pub const SETTINGS: &[u8] = b"settings";
 /// How many processes have begun here.
 pub const PROCESS: &[u8] = b"process";
-/// Who sends commands.
+/// The process that sends commands.
 pub const LEADER: &[u8] = b"leader";
-/// Who sent the latest command.
+/// The process that sent the latest command.
 pub const COMMANDS: &[u8] = b"commands";
-/// What all records begin with.
+/// The prefix of all records.
 pub const RECORDS: &[u8] = b"record/";
-/// What the keys of servers that are there begin with.
+/// The prefix of the keys of servers that are there.
 pub(crate) const SERVERS: &[u8] = b"server/";
-/// What the keys begin with that tell up to which generation of a shard's record processes have let go.
+/// The prefix of the keys that tell up to which generation of a shard's record processes have acked.
 pub(crate) const ACKS: &[u8] = b"ack/";
-/// What the keys begin with that tell the first numbers by which processes still have requests.
+/// The prefix of the keys that tell the first numbers by which processes still have requests.
 pub(crate) const LOWESTS: &[u8] = b"lowest/";
-/// What all states of servers begin with.
+/// The prefix of all states of servers.
 pub(crate) const STATES: &[u8] = b"state/";
-/// What the keys of servers that are to be drained begin with.
+/// The prefix of the keys of servers that are to be drained.
 pub const DRAINS: &[u8] = b"drain/";
-/// What the keys of shards that come home begin with.
+/// The prefix of the keys of shards that come home.
 pub const HOMES: &[u8] = b"home/";
 
-/// The record of a shard that was never changed: vacant, by nobody. A server's state is so where it is up.
+/// The record of a shard that was never changed: vacant, by no process. These are also the bytes of a server's state
+/// that is up.
 pub(crate) const VACANT: [u8; 17] = {
     let mut bytes = [0; 17];
     bytes[0] = 1;
@@ -57,44 +59,44 @@ pub(crate) const EMPTY: [u8; 25] = {
     bytes
 };
 
-/// The shard's record.
+/// Returns the shard's record.
 pub fn record(shard: u16) -> Vec<u8> {
     format!("record/{shard:05}").into_bytes()
 }
 
-/// The shard of this key, where it is a record's.
+/// Returns the shard of this key, if it is a record's key.
 pub(crate) fn shard_of_record(key: &[u8]) -> Option<u16> {
     number_behind(key, RECORDS)
 }
 
-/// The server of this key, where it is that of one that is there.
+/// Returns the server of this key, if it is the key of a server that is there.
 pub(crate) fn server_of(key: &[u8]) -> Option<u16> {
     number_behind(key, SERVERS)
 }
 
-/// The shard and the server of this key, if it is that of an ack.
+/// Returns the shard and the server of this key, if it is the key of an ack.
 pub(crate) fn shard_and_server_of_ack(key: &[u8]) -> Option<(u16, u16)> {
     let numbers = std::str::from_utf8(key.strip_prefix(ACKS)?).ok()?;
     let (shard, server) = numbers.split_once('/')?;
     Some((shard.parse().ok()?, server.parse().ok()?))
 }
 
-/// The server of this key, where it tells the first number by which its process still has requests.
+/// Returns the server of this key, if it tells the first number by which the server's process still has requests.
 pub(crate) fn server_of_lowest(key: &[u8]) -> Option<u16> {
     number_behind(key, LOWESTS)
 }
 
-/// The server of this key, where it is that of a state.
+/// Returns the server of this key, if it is the key of a state.
 pub(crate) fn server_of_state(key: &[u8]) -> Option<u16> {
     number_behind(key, STATES)
 }
 
-/// The server of this key, where it is that of one that is to be drained.
+/// Returns the server of this key, if it is the key of a server that is to be drained.
 pub(crate) fn server_of_drain(key: &[u8]) -> Option<u16> {
     number_behind(key, DRAINS)
 }
 
-/// The shard of this key, where it is that of one that comes home.
+/// Returns the shard of this key, if it is the key of a shard that comes home.
 pub(crate) fn shard_of_home(key: &[u8]) -> Option<u16> {
     number_behind(key, HOMES)
 }
@@ -104,68 +106,78 @@ fn number_behind(key: &[u8], prefix: &[u8]) -> Option<u16> {
     std::str::from_utf8(digits).ok()?.parse().ok()
 }
 
-/// The key of a server that is there.
+/// Returns the key of a server that is there.
 pub(crate) fn server(server: u16) -> Vec<u8> {
     format!("server/{server:05}").into_bytes()
 }
 
-/// The key of what a server acks of a shard.
+/// Returns the key of the server's process that last executed.
+pub(crate) fn ran(server: u16) -> Vec<u8> {
+    format!("ran/{server:05}").into_bytes()
+}
+
+/// Returns the bytes there for this process.
+pub(crate) fn ran_by(process: u64) -> Vec<u8> {
+    versioned(process)
+}
+
+/// Returns the key of a server's ack of a shard.
 pub(crate) fn ack(shard: u16, server: u16) -> Vec<u8> {
     format!("ack/{shard:05}/{server:05}").into_bytes()
 }
 
-/// What lies there: a version and a generation.
+/// Returns the bytes there: a version and a generation.
 pub(crate) fn ack_of(generation: u64) -> Vec<u8> {
     versioned(generation)
 }
 
-/// The generation that these bytes at an ack's key tell.
+/// Returns the generation in these bytes at an ack's key.
 pub(crate) fn generation_of_ack(bytes: &[u8]) -> Option<u64> {
     number_of_version(bytes)
 }
 
-/// The key of the first number by which the server's process still has requests.
+/// Returns the key of the first number by which the server's process still has requests.
 pub(crate) fn lowest(server: u16) -> Vec<u8> {
     format!("lowest/{server:05}").into_bytes()
 }
 
-/// The server's state.
+/// Returns the key of the server's state.
 pub(crate) fn state(server: u16) -> Vec<u8> {
     format!("state/{server:05}").into_bytes()
 }
 
-/// The key of a server that is to be drained.
+/// Returns the key of a server that is to be drained.
 pub(crate) fn drain(server: u16) -> Vec<u8> {
     format!("drain/{server:05}").into_bytes()
 }
 
-/// The key of a shard that comes home.
+/// Returns the key of a shard that comes home.
 pub(crate) fn home(shard: u16) -> Vec<u8> {
     format!("home/{shard:05}").into_bytes()
 }
 
-/// What lies at the leader's key for this process.
+/// Returns the bytes at the leader's key for this process.
 pub(crate) fn leader_of(process: u64) -> Vec<u8> {
     versioned(process)
 }
 
-/// The process that these bytes at the leader's key tell.
+/// Returns the process in these bytes, at the leader's key or at that of the last process to execute.
 pub(crate) fn process_of(bytes: &[u8]) -> Option<u64> {
     number_of_version(bytes)
 }
 
-/// The version of these bytes, and a number.
+/// Returns bytes with a version and a number.
 fn versioned(number: u64) -> Vec<u8> {
     [&[1][..], &number.to_be_bytes()].concat()
 }
 
-/// The number that these bytes tell behind their version.
+/// Returns the number behind the version in these bytes.
 fn number_of_version(bytes: &[u8]) -> Option<u64> {
     let (version, number) = bytes.split_first()?;
     (*version == 1).then(|| number.try_into().ok().map(u64::from_be_bytes))?
 }
 
-/// The state that these bytes tell, if this version knows its number. A state that was never written is `Up`.
+/// Returns the state in these bytes, if this version knows its number. A state that was never written is `Up`.
 pub(crate) fn state_of(state: &[u8]) -> Option<ServerState> {
     let number = state.get(1..9).and_then(|it| it.try_into().ok());
     number.map_or(Some(ServerState::Up), |it| {
@@ -173,40 +185,40 @@ pub(crate) fn state_of(state: &[u8]) -> Option<ServerState> {
     })
 }
 
-/// Whether requests reach a server of which these bytes are the state: it is neither stopped nor failed. None reach one
-/// whose state has a number that this version doesn't know.
+/// Returns whether requests reach a server with this state: it is neither stopped nor failed. No request reaches a
+/// server whose state has a number that this version doesn't know.
 pub(crate) fn is_reached(state: &[u8]) -> bool {
     state_of(state).is_some_and(ServerState::is_reached)
 }
 
-/// The head of the shard's log.
+/// Returns the key of the head of the shard's log.
 pub(crate) fn head(shard: u16) -> Vec<u8> {
     format!("head/{shard:05}").into_bytes()
 }
 
-/// A batch of the shard's log, from 1 on.
+/// Returns the key of a batch of the shard's log, from 1 on.
 pub(crate) fn batch(shard: u16, number: u64) -> Vec<u8> {
     format!("batch/{shard:05}/{number:020}").into_bytes()
 }
 
-/// The number of the batch at this key, where it is one's.
+/// Returns the number of the batch at this key, if it is a batch's key.
 pub(crate) fn number_of_batch(key: &[u8]) -> Option<u64> {
     let mut words = std::str::from_utf8(key).ok()?.split('/').skip(2);
     words.next()?.parse().ok()
 }
 
-/// Where the parts of the shard's bases begin, and where they end.
+/// Returns the keys between which the parts of the shard's bases lie.
 pub(crate) fn bases(shard: u16) -> [Vec<u8>; 2] {
     // A `0` comes after a `/`.
     ["/", "0"].map(|behind| format!("base/{shard:05}{behind}").into_bytes())
 }
 
-/// A part of a base.
+/// Returns the key of a part of a base.
 pub(crate) fn part(shard: u16, number: u64, place: u64) -> Vec<u8> {
     format!("base/{shard:05}/{number:020}/{place:05}").into_bytes()
 }
 
-/// The base and the place of this key, where it is that of a part.
+/// Returns the base and the place in this key, if it is the key of a part.
 pub(crate) fn base_and_place(key: &[u8]) -> Option<(u64, u64)> {
     let mut words = std::str::from_utf8(key).ok()?.split('/').skip(2);
     Some((words.next()?.parse().ok()?, words.next()?.parse().ok()?))

@@ -1,8 +1,9 @@
-//! What the proved servers of a shared store need around them. They decide who executes which request, what is sent
-//! and what is told; this reads the store for them, sends their transactions, and says what became of these.
+//! The parts that the proved servers of a shared store need around them. The servers decide who executes a request,
+//! which transactions are sent and which answers are given. This crate reads the store for them, sends their
+//! transactions, and tells them the outcomes.
 //!
-//! Whoever has something to ask gives [`WorkStep`]s to a shard by [`Durable::submit`]. All that waits there goes into
-//! one transaction together, and is told once that is made.
+//! Callers give [`WorkStep`]s to a shard with [`Durable::submit`]. All steps that wait there go into one transaction
+//! together (a group commit), and are answered once it is made.
 #![warn(missing_docs)]
 #![forbid(unsafe_code)]
 
@@ -17,7 +18,7 @@ mod compact_fault;
 mod control;
 mod core_fault;
 mod decision;
-// Shards are told the time, so that they can be simulated: clippy.toml names what they don't call.
+// Shards are told the time, so that they can be simulated: clippy.toml lists the functions that they must not call.
 #[deny(clippy::disallowed_methods)]
 mod durable;
 mod elsewhere;
@@ -32,6 +33,7 @@ mod lowest;
 mod member;
 mod members;
 mod open_fault;
+mod ownership;
 mod plan;
 mod planner;
 mod process;
@@ -48,9 +50,10 @@ mod server_run;
 mod server_state;
 #[deny(clippy::disallowed_methods)]
 mod shard;
-mod shard_reading;
+mod shard_snapshot;
 mod size;
 mod stored_record;
+mod stored_settings;
 mod work;
 
 pub use acks::Acks;
@@ -62,20 +65,22 @@ pub use command_fault::CommandFault;
 pub use compact_fault::CompactFault;
 pub use control::DurableControl;
 pub(crate) use core_fault::CoreFault;
-pub use durable::{Durable, Reads, Tuning};
+pub use durable::{Durable, Reads, ShardOptions};
 pub use elsewhere::{Came, Elsewhere, HandOver, Own};
 pub use intent::Intent;
 pub use join_fault::JoinFault;
 pub use kept_lease::KeptLease;
-pub use member::{JoinStep, Joining, Member};
+pub use member::{JoinStep, JoiningMember, Member};
 pub use members::{Live, Members};
 pub use open_fault::OpenFault;
+pub use ownership::Ownership;
 pub use planner::Planner;
 pub use refused::Refused;
 pub use request::{Key, MapReply, MapRequest, Range};
 pub use route_map::{RouteMap, SeenRoute};
 pub use server_run::ServerRun;
 pub use server_state::ServerState;
-pub use shard_reading::ShardReading;
-pub use stored_record::StoredRecord;
+pub use shard_snapshot::ShardSnapshot;
+pub use stored_record::{takes_part, StoredRecord};
+pub use stored_settings::split_settings;
 pub use work::{Begin, NotDone, Numbered, Work, WorkOutcome, WorkStep};

@@ -1,19 +1,19 @@
 /// The first of the numbers by which a process still has requests, as its key tells it.
 ///
-/// A process takes later numbers while it runs, so that what had the earlier ones may be forgotten.
+/// A process takes later numbers while it runs, so that the requests of its earlier numbers can be forgotten.
 #[derive(Clone, Copy, Debug, PartialEq, Eq)]
 pub(crate) struct Lowest {
     /// The number that the process began with.
     pub(crate) process: u64,
-    /// The first of those that it still goes by.
+    /// The first of the numbers that it still uses.
     pub(crate) number: u64,
 }
 
-/// The version of what lies at its key.
+/// The version of the bytes at its key.
 const VERSION: u8 = 1;
 
 impl Lowest {
-    /// The bytes at its key: a version, and both numbers.
+    /// Returns the bytes at its key: a version, and both numbers.
     pub(crate) fn bytes(self) -> Vec<u8> {
         let mut bytes = vec![VERSION];
         bytes.extend(self.process.to_be_bytes());
@@ -21,7 +21,7 @@ impl Lowest {
         bytes
     }
 
-    /// What these bytes say, where they tell that.
+    /// Reads these bytes; returns nothing if they are malformed.
     pub(crate) fn of(bytes: &[u8]) -> Option<Lowest> {
         let (version, rest) = bytes.split_first()?;
         let (process, rest) = rest.split_first_chunk()?;

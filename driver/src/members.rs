@@ -3,16 +3,16 @@ use durkenzo_store::Revision;
 use std::collections::BTreeMap;
 use std::ops::Deref;
 
-/// A server that is there: what lies at its key.
+/// A server that is there, as its key tells.
 #[derive(Clone, Debug, PartialEq, Eq)]
 pub struct Live {
     /// The number of its process.
     pub process: u64,
     /// The revision up to which it follows the records.
     pub followed: Revision,
-    /// The revision at which it joined: that of its key under the lease by which it is there.
+    /// The revision at which it joined: that of its key's creation under the present lease.
     pub joined: Revision,
-    /// Where it is reached.
+    /// Its addresses.
     pub addresses: Addresses,
 }
 
@@ -21,7 +21,7 @@ pub struct Live {
 pub struct Members(BTreeMap<u16, Live>);
 
 impl Members {
-    /// Returns the revision at which the server joined, if it is there. Another process of its name, or the same one
+    /// Returns the revision at which the server joined, if it is there. Another process with its name, or the same one
     /// under another lease, joined at another revision.
     pub fn joined_of(&self, server: u16) -> Option<Revision> {
         self.0.get(&server).map(|it| it.joined)
@@ -50,11 +50,11 @@ impl<const N: usize> From<[(u16, Live); N]> for Members {
     }
 }
 
-/// The version of what lies at a server's key.
+/// The version of the bytes at a server's key.
 const VERSION: u8 = 1;
 
 impl Live {
-    /// The bytes at its key: a version, both numbers, and each address behind its length.
+    /// Returns the bytes at its key: a version, both numbers, and each address behind its length.
     pub(crate) fn bytes(&self) -> Vec<u8> {
         let mut bytes = vec![VERSION];
         bytes.extend(self.process.to_be_bytes());
@@ -67,7 +67,7 @@ impl Live {
         bytes
     }
 
-    /// What these bytes say, where they are a server's, which lie at a key that was created at this revision.
+    /// Reads the bytes of a server, at a key that was created at this revision. Returns nothing if they are malformed.
     pub(crate) fn of(bytes: &[u8], created: Revision) -> Option<Live> {
         let (version, rest) = bytes.split_first()?;
         let (process, rest) = rest.split_first_chunk()?;

@@ -2,7 +2,7 @@ use durkenzo_store::{ReadError, WriteError};
 use std::io;
 use thiserror::Error;
 
-/// Why the shards of a store aren't opened.
+/// Why the shards of a store can't be opened.
 #[derive(Debug, Error)]
 pub enum OpenFault {
     /// The store can't be read.
@@ -11,10 +11,21 @@ pub enum OpenFault {
     /// The store can't be written.
     #[error("{0}")]
     Write(#[from] WriteError),
-    /// The number of the last process is none.
+    /// The number of the last process is malformed.
     #[error("at its key `process` lies no number: the store isn't of this program, or is damaged")]
     BadProcess,
-    /// There is no thread.
+    /// A thread can't be started.
     #[error("a thread can't be started: {0}")]
     Thread(#[source] io::Error),
+}
+
+impl OpenFault {
+    /// Returns whether the store isn't there, or doesn't answer.
+    pub fn is_unanswered(&self) -> bool {
+        match self {
+            OpenFault::Read(error) => error.is_unanswered(),
+            OpenFault::Write(error) => error.is_unanswered(),
+            OpenFault::BadProcess | OpenFault::Thread(_) => false,
+        }
+    }
 }

@@ -1,10 +1,10 @@
-//! A plan of moves, by a proved board that is opened for it.
+//! A plan of moves, which is made with a proved board that is opened for it.
 use crate::{CommandFault, Refused, ServerState};
 use durkenzo::{Board, Plan, PlanFault, Stand};
 use std::fmt::Display;
 
-/// Plans where the shards of the server go, or for 0 the vacant shards, by these settings. Shards and servers stand so
-/// meanwhile. Nothing is moved.
+/// Plans the moves of the server's shards, or of the vacant shards if `server` is 0, with these settings. `stands` and
+/// `states` are the present ones. Nothing is moved.
 pub(crate) fn planned(
     line: &str,
     stands: &[Stand],
@@ -17,7 +17,7 @@ pub(crate) fn planned(
     for (shard, stand) in (0..).zip(stands) {
         control.restore(shard, *stand).map_err(unplanned)?;
     }
-    // A server that has failed counts for the caps, by which others were approved before.
+    // A server that has failed counts for the caps by which others were approved before.
     for has_failed in [false, true] {
         for (server, state) in (1..).zip(states) {
             if (*state == ServerState::Failed) == has_failed {
@@ -35,7 +35,7 @@ pub(crate) fn planned(
     })
 }
 
-/// Makes the steps that lead a server which is up to this state.
+/// Makes the steps that lead a server from up to this state.
 fn have_stand(
     control: &durkenzo::Control<()>,
     server: u16,
@@ -58,7 +58,7 @@ fn have_stand(
     }
 }
 
-/// That no plan is made of what was read.
+/// Returns the fault that no plan can be made from the reading.
 fn unplanned(why: impl Display) -> Refused {
     Refused::Damaged(format!("no plan is made of it: {why}"))
 }

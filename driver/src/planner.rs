@@ -6,18 +6,18 @@ use durkenzo::{word, Record, Stand};
 use durkenzo_store::Revision;
 use durkenzo_store_sys::Code;
 
-/// Who the planner is to the proved control, which was elected once.
+/// The number of the planner's process for the proved control, which was elected once.
 const PROCESS: u64 = 1;
 const ELECTED: Revision = Revision(1);
-/// Everyone has read all that was written.
+/// Everyone has read everything that was written.
 const ALL_READ: Revision = Revision(u64::MAX);
 
-/// A proved control without a store. It judges commands and says what comes next, by the stands and states that its
-/// owner gives it. The owner makes the commands, and says which were made.
+/// A proved control without a store. It judges commands and chooses the next ones, from the stands and states that its
+/// owner gives it. The owner makes the commands, and tells which were made.
 ///
-/// It takes for granted that each server sees each change at once, as servers of one process do, and waits for no ack:
-/// data in memory is used by one thread at a time, so a server lets go of a shard before its record changes. It knows
-/// no admissions and no generations: whoever makes a change judges these.
+/// It assumes that each server sees each change at once, as servers of one process do, and waits for no ack: data in
+/// memory is used by one thread at a time, so a server lets go of a shard before its record changes. It knows neither
+/// admissions nor generations: whoever makes a change judges these.
 ///
 /// ```
 /// use durkenzo::Stand;
@@ -36,12 +36,12 @@ const ALL_READ: Revision = Revision(u64::MAX);
 #[derive(Debug)]
 pub struct Planner {
     director: Director,
-    /// How many commands were made since all was read.
+    /// How many commands were made since the last complete reading.
     made: u64,
 }
 
 impl Planner {
-    /// A planner of these settings, which has read nothing.
+    /// Makes a planner with these settings, which has read nothing.
     ///
     /// # Errors
     ///
@@ -54,16 +54,17 @@ impl Planner {
     }
 
     fn have_all_follow(&mut self) -> Result<(), CoreFault> {
-        let servers = 1..=self.director.servers() as u16;
-        self.director.follow(servers.map(|it| (it, ALL_READ)))
+        let servers = self.director.servers().to_vec();
+        let all = servers.into_iter().map(|it| (it, ALL_READ));
+        self.director.follow(all)
     }
 
-    /// Reads all anew: how each shard stands, and the state of each server, by number. A command that was judged and
-    /// not made is forgotten.
+    /// Reads everything again: the stand of each shard, and the state of each server, by number. A command that was
+    /// judged and not made is forgotten.
     ///
     /// # Errors
     ///
-    /// `Damaged` if there are more or fewer than the settings say, or no commands lead there.
+    /// `Damaged` if there are more or fewer than the settings say, or if no commands lead to these.
     pub fn read(
         &mut self,
         stands: impl IntoIterator<Item = Stand>,
@@ -83,7 +84,7 @@ impl Planner {
             let record = Record {
                 stand,
                 admitted: false,
-                // A shard has had a change exactly if it isn't vacant.
+                // A shard has had a change if and only if it isn't vacant.
                 generation: u64::from(stand != Stand::Vacant),
             };
             let word = word::of(&record).ok_or(CoreFault(Code::BAD_BYTES))?;
@@ -95,19 +96,19 @@ impl Planner {
         self.director.read(Revision::NEVER)
     }
 
-    /// Judges the command. If the command is allowed, the planner answers nothing else until [`Planner::made`] or
-    /// [`Planner::read`].
+    /// Judges the command. If it is allowed, the caller must call [`Planner::made`] or [`Planner::read`] next: until
+    /// then the planner answers nothing else.
     ///
     /// # Errors
     ///
-    /// `Judged` by the first fault that applies. The planner is then as it was.
+    /// `Judged` with the first fault that applies. The planner is then as it was.
     pub fn judge(&mut self, command: ControlCommand) -> Result<(), Refused> {
-        // A server begins anew with each step, as no process of its own does.
+        // A server begins again with each step, because no process of its own does.
         let runs = self.made + 1;
         self.director.command(command, runs).map_err(Refused::of)
     }
 
-    /// Learns that the command that was judged was made.
+    /// Learns that the judged command was made.
     ///
     /// # Errors
     ///
@@ -117,12 +118,12 @@ impl Planner {
         self.director.made(Revision(self.made)).map_err(Refused::of)
     }
 
-    /// Returns whether a command was made since all was read.
+    /// Returns whether a command was made since the last complete reading.
     pub fn has_made(&self) -> bool {
         self.made > 0
     }
 
-    /// Returns what comes next of the shard: its migration takes the next step.
+    /// Returns the next step of the shard's migration.
     ///
     /// # Errors
     ///
@@ -131,7 +132,7 @@ impl Planner {
         self.director.next_of_shard(shard).map_err(Refused::of)
     }
 
-    /// Returns what comes next of the server's restart.
+    /// Returns the next step of the server's restart.
     ///
     /// # Errors
     ///
@@ -140,7 +141,7 @@ impl Planner {
         self.director.next_of_server(server).map_err(Refused::of)
     }
 
-    /// Returns what comes next of the drain of the server, or for 0 of the vacant shards.
+    /// Returns the next step of the drain of the server, or of the vacant shards if `server` is 0.
     ///
     /// # Errors
     ///
@@ -149,7 +150,7 @@ impl Planner {
         self.director.next_of_drain(server).map_err(Refused::of)
     }
 
-    /// Returns the state of the server, as far as commands that were made lead.
+    /// Returns the state of the server after the commands that were made.
     ///
     /// # Errors
     ///
@@ -160,7 +161,7 @@ impl Planner {
     }
 }
 
-/// The bytes of a record's word, or of a state's number, by nobody.
+/// Returns the bytes of a record's word, or of a state's number, written by no process.
 fn written(number: u64) -> [u8; 17] {
     let mut bytes = VACANT;
     bytes[1..9].copy_from_slice(&number.to_be_bytes());

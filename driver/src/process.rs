@@ -1,8 +1,8 @@
-//! The numbers of processes, which nobody has twice.
+//! The numbers of processes. No two processes have the same one.
 use crate::{keys, OpenFault};
 use durkenzo_store::{Outcome, Revision, Store, Transaction, WriteError};
 
-/// How often it is asked again where what became of it isn't known.
+/// How often it tries again if the outcome isn't known.
 const TRIES: usize = 8;
 
 /// Takes the next number of a process.
@@ -22,7 +22,7 @@ pub(crate) fn begin(store: &dyn Store) -> Result<u64, OpenFault> {
         match store.make(transaction) {
             Ok(Outcome::Made(_)) => return Ok(next),
             Ok(Outcome::Lost(_)) => {}
-            // The number may be taken, by nobody then.
+            // The number may be taken. If it is, nobody has it.
             Err(WriteError::Unknown(_)) if left > 0 => left -= 1,
             Err(error) => return Err(error.into()),
         }

@@ -1,6 +1,6 @@
 //! How a server recovers a shard from the store: it reads the record and the head of the log at one moment, then the
 //! parts of the base that the head names, and the batches after the base. A server that has read the shard before reads
-//! the batches after those that it has.
+//! only the batches after those that it has.
 use crate::decision::Passing;
 use crate::keys;
 use crate::proved::Core;
@@ -8,21 +8,21 @@ use crate::{core_fault::CoreFault, StoredRecord};
 use durkenzo_store::{Pair, ReadError, Reading, Revision, Store};
 use durkenzo_store_sys::Head;
 
-/// How many batches are read at first, and how many parts: then always twice as many, as long as they are small.
+/// How many batches, or parts, are read at first. Then it reads twice as many each time, as long as they are small.
 const BATCHES: u64 = 64;
 const PARTS: u64 = 4;
-/// How many are read at once at most, and how many bytes are small.
+/// The most that are read at once, and how many bytes are small.
 const MOST: u64 = 256;
 const SMALL: u64 = 1 << 20;
 
-/// Why a server didn't recover a shard.
+/// Why a server couldn't recover a shard.
 #[derive(Clone, Debug)]
 pub(crate) enum RecoveryFault {
     /// It may succeed later.
     Later,
-    /// It may succeed once the store answers. This is what the store told.
+    /// It may succeed once the store answers. This is the store's message.
     Unanswered(String),
-    /// What lies in the store is wrong.
+    /// The store's content is wrong.
     Damaged(String),
     /// The store has ended.
     Ended(String),
@@ -58,9 +58,9 @@ pub(crate) struct Recovered {
     pub(crate) log: LogRead,
 }
 
-/// A server that hasn't read what it was to read.
+/// A server that couldn't read everything.
 pub(crate) struct Unrecovered {
-    /// The server, if it has kept what it had made before.
+    /// The server, if it has kept the requests that it had made before.
     pub(crate) kept: Option<Core>,
     pub(crate) fault: RecoveryFault,
 }
@@ -74,7 +74,7 @@ impl<F: Into<RecoveryFault>> From<F> for Unrecovered {
     }
 }
 
-/// What was read of a shard's log.
+/// The part of a shard's log that was read.
 #[derive(Clone, Copy, Debug)]
 pub(crate) struct LogRead {
     /// The bytes of the base, if it was read.
@@ -86,7 +86,7 @@ pub(crate) struct LogRead {
     bytes_read: u64,
 }
 
-/// How long a shard's log is behind its base.
+/// The length of a shard's log behind its base.
 #[derive(Clone, Copy, Debug, Default)]
 pub(crate) struct LogSize {
     /// The bytes of the base.
@@ -97,8 +97,8 @@ pub(crate) struct LogSize {
 }
 
 impl LogSize {
-    /// Notes what was read. If that was only what was added, the bytes are those of as many batches as all had so far
-    /// on average, because a newer base may stand for some.
+    /// Notes what was read. If only the added batches were read, their bytes are taken to be the average of all batches
+    /// so far, because a newer base may replace some of them.
     pub(crate) fn note(&mut self, read: LogRead) {
         let (batches, bytes) = match read.base {
             Some(base) => {
@@ -130,8 +130,9 @@ struct Moment {
     named: Head,
 }
 
-/// A server that has read the shard. One that has kept what it had made reads only what the log has and it hasn't.
-/// Where that isn't there any more, as a base stands for it, it reads the base as any other.
+/// Returns a server that has read the shard. If the server has kept the requests that it had made, it reads only the
+/// batches that it lacks. If those are gone because a base has replaced them, it reads the base, as any other server
+/// does.
 pub(crate) fn recover(
     store: &dyn Store,
     kept: Option<Core>,
@@ -162,7 +163,7 @@ fn moment(store: &dyn Store, shard: u16) -> Result<Moment, RecoveryFault> {
     })
 }
 
-/// Reads the batches after so many, up to those of the head, and gives each to the server; returns their bytes.
+/// Reads the batches after so many, up to those of the head, and gives each to the server. Returns their bytes.
 fn read_batches(
     store: &dyn Store,
     core: &mut Core,
@@ -175,7 +176,7 @@ fn read_batches(
     each(store, from, &end, BATCHES, |it| core.add_batch(&it.value))
 }
 
-/// A server that has read all of the shard.
+/// Returns a server that has read all of the shard.
 fn read_whole(store: &dyn Store, place: ServerPlace) -> Result<Recovered, RecoveryFault> {
     let ServerPlace {
         server,
@@ -200,8 +201,8 @@ fn read_whole(store: &dyn Store, place: ServerPlace) -> Result<Recovered, Recove
     Ok(recovered(core, now, log))
 }
 
-/// The server with what was added to the log since; none if that isn't there, or the server can't go on from it. It
-/// keeps what it had made if the store doesn't answer.
+/// Returns the server with the batches that were added to the log since. Returns nothing if they are gone, or if the
+/// server can't go on from them. If the store doesn't answer, the server keeps the requests that it had made.
 fn caught_up(
     store: &dyn Store,
     mut core: Core,
@@ -217,7 +218,7 @@ fn caught_up(
     let (now, bytes) = match read {
         Ok(read) => read,
         Err(fault @ RecoveryFault::Unanswered(_)) => {
-            // What it was given so far is let go.
+            // The batches that it was given so far are dropped.
             let kept = core.lost().is_ok().then_some(core);
             return Err(Unrecovered { kept, fault });
         }
@@ -246,7 +247,7 @@ fn recovered(core: Core, now: Moment, log: LogRead) -> Recovered {
     }
 }
 
-/// The value and the revision of a key, or these bytes if it was never written.
+/// Returns the value and the revision of a key, or `never` if it was never written.
 fn found(reading: &Reading, key: &[u8], never: &[u8]) -> (Vec<u8>, Revision) {
     reading.get(key).map_or_else(
         || (never.to_vec(), Revision::NEVER),
@@ -254,9 +255,9 @@ fn found(reading: &Reading, key: &[u8], never: &[u8]) -> (Vec<u8>, Revision) {
     )
 }
 
-/// Gives what lies at the keys from this one on and before the end, in their order, at first so many at once; returns
-/// how many bytes that were. Where one isn't there, the server tells so when it reads. A page that doesn't come is
-/// asked for again as a small one, as what it has may be large.
+/// Calls `give` for the value at each key from this one on and before the end, in their order, at first with so many at
+/// once. Returns how many bytes they have. If a value is missing, the server notices that when it reads. If a page
+/// doesn't come, a smaller one is asked for, because its values may be large.
 fn each(
     store: &dyn Store,
     mut from: Vec<u8>,
@@ -290,8 +291,8 @@ fn each(
     Ok(bytes)
 }
 
-/// What may be behind the base that the head names: all parts of bases, and the batches up to the base that are there,
-/// in their order.
+/// Returns the keys that the base which the head names may have replaced: all parts of bases, and the existing batches
+/// up to the base, in their order.
 pub(crate) fn passing(store: &dyn Store, shard: u16) -> Result<Vec<Passing>, RecoveryFault> {
     let key = keys::head(shard);
     let reading = store.read(&[&key])?;

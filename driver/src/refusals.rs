@@ -1,12 +1,12 @@
-//! What is said of a refusal of the control, by the name that scripts and `SM` have for it.
+//! The texts about the control's refusals, by the names that scripts and `SM` have for them.
 
-/// Returns why the control refuses by this name. Returns `None` if it refuses by no such name.
+/// Returns why the control refuses with this name. Returns `None` if there is no such refusal.
 pub fn sentence_of(name: &str) -> Option<&'static str> {
     row(name).map(|it| it.0)
 }
 
-/// Returns what to do with `SM` about a refusal by this name, if the command named this server. Returns `None` if the
-/// control refuses by no such name.
+/// Returns the advice about a refusal with this name, for `SM`, if the command named this server. Returns `None` if
+/// there is no such refusal.
 pub fn advice_on(name: &str, server: u16) -> Option<String> {
     row(name).map(|it| it.1.replace("{A}", &server.to_string()))
 }
@@ -111,7 +111,7 @@ mod tests {
         let mut told = 0;
         for fault in (10..50).map(CommandFault::of) {
             let name = format!("{fault:?}").replace("Change", "");
-            // The store's control says more of a record that has changed.
+            // About a record that has changed, the store's control says more.
             if !matches!(fault, CommandFault::Other(_) | CommandFault::Busy) {
                 assert_eq!(sentence_of(&name), Some(&*fault.to_string()), "{name}");
                 told += 1;

@@ -1,25 +1,42 @@
 use crate::core_fault::CoreFault;
 use crate::{CommandFault, OpenFault};
+use durkenzo::SettingsFault;
 use durkenzo_store::{ReadError, WriteError};
 use durkenzo_store_sys::Code;
 use thiserror::Error;
 
-/// Why the control doesn't do what it is asked for.
+/// Why the control doesn't make a command.
 #[derive(Debug, Error)]
 pub enum Refused {
     /// The proved control refuses it.
     #[error("the control refuses it: {0}")]
     Judged(CommandFault),
-    /// What lies in the store isn't what commands lead to.
+    /// The store's content isn't a result of commands.
     #[error("what lies in the store is wrong: {0}")]
     Damaged(String),
-    /// The store is of other settings.
+    /// The store has other settings.
     #[error("the store is of other settings")]
     OtherSettings,
+    /// The new settings break a rule.
+    #[error("the settings break a rule: {0}")]
+    BadSettings(SettingsFault),
+    /// The new settings have other shards. Their number and bounds must stay.
+    #[error("the number and the bounds of shards stay as they are")]
+    OtherShards,
+    /// The new settings have another ceiling of generations, which must stay.
+    #[error("the ceiling stays as it is")]
+    OtherCeiling,
+    /// The new settings lack this server, which has neither stopped nor failed.
+    #[error("server {0} is in use: drain it, and end its process, before it is taken out")]
+    InUse(u16),
+    /// A shard is at a server that the new settings lack, or exceeds their limits, or they allow fewer servers to be
+    /// away than are.
+    #[error("shards and servers stand beyond what these settings allow: move shards, or wait for restarts")]
+    Unkept,
     /// Another process leads.
     #[error("another process leads")]
     NotLeader,
-    /// This server hasn't failed: its key is there, under its lease.
+    /// This server hasn't failed, because its key is there, under its lease.
     #[error("server {0} is there, under its lease")]
     StillThere(u16),
     /// The store can't be read.
@@ -56,7 +73,7 @@ impl Refused {
         }
     }
 
-    /// That what became of it isn't known, though it was tried again.
+    /// Returns the fault that the outcome isn't known, though the command was tried again.
     pub(crate) fn in_vain() -> Refused {
         let why = "it was sent as often as may be";
         WriteError::Unknown(why.to_owned()).into()
@@ -81,7 +98,7 @@ mod tests {
         }
         let apart = "what lies in the store is wrong: records and states don't go together";
         assert_eq!(told(Code::DIRECTOR_DIFFERENT), apart);
-        // Codes of which no command is refused.
+        // No command is refused with these codes.
         for code in [3, 15, 27, 50, 92] {
             let wrong =
                 format!("what lies in the store is wrong: the proved control answered code {code}");

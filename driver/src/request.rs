@@ -1,30 +1,30 @@
 /// A key of a shard: 1 to 255 bytes.
 pub type Key = Box<[u8]>;
 
-/// The kinds of requests, as their bytes tell them.
+/// The kinds of requests, as their bytes encode them.
 const GET: u8 = 1;
 pub(crate) const PUT: u8 = 2;
 pub(crate) const APPEND: u8 = 3;
 pub(crate) const ADD: u8 = 4;
 pub(crate) const DELETE: u8 = 5;
-/// How many bytes the amount of an addition has.
+/// The size of an addition's amount in bytes.
 pub(crate) const COUNT_BYTES: usize = 8;
 
-/// A request that a shard's map makes.
+/// A request to a shard's map.
 #[derive(Clone, Debug, PartialEq, Eq)]
 pub enum MapRequest {
-    /// Has the key hold this text, where it holds no count.
+    /// Sets the key to this text, unless it has a count.
     Put(Key, Vec<u8>),
-    /// Adds to the text that the key holds, from an empty one where it holds nothing.
+    /// Appends to the text of the key. If the key has no value, appends to an empty text.
     Append(Key, Vec<u8>),
-    /// Adds to the count that the key holds, from 0 where it holds nothing.
+    /// Adds to the count of the key. If the key has no value, adds to 0.
     Add(Key, i64),
-    /// Has the key hold nothing.
+    /// Deletes the key.
     Delete(Key),
 }
 
 impl MapRequest {
-    /// The key that it changes.
+    /// Returns the key that it changes.
     pub fn key(&self) -> &Key {
         match self {
             MapRequest::Put(key, _)
@@ -34,12 +34,12 @@ impl MapRequest {
         }
     }
 
-    /// Whether it only deletes.
+    /// Returns whether it only deletes.
     pub(crate) fn deletes(&self) -> bool {
         matches!(self, MapRequest::Delete(_))
     }
 
-    /// How many its bytes are.
+    /// Returns how many bytes it has.
     pub(crate) fn length(&self) -> usize {
         let rest = match self {
             MapRequest::Put(_, text) | MapRequest::Append(_, text) => text.len(),
@@ -49,7 +49,7 @@ impl MapRequest {
         2 + self.key().len() + rest
     }
 
-    /// Its bytes: the kind, how long the key is, the key, and what goes with it.
+    /// Returns its bytes: the kind, the length of the key, the key, and the argument.
     pub(crate) fn bytes(&self) -> Vec<u8> {
         match self {
             MapRequest::Put(key, text) => spelled(PUT, key, text),
@@ -60,18 +60,18 @@ impl MapRequest {
     }
 }
 
-/// Whether a request of these bytes only deletes.
+/// Returns whether a request of these bytes only deletes.
 pub(crate) fn is_deletion(bytes: &[u8]) -> bool {
     bytes.first() == Some(&DELETE)
 }
 
-/// The bytes of a request for what the key holds.
+/// Returns the bytes of a request for the value of the key.
 pub(crate) fn get_bytes(key: &[u8]) -> Vec<u8> {
     spelled(GET, key, &[])
 }
 
 fn spelled(kind: u8, key: &[u8], rest: &[u8]) -> Vec<u8> {
-    // A longer key is refused where the command is read; cut, its request is none.
+    // The reader of commands refuses a longer key. If it were cut here, its request would be malformed.
     let length = u8::try_from(key.len()).unwrap_or(0);
     let mut bytes = Vec::with_capacity(2 + key.len() + rest.len());
     bytes.extend([kind, length]);
@@ -80,30 +80,30 @@ fn spelled(kind: u8, key: &[u8], rest: &[u8]) -> Vec<u8> {
     bytes
 }
 
-/// Some of a shard's keys, in their order.
+/// A range of a shard's keys, in their order.
 #[derive(Clone, Debug, PartialEq, Eq)]
 pub struct Range {
-    /// They are no lower than this, which may be empty.
+    /// No key is below this bound, which may be empty.
     pub low: Box<[u8]>,
-    /// They are lower than this, where it is told.
+    /// All keys are below this bound, if there is one.
     pub high: Option<Box<[u8]>>,
-    /// So many at most; no more than [`Range::MOST`] are given.
+    /// The most keys that are wanted. At most [`Range::MOST`] are returned.
     pub most: usize,
 }
 
 impl Range {
-    /// How many pairs are given at once.
+    /// The most pairs that are returned at once.
     pub const MOST: usize = 100;
 }
 
-/// What a shard's map replied.
+/// The reply of a shard's map.
 #[derive(Clone, Debug, PartialEq, Eq)]
 pub enum MapReply {
-    /// A key, and what it holds: of a range.
+    /// A key and its value (reply to a range).
     Pair(Key, Box<MapReply>),
-    /// A key that holds something: of a range.
+    /// A key that has a value (reply to a range).
     Key(Key),
-    /// The key held nothing.
+    /// The key had no value.
     Nothing,
     /// It was done.
     Done,
@@ -111,18 +111,18 @@ pub enum MapReply {
     Text(Vec<u8>),
     /// The count that the key holds.
     Count(i64),
-    /// The key holds a count where a text is wanted, or a text where a count is.
+    /// The key holds a count, but the request is for a text; or the reverse.
     WrongKind,
-    /// The sum lies outside of 64 bits.
+    /// The sum doesn't fit into 64 bits.
     Overflow,
     /// The text would be too long.
     TooLong,
-    /// The bytes are no request.
+    /// The bytes aren't a request.
     Malformed,
 }
 
 impl MapReply {
-    /// That of this kind.
+    /// Makes the reply of this kind.
     pub(crate) fn of(kind: u8, value: u64, text: &[u8]) -> MapReply {
         match kind {
             0 => MapReply::Nothing,

@@ -10,59 +10,59 @@ use durkenzo_store::Revision;
 use std::collections::{BTreeSet, HashMap, HashSet, VecDeque};
 use std::time::Instant;
 
-/// How many requests a round takes before no more work comes in, and how many bytes of them.
+/// After so many requests, or so many of their bytes, a round takes no more work.
 const MOST_REQUESTS: usize = 1_024;
 pub(crate) const MOST_BYTES: usize = 1 << 20;
 
-/// How many bits of a client's number tell its place in a round; those above tell the process.
+/// How many bits of a client's number are its place in a round. The bits above are the process.
 pub(crate) const PLACE_BITS: u32 = 16;
 
-/// Which steps a round takes.
+/// The steps that a round takes.
 #[derive(Clone, Copy, Debug, Default, PartialEq, Eq)]
 pub(crate) enum StepFilter {
     #[default]
     All,
-    /// Those that write nothing in this round, or only delete: the store took no writes.
+    /// Steps that write nothing in this round, or only delete, because the store took no writes.
     NoGrowth,
-    /// Those that only read, which may be answered without a transaction, or go before what waits to be written.
+    /// Steps that only read. They may be answered without a transaction, or before waiting writes.
     OnlyReads,
 }
 
-/// Requests that are decided together, and sent together: the group of a group commit. What is written is within a
-/// bound, or of one step alone: so no step is ever made half.
+/// The requests of a group commit: they are decided together and sent together. The writes are within a bound, or
+/// belong to one step. So no step is ever made in part.
 ///
-/// Reads see what was there before its writes. So a run's reads come before its writes, and no key that a change reads
-/// is written, or read by another change: what it then writes, first in the next round, is decided by what is still
-/// there.
+/// Reads see the state before the round's writes. So the reads of a run come before its writes. If a change reads a
+/// key, no step writes that key, and no other change reads it. So when the change's writes come first in the next
+/// round, the values that decided them are still there.
 pub(crate) struct Round {
     pub(crate) number: u64,
     pub(crate) since: Instant,
     pub(crate) requests: Vec<RoundRequest>,
-    /// Whether a part of it may have been made, as what became of a transaction isn't known.
+    /// Whether a part of it may have been made, because the outcome of a transaction isn't known.
     pub(crate) may_be_made: bool,
     /// Whether others may have written since its changes were decided.
     pub(crate) is_broken: bool,
-    /// The number of the process, which its clients' numbers begin with.
+    /// The number of the process, with which its clients' numbers begin.
     pub(crate) process: u64,
     pub(crate) filter: StepFilter,
-    /// Where requests are of clients that number them.
+    /// The places of requests whose clients number them.
     numbered: HashMap<u64, usize>,
     steps: Vec<RoundStep>,
     bytes: usize,
-    /// How much is written, and how much that may be where it isn't of one step.
+    /// How much is written, and how much may be written if it isn't all of one step.
     writes: Size,
     most_writes: Size,
-    /// Whether a step came that had no room any more.
+    /// Whether a step came for which there was no more room.
     is_closed: bool,
     read: HashSet<Key>,
     written: HashSet<Key>,
-    /// Runs that wrote, which read no more, and runs that had to stop.
+    /// Runs that have written, which read no more; and runs that had to stop.
     wrote: HashSet<u64>,
     stopped: HashSet<u64>,
 }
 
 impl Round {
-    /// One in which several steps write so many bytes together at most.
+    /// Makes a round in which several steps write at most so many bytes together.
     pub(crate) fn new(number: u64, process: u64, most_bytes: usize, since: Instant) -> Round {
         Round {
             number,
@@ -92,37 +92,37 @@ impl Round {
         self.steps.is_empty()
     }
 
-    /// Whether no more work comes in.
+    /// Returns whether no more work comes in.
     pub(crate) fn is_full(&self) -> bool {
         self.is_closed || self.requests.len() >= MOST_REQUESTS || self.bytes >= MOST_BYTES
     }
 
-    /// Whether nobody waits any more for one of its steps, and nothing of it may be made.
+    /// Returns whether nobody waits any more for one of its steps, and nothing of it may have been made.
     pub(crate) fn has_unwanted(&self) -> bool {
         let is_unwanted = |it: &RoundStep| !it.step.work.is_wanted();
         !self.may_be_made && self.steps.iter().any(is_unwanted)
     }
 
-    /// Whether each of its steps only reads. One that decides by what it reads doesn't: where it then writes nothing,
-    /// no later transaction finds that what it read was stale.
+    /// Returns whether each of its steps only reads. A step that decides by its reads doesn't count: if it then writes
+    /// nothing, no later transaction finds out that its reads were stale.
     pub(crate) fn only_reads(&self) -> bool {
         self.steps.iter().all(|it| it.step.begin.only_reads())
     }
 
-    /// Whether it writes, and only deletes.
+    /// Returns whether it writes, and only deletes.
     pub(crate) fn frees(&self) -> bool {
         let mut writes = self.steps.iter().filter(|it| it.kind.writes()).peekable();
         writes.peek().is_some() && writes.all(|it| it.frees)
     }
 
-    /// How many bytes are written, where several steps write.
+    /// Returns how many bytes are written, if several steps write.
     pub(crate) fn bytes_of_several(&self) -> Option<usize> {
         let writes = |it: &&RoundStep| it.kind.writes() && it.count > 0;
         (self.steps.iter().filter(writes).count() > 1).then_some(self.writes.bytes)
     }
 
-    /// Takes what changes decided, as far as it has room; what stays comes first in the next round. Until that is made
-    /// nothing else is written, and no more is done of those runs.
+    /// Takes the writes that changes decided, as far as there is room. The rest comes first in the next round. Until
+    /// these are made, nothing else is written, and no other step of those runs is done.
     pub(crate) fn take_decided(&mut self, decided: &mut VecDeque<DecidedChange>) {
         while let Some(next) = decided.pop_front() {
             if self.filter != StepFilter::All || !self.has_room(&next.requests) {
@@ -140,14 +140,14 @@ impl Round {
         }
     }
 
-    /// Whether these requests can be written beside what is.
+    /// Returns whether these requests can be written beside the others.
     fn has_room(&self, requests: &[MapRequest]) -> bool {
         let is_first = self.writes == Size::default();
         is_first || (self.writes + Size::of(requests)).is_within(self.most_writes)
     }
 
-    /// Takes the run's next step, or gives the step back if it has to wait for the next round. The lister lists keys,
-    /// if there is one.
+    /// Takes the run's next step, or gives the step back if it must wait for the next round. If there is a lister, it
+    /// lists keys.
     pub(crate) fn take(
         &mut self,
         origin: Origin,
@@ -160,7 +160,7 @@ impl Round {
             return Err(step);
         }
         if !self.has_room(step.begin.requests()) {
-            // What comes later doesn't pass it: so its turn comes.
+            // Later steps don't overtake it, so its turn comes.
             self.is_closed = true;
             return Err(step);
         }
@@ -213,7 +213,7 @@ impl Round {
                 !self.wrote.contains(&run) && !keys.iter().any(is_taken)
             }
             Begin::Write(requests) => !requests.iter().any(reads),
-            // Of a client that numbers its requests one number waits at a time.
+            // A client that numbers its requests has only one number waiting at a time.
             Begin::Numbered(numbered, requests) => {
                 !self.numbered.contains_key(&numbered.first()) && !requests.iter().any(reads)
             }
@@ -274,7 +274,7 @@ impl Round {
         });
     }
 
-    /// The request of this client and number, where it is of this round.
+    /// Returns the request with this client and number, if it is in this round.
     pub(crate) fn request_by(&mut self, client: u64, number: u64) -> Option<&mut RoundRequest> {
         let floor = self.process << PLACE_BITS;
         let place = self.numbered.get(&client).copied();
@@ -283,25 +283,25 @@ impl Round {
         (request.client == client && request.number == number).then_some(request)
     }
 
-    /// Where the step of this request is from.
+    /// Returns the origin of this request's step.
     pub(crate) fn origin_of(&self, request: &RoundRequest) -> Option<Origin> {
         Some(self.steps.get(request.step)?.origin)
     }
 
-    /// Whether the request is of a client that numbers them.
+    /// Returns whether the request's client numbers its requests.
     pub(crate) fn is_numbered(&self, request: &RoundRequest) -> bool {
         self.numbered.contains_key(&request.client)
     }
 
-    /// Has the step of this place come to its end so.
+    /// Ends the step at this place with this reason.
     pub(crate) fn end_step(&mut self, place: usize, why: NotDone) {
         if let Some(step) = self.steps.get_mut(place) {
             step.ends = Some(why);
         }
     }
 
-    /// Has all steps that write come to their end so; returns whether there are some. If some only delete, and others
-    /// write more, those begin anew without these, unless they may be made.
+    /// Ends all steps that write with this reason, and returns whether there are some. If some steps only delete, and
+    /// others write more, the deletions begin again without the others, unless they may have been made.
     pub(crate) fn end_writes(&mut self, why: &NotDone) -> bool {
         let grows = |it: &RoundStep| it.kind.writes() && !it.frees;
         let are_aborted = !self.may_be_made && self.steps.iter().any(grows);
@@ -310,13 +310,13 @@ impl Round {
         writes.map(|it| it.ends = Some(why.clone())).count() > 0
     }
 
-    /// Has all steps of this run come to their end so.
+    /// Ends all steps of this run with this reason.
     pub(crate) fn end_run(&mut self, run: u64, why: &NotDone) {
         let of_run = self.steps.iter_mut().filter(|it| it.origin.run == run);
         of_run.for_each(|it| it.ends = Some(why.clone()));
     }
 
-    /// Whether it has what a change decided, of which nothing is made.
+    /// Returns whether it has writes that a change decided, and of which nothing was made.
     pub(crate) fn has_undone_change(&self) -> bool {
         let is_undone = |it: &RoundStep| {
             let requests = self.requests[it.first..][..it.count].iter();
@@ -325,8 +325,8 @@ impl Round {
         self.steps.iter().any(is_undone)
     }
 
-    /// Whether keys were listed by another server than the one at which that waits, or by an earlier head than the one
-    /// that it has, which this tells: then they may not be those that it has.
+    /// Returns whether keys were listed by another server than the one at which their requests wait, or by an earlier
+    /// head than that server has now, which `logged` tells. Then they may not be the keys that it has.
     pub(crate) fn is_listed_elsewhere(&self, logged: impl Fn(u16) -> Option<Revision>) -> bool {
         let is_elsewhere = |it: &RoundStep| {
             let requests = self.requests[it.first..][..it.count].iter();
@@ -340,19 +340,20 @@ impl Round {
         lists.any(is_elsewhere)
     }
 
-    /// Whether each request has its reply.
+    /// Returns whether each request has its reply.
     pub(crate) fn is_replied(&self) -> bool {
         self.requests.iter().all(|it| it.reply.is_some())
     }
 
-    /// The servers at which requests wait.
+    /// Returns the servers at which requests wait.
     pub(crate) fn waits_at(&self) -> BTreeSet<u16> {
         let waits = self.requests.iter().filter(|it| it.reply.is_none());
         waits.filter_map(|it| it.waits_at).collect()
     }
 
-    /// Has the requests that wait at this server be decided again, and drops what the server listed, so that the round
-    /// lists anew. If the round may be made, its lists stay: its transaction compared the head by which they are right.
+    /// Takes back the requests that wait at this server, so that they are decided again, and drops the server's lists,
+    /// so that the round lists again. If the round may have been made, its lists stay, because its transaction compared
+    /// the head for which they are right.
     pub(crate) fn take_back(&mut self, server: u16) {
         for it in &mut self.requests {
             if it.waits_at == Some(server) {
@@ -372,7 +373,7 @@ impl Round {
         }
     }
 
-    /// Returns what becomes of each step, once each request has its reply.
+    /// Returns the outcome of each step, once each request has its reply.
     pub(crate) fn finished(self) -> Vec<FinishedStep> {
         let mut replies = self.requests.into_iter().filter_map(|it| it.reply);
         let finished = self.steps.into_iter().map(|mut it| {
@@ -395,7 +396,7 @@ impl Round {
         finished.collect()
     }
 
-    /// Returns what becomes of each step, if nothing that has no reply is made, or will be.
+    /// Returns the outcome of each step, if no request without a reply was made or will be.
     pub(crate) fn aborted(self) -> Vec<AbortedStep> {
         let requests = self.requests;
         let aborted = self.steps.into_iter().map(|mut it| {
@@ -410,7 +411,8 @@ impl Round {
         aborted.collect()
     }
 
-    /// Its work with what became of each, where it goes no further: what is replied is, and all else isn't done.
+    /// Returns its works with their outcomes, if it goes no further. Steps with replies have these, and all others
+    /// aren't done.
     pub(crate) fn given_up(self, why: &NotDone) -> Vec<(Box<dyn Work>, WorkOutcome)> {
         let requests = self.requests;
         let told = self.steps.into_iter().map(|mut it| {
@@ -426,7 +428,7 @@ impl Round {
     }
 }
 
-/// The replies to these requests, where each has one.
+/// Returns the replies to these requests, if each has one.
 fn replies_of(requests: &[RoundRequest]) -> Option<Vec<MapReply>> {
     requests.iter().map(|it| it.reply.clone()).collect()
 }
@@ -457,7 +459,8 @@ mod tests {
         fn end(self: Box<Self>, _outcome: WorkOutcome) {}
     }
 
-    /// Returns whether a round lists anew that server 1 listed for, if the server is read again and has the same head.
+    /// Returns whether a round for which server 1 has listed lists again, if the server is read again and has the same
+    /// head.
     fn lists_anew_once_read_again(may_be_made: bool) -> bool {
         let (since, logged) = (Instant::now(), Revision(1));
         let mut round = Round::new(1, 1, MOST_BYTES, since);

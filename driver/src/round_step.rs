@@ -3,13 +3,13 @@ use crate::run::{DecidedChange, Origin};
 use crate::work::{Work, WorkOutcome, WorkStep};
 use crate::{MapReply, NotDone};
 
-/// What a step does in its round.
+/// The kind of a step in its round.
 #[derive(Clone, Copy, PartialEq, Eq)]
 pub(crate) enum StepKind {
     Read,
     /// It lists keys.
     List,
-    /// It reads the keys by which it decides what it writes.
+    /// It reads the keys by which it decides its writes.
     Change,
     Write,
     /// It writes what it decided in the round before.
@@ -30,7 +30,7 @@ pub(crate) struct RoundStep {
     /// The place of the step's first request in the round, and how many requests the step has.
     pub(crate) first: usize,
     pub(crate) count: usize,
-    /// What was listed for the step, if it lists keys and its server was ready.
+    /// The list for the step, if it lists keys and its server was ready.
     pub(crate) listed: Option<KeyList>,
     /// Whether the step writes, and only deletes.
     pub(crate) frees: bool,
@@ -39,7 +39,7 @@ pub(crate) struct RoundStep {
 }
 
 impl RoundStep {
-    /// Returns what the step is told, by the replies to its requests.
+    /// Returns the replies to the step, from the replies to its requests.
     pub(crate) fn told(&mut self, replies: Vec<MapReply>) -> Vec<MapReply> {
         match self.listed.take() {
             Some(listed) => listed.told(replies),
@@ -51,10 +51,10 @@ impl RoundStep {
 /// A request of a round.
 pub(crate) struct RoundRequest {
     pub(crate) bytes: Vec<u8>,
-    /// The client and its number, by which the shard keeps the last request of each client.
+    /// The client and its number, under which the shard keeps the last request of each client.
     pub(crate) client: u64,
     pub(crate) number: u64,
-    /// The place of its step among those of the round.
+    /// The place of its step among the steps of the round.
     pub(crate) step: usize,
     pub(crate) reply: Option<MapReply>,
     /// The server at which it waits for the next transaction.
@@ -62,19 +62,19 @@ pub(crate) struct RoundRequest {
 }
 
 impl RoundRequest {
-    /// Whether it has its reply, or waits at a server.
+    /// Returns whether it has its reply, or waits at a server.
     pub(crate) fn is_placed(&self) -> bool {
         self.reply.is_some() || self.waits_at.is_some()
     }
 }
 
-/// What becomes of a step once each request of its round has its reply.
+/// The outcome of a step once each request of its round has its reply.
 pub(crate) enum FinishedStep {
     Told(Box<dyn Work>, WorkOutcome),
     Decided(DecidedChange),
 }
 
-/// What becomes of a step if its round is aborted.
+/// The outcome of a step if its round is aborted.
 pub(crate) enum AbortedStep {
     Told(Box<dyn Work>, WorkOutcome),
     /// It is tried again.

@@ -1,15 +1,16 @@
-use crate::{keys, Addresses, Live, Members, StoredRecord};
+use crate::{keys, Live, Members, StoredRecord};
 use durkenzo_store::{ReadError, Revision, Seen, Store, Watch};
 use std::collections::BTreeMap;
 use std::fmt;
 use std::sync::{Arc, Mutex, PoisonError, RwLock};
 
-/// Which server owns each shard, and where servers are, as a watch of the store tells it to a process that runs none.
+/// The owner of each shard, and the addresses of servers, as a watch of the store tells them to a process that runs no
+/// server.
 ///
-/// A route never goes back: once a record was seen, no earlier one of the shard is told.
+/// A route never goes back: once a record was seen, no earlier record of the shard is returned.
 pub struct RouteMap {
     seen: Arc<RwLock<SeenRoutes>>,
-    /// They end with this value.
+    /// The watches end with this value.
     _watches: Mutex<[Watch; 2]>,
 }
 
@@ -24,8 +25,8 @@ struct SeenRoutes {
 pub struct SeenRoute {
     /// The server.
     pub server: u16,
-    /// Where it is reached.
-    pub addresses: Addresses,
+    /// The address at which other servers reach it, and clients by a fleet's frames.
+    pub address: String,
     /// The revision of the shard's record.
     pub revision: Revision,
 }
@@ -57,7 +58,7 @@ impl RouteMap {
         let server = stored.record()?.owner()?;
         Some(SeenRoute {
             server,
-            addresses: seen.members.get(&server)?.addresses.clone(),
+            address: seen.members.get(&server)?.addresses.servers.clone(),
             revision: stored.revision(),
         })
     }

@@ -6,21 +6,21 @@ use durkenzo_store::Revision;
 use std::collections::VecDeque;
 use std::time::Instant;
 
-/// How many requests of one run a round takes before other runs have their turn.
+/// The most requests of one run that a round takes before other runs have their turn.
 const SHARE: usize = 16;
 
-/// Where steps come from.
+/// The origin of steps.
 #[derive(Clone, Copy, Debug, PartialEq, Eq)]
 pub(crate) struct Origin {
     /// The number of their run.
     pub(crate) run: u64,
     /// Since when they wait.
     pub(crate) since: Instant,
-    /// How they came from another process; none if a client gave them to this process.
+    /// How they came from another process; nothing if a client gave them to this process.
     pub(crate) came: Option<Came>,
 }
 
-/// The steps that a client gave at once, in its order: its pipeline, as far as it concerns one shard.
+/// The steps that a client gave at once, in its order: the part of its pipeline that concerns one shard.
 pub(crate) struct Run {
     pub(crate) origin: Origin,
     pub(crate) steps: VecDeque<WorkStep>,
@@ -33,7 +33,7 @@ pub(crate) struct Run {
 }
 
 impl Run {
-    /// Whether the time has come up to which the run waits.
+    /// Returns whether the run's wait is over.
     pub(crate) fn is_due(&self, now: Instant) -> bool {
         self.not_before.is_none_or(|it| now >= it)
     }
@@ -44,7 +44,7 @@ impl Run {
         !self.steps.is_empty()
     }
 
-    /// Gives the round its next steps, up to its share of requests. The lister lists keys, if there is one. Returns
+    /// Gives the round its next steps, up to its share of requests. If there is a lister, it lists keys. Returns
     /// whether the run has more for this round.
     pub(crate) fn give(&mut self, round: &mut Round, mut lister: Option<&mut Lister>) -> bool {
         let end = round.requests.len() + SHARE;

@@ -1,6 +1,6 @@
 use crate::ServerState;
 
-/// How far a server's restart has come, and of which process of the server that is said.
+/// How far a server's restart has come, and the process of the server to which that applies.
 #[derive(Clone, Copy, Debug, PartialEq, Eq)]
 pub struct ServerRun {
     /// How far it has come.
@@ -10,8 +10,8 @@ pub struct ServerRun {
 }
 
 impl ServerRun {
-    /// Returns whether the restart is over if this process runs the server: it began after the process that was to end.
-    /// Of a state that names no process this isn't known.
+    /// Returns whether the restart is over if this process runs the server: it began after the process that had to end.
+    /// If the state names no process, this isn't known.
     pub fn is_restarted_by(self, process: u64) -> bool {
         let is_under_way = matches!(
             self.state,

@@ -6,7 +6,7 @@ pub enum ServerState {
     Up,
     /// It is up, and a restart was asked for.
     Asked,
-    /// It is up, takes no further shards, and may be stopped.
+    /// It is up, gets no further shards, and may be stopped.
     Approved,
     /// It was stopped for its restart.
     Stopped,
@@ -23,7 +23,7 @@ impl ServerState {
         ServerState::Failed,
     ];
 
-    /// Returns the state of this number, as stores and the proved library have it. Returns none if there is none.
+    /// Returns the state with this number, as in stores and in the proved library. Returns nothing if there is none.
     pub fn of_number(number: impl Into<u64>) -> Option<ServerState> {
         let number = usize::try_from(number.into()).ok()?;
         ServerState::ALL.get(number).copied()
@@ -34,7 +34,7 @@ impl ServerState {
         self as u8
     }
 
-    /// Returns the word for it.
+    /// Returns its word.
     pub fn name(self) -> &'static str {
         match self {
             ServerState::Up => "up",
@@ -50,12 +50,12 @@ impl ServerState {
         !matches!(self, ServerState::Stopped | ServerState::Failed)
     }
 
-    /// Returns whether the server is up and takes shards.
+    /// Returns whether the server is up and may get shards.
     pub fn takes_shards(self) -> bool {
         matches!(self, ServerState::Up | ServerState::Asked)
     }
 
-    /// Returns whether the server is away for a restart, or may go for one.
+    /// Returns whether the server is away for a restart, or may leave for one.
     pub fn is_restarting(self) -> bool {
         matches!(self, ServerState::Approved | ServerState::Stopped)
     }

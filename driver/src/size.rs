@@ -1,10 +1,10 @@
 use crate::MapRequest;
 use std::ops::Add;
 
-/// How many bytes stand around a request in a batch: whose it is, how it came, and how long it is.
+/// The number of bytes around a request in a batch: its client, how it came, and its length.
 const AROUND: usize = 33;
 
-/// How much requests take of a batch.
+/// How much of a batch requests take.
 #[derive(Clone, Copy, Debug, Default, PartialEq, Eq)]
 pub(crate) struct Size {
     pub(crate) requests: usize,
@@ -12,13 +12,13 @@ pub(crate) struct Size {
 }
 
 impl Size {
-    /// What a server sends at once: what is within it is made as a whole or not at all.
+    /// The most that a server sends at once. Requests within this bound are made as a whole or not at all.
     pub(crate) const MOST: Size = Size {
         requests: 4_096,
         bytes: 8 << 20,
     };
 
-    /// That of these requests.
+    /// Returns the size of these requests.
     pub(crate) fn of(requests: &[MapRequest]) -> Size {
         let bytes = requests.iter().map(|it| AROUND + it.length());
         Size {
@@ -27,7 +27,7 @@ impl Size {
         }
     }
 
-    /// Whether it is no greater in either.
+    /// Returns whether neither number is greater than in the bound.
     pub(crate) fn is_within(self, bound: Size) -> bool {
         self.requests <= bound.requests && self.bytes <= bound.bytes
     }

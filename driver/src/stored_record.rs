@@ -10,22 +10,22 @@ pub struct StoredRecord {
 }
 
 impl StoredRecord {
-    /// That of a shard that was never changed.
+    /// Returns the record of a shard that was never changed.
     pub(crate) fn vacant() -> StoredRecord {
         StoredRecord::new(keys::VACANT.to_vec(), Revision::NEVER)
     }
 
-    /// These bytes, of this revision.
+    /// Makes a record of these bytes, at this revision.
     pub(crate) fn new(bytes: Vec<u8>, revision: Revision) -> StoredRecord {
         StoredRecord { bytes, revision }
     }
 
-    /// Its bytes.
+    /// Returns its bytes.
     pub fn bytes(&self) -> &[u8] {
         &self.bytes
     }
 
-    /// The revision at which it was written.
+    /// Returns the revision at which it was written.
     pub fn revision(&self) -> Revision {
         self.revision
     }
@@ -36,19 +36,20 @@ impl StoredRecord {
         Some(u64::from_be_bytes(word))
     }
 
-    /// The record, where the bytes are one's.
+    /// Returns the record, if the bytes are valid.
     pub fn record(&self) -> Option<Record> {
         word::record(self.word()?)
     }
 
-    /// Whether whoever leads waits until all servers go by it, before the previous owner may drop the shard.
+    /// Returns whether the leader waits until all servers use this record, before the previous owner may drop the
+    /// shard.
     pub(crate) fn is_awaited(&self) -> bool {
         self.record()
             .is_some_and(|it| matches!(it.stand, Stand::Taken { .. }))
     }
 
-    /// Returns the generation that the server is to ack, if whoever leads waits for that: it is the next owner of a
-    /// shard that is prepared, or no longer executes by this record.
+    /// Returns the generation that the server must ack, if the leader waits for that: the server is the next owner of a
+    /// prepared shard, or no longer executes by this record.
     pub(crate) fn acked_by(&self, server: u16) -> Option<u64> {
         let record = self.record()?;
         let awaited = match record.stand {
@@ -59,9 +60,22 @@ impl StoredRecord {
         (awaited == Some(server)).then_some(record.generation)
     }
 
-    /// Whether the server owns the shard, or is its next or previous owner.
+    /// Returns whether the server owns the shard, or is its next or previous owner.
     pub(crate) fn names(&self, server: u16) -> bool {
         let record = self.record();
         record.is_some_and(|it| it.owner() == Some(server) || it.other() == Some(server))
+    }
+}
+
+/// Returns whether by this stand the server executes the shard, or will do so next, or has done so last. A paused shard
+/// waits for its owner's return.
+pub fn takes_part(stand: Stand, server: u16) -> bool {
+    match stand {
+        Stand::Serving(owner) => owner == server,
+        Stand::Prepared { owner, next } | Stand::Forwarding { owner, next } => {
+            [owner, next].contains(&server)
+        }
+        Stand::Taken { owner, previous } => [owner, previous].contains(&server),
+        Stand::Paused(_) | Stand::Vacant => false,
     }
 }

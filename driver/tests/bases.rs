@@ -1,4 +1,4 @@
-//! What becomes of a base that is given up before its parts are written.
+//! Tests of bases that are given up before their parts are written.
 mod common;
 
 use common::handing::{Handed, Handing};
@@ -10,20 +10,20 @@ use std::sync::{Arc, Mutex};
 use std::thread;
 use std::time::{Duration, Instant};
 
-/// How long something is waited for, on a machine that may be busy.
+/// How long a test waits for something, on a machine that may be busy.
 const PATIENCE: Duration = Duration::from_secs(60);
-/// How long no base is begun after one failed, at least.
+/// The least pause before a base begins after one failed.
 const PAUSE: Duration = Duration::from_millis(300);
 
-/// A store that holds parts of bases back until they are let go, and may lose what becomes of a batch.
+/// A store that holds back parts of bases until they are let go, and may lose the outcome of a batch.
 struct Holding {
     store: Arc<dyn Store>,
     parts: Mutex<Vec<(Transaction, Done)>>,
-    /// When a part came last.
+    /// When the last part came.
     came: Mutex<Instant>,
-    /// Whether the next batch isn't made, and nobody knows.
+    /// Whether the next batch isn't made, and its outcome isn't told.
     loses: AtomicBool,
-    /// Whether parts aren't written.
+    /// Whether it refuses to write parts.
     refuses: AtomicBool,
 }
 
@@ -96,7 +96,7 @@ impl Holding {
     }
 }
 
-/// A store, one over it, and a shard in that one with a count of 8, of which a base has begun.
+/// Returns a store, a holding store over it, and a shard in that one with a count of 8, for which a base has begun.
 fn begun() -> (Arc<dyn Store>, Arc<Handed<Holding>>, Arc<Durable>) {
     let store: Arc<dyn Store> = Arc::new(Embedded::in_memory());
     let holding = Holding::over(&store);

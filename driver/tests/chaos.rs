@@ -1,5 +1,5 @@
-//! Shards over a store that often doesn't tell what became of a transaction, while they move: each addition that was
-//! answered is counted once, and none other.
+//! Shards over a store that often doesn't tell the outcome of a transaction, while they move: each answered addition is
+//! counted once, and no other.
 mod common;
 
 use common::{add, held, Uncertain};
@@ -12,14 +12,14 @@ use std::time::{Duration, Instant};
 
 const SHARDS: u16 = 4;
 const THREADS: u64 = 6;
-/// How long it goes on at least, and how much longer at most until there were so many moves.
+/// The least time that the test lasts, and how much longer it lasts at most until there were enough moves.
 const LASTS: Duration = Duration::from_secs(3);
 const PATIENCE: Duration = Duration::from_secs(60);
 const MOVES: u64 = 10;
-/// How often each thread adds to each shard at least.
+/// The least number of additions of each thread to each shard.
 const TIMES: u16 = 3;
 
-/// Moves shards to the other server as long as it is let, and counts how often.
+/// Moves shards to the other server as long as it may, and counts how often.
 fn migrate(mut control: DurableControl, stops: &AtomicBool, count: &AtomicU64) {
     let mut moves = 0;
     while !stops.load(Ordering::Acquire) {
@@ -27,7 +27,7 @@ fn migrate(mut control: DurableControl, stops: &AtomicBool, count: &AtomicU64) {
             (moves % u64::from(SHARDS)) as u16,
             (moves / 4 % 2) as u16 + 1,
         );
-        // Where it is there already, it is refused.
+        // If the shard is there already, the command is refused.
         let _ = control.command(ControlCommand::PrepareAddShard(shard, server));
         while let Ok(Next::Command(command)) = control.next_of_shard(shard) {
             let _ = control.command(command);

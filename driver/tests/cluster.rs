@@ -1,4 +1,4 @@
-//! One server each of several processes over one store: what is asked of any of them is done once, while shards move,
+//! Several processes over one store, with one server each. A request to any of them is done once, while shards move,
 //! processes die, and the control passes on.
 mod common;
 #[path = "../../store/tests/beside/plain.rs"]
@@ -22,13 +22,13 @@ use std::thread;
 use std::time::{Duration, Instant};
 
 const SHARDS: u16 = 4;
-/// How long clients go on at least.
+/// The least time for which clients go on.
 const LASTS: Duration = Duration::from_secs(3);
-/// How often they are answered at least.
+/// The least number of their answers.
 const ANSWERS: usize = 100;
-/// How long a lease is where it is what a test is about, and a living process may lose it on a busy machine.
+/// The length of a lease in tests about leases. A living process may lose it on a busy machine.
 const SHORT_LEASE: Duration = Duration::from_secs(6);
-/// How often what such a lease shows is tried.
+/// How often a test with such a lease is tried.
 const TRIES: usize = 4;
 
 fn in_memory() -> Arc<dyn Store> {
@@ -43,7 +43,7 @@ fn count_of(told: common::Told) -> i64 {
     }
 }
 
-/// The words of a list.
+/// Returns the words of a list.
 fn words_of(durable: &Durable, shard: u16, key: &[u8]) -> Vec<String> {
     let text = match held(durable, shard, key).as_deref() {
         Ok([MapReply::Text(text)]) => text.clone(),
@@ -85,17 +85,17 @@ fn takes_any_work(store: &Arc<dyn Store>) {
     );
 }
 
-/// What clients were answered.
+/// The answers to clients.
 #[derive(Default)]
 struct Answered {
     /// How many additions to each shard were made.
     counts: [i64; SHARDS as usize],
-    /// Of how many more to each it isn't known.
+    /// How many more to each have an unknown outcome.
     unknown: [i64; SHARDS as usize],
     words: Vec<String>,
 }
 
-/// How far clients are, and whether they are to stop.
+/// The progress of clients, and whether they must stop.
 #[derive(Default)]
 struct Progress {
     answers: AtomicUsize,
@@ -103,7 +103,7 @@ struct Progress {
 }
 
 impl Progress {
-    /// Waits until clients were answered often once more.
+    /// Waits until clients were answered enough times more.
     fn await_answers(&self) {
         let before = self.answers.load(Ordering::Relaxed);
         until("clients are answered", || {
@@ -112,7 +112,7 @@ impl Progress {
     }
 }
 
-/// Stops clients, even where the work beside them fails.
+/// Stops clients, even if the work beside them fails.
 struct Stopping<'a>(&'a Progress);
 
 impl Drop for Stopping<'_> {
@@ -121,7 +121,7 @@ impl Drop for Stopping<'_> {
     }
 }
 
-/// Has a client ask any of the processes, as long as it is to.
+/// Makes a client ask any of the processes, until it must stop.
 fn client(nodes: &[Node], number: u64, progress: &Progress, tolerates: bool) -> Answered {
     let (mut dice, mut answered, mut at) = (Dice(number), Answered::default(), 0);
     while !progress.stops.load(Ordering::Acquire) {
@@ -150,7 +150,7 @@ fn client(nodes: &[Node], number: u64, progress: &Progress, tolerates: bool) -> 
     answered
 }
 
-/// Has clients ask the processes while the other work goes on.
+/// Makes clients ask the processes while the other work goes on.
 fn under_clients(nodes: &[Node], tolerates: bool, work: impl FnOnce(&Progress)) -> Answered {
     let (progress, mut all) = (Progress::default(), Answered::default());
     let asking = &progress;
@@ -173,7 +173,7 @@ fn under_clients(nodes: &[Node], tolerates: bool, work: impl FnOnce(&Progress)) 
     all
 }
 
-/// That all lists have these words, each once; others only where it isn't known what became of them.
+/// Checks that all lists have these words, each once. Other words are allowed only if their outcomes aren't known.
 fn assert_words(durable: &Durable, words: &[String], others: bool) {
     let mut found = HashSet::new();
     for shard in 0..SHARDS {
@@ -196,7 +196,7 @@ fn graceful_migrations_refuse_nothing_and_lose_nothing() {
         let (mut dice, end) = (Dice(99), Instant::now() + LASTS);
         while Instant::now() < end || moves <= 10 {
             let (shard, server) = (moves % SHARDS, dice.below(3) as u16 + 1);
-            // Where it is there already, it is refused.
+            // If the shard is there already, the command is refused.
             let _ = control.command(ControlCommand::PrepareAddShard(shard, server));
             settle(&mut control, shard);
             moves += 1;
@@ -213,7 +213,7 @@ fn graceful_migrations_refuse_nothing_and_lose_nothing() {
     assert_words(&nodes[1].durable, &words, false);
 }
 
-/// Goes on with what there is to do for failed servers and shards; returns whether there was nothing.
+/// Makes the next steps for failed servers and shards. Returns whether there were none.
 fn went_on(control: &mut DurableControl, failed: &mut Vec<u16>) -> bool {
     let mut is_over = true;
     if let Some(server) = control.fallen().unwrap() {
@@ -245,7 +245,7 @@ fn a_process_that_dies_is_failed_and_nothing_answered_is_lost() {
     let answered = under_clients(left, true, |progress| {
         progress.await_answers();
         kill(&killed[0]);
-        // It is asked in vain for a while.
+        // For a while nobody answers it.
         thread::sleep(Duration::from_millis(300));
         killed[0].expire();
         let mut failed = Vec::new();
@@ -284,7 +284,7 @@ fn a_process_that_dies_is_failed_and_nothing_answered_is_lost() {
     assert_words(&left[1].durable, &words, true);
 }
 
-/// Has a process whose watch is silent say that it let go of the shard, though it goes by the record before.
+/// Makes a process whose watch is silent ack the shard, although it still uses the record before.
 fn ack_deaf(control: &mut DurableControl, durable: &Durable, shard: u16) {
     let generation = control.record(shard).unwrap().unwrap().generation;
     durable.member().unwrap().ack(shard, generation);
@@ -299,7 +299,7 @@ fn a_process_whose_watch_is_silent_makes_nothing_that_the_record_forbids() {
     assert_eq!(count(0, 1), 1);
     nodes[0].is_deaf.store(true, Ordering::Release);
     control.command(ControlCommand::Pause(0)).unwrap();
-    // It hasn't let go, as far as the control knows.
+    // It hasn't acked, as far as the control knows.
     let early = control.command(ControlCommand::Reassign(0, 2));
     assert!(matches!(
         early,
@@ -308,11 +308,11 @@ fn a_process_whose_watch_is_silent_makes_nothing_that_the_record_forbids() {
     ack_deaf(&mut control, &nodes[0].durable, 0);
     soon(&mut control, ControlCommand::Reassign(0, 2));
     assert_eq!(count(1, 1), 2);
-    // It still takes itself for the owner: its transaction fails, and the work goes on where it belongs.
+    // It still takes itself for the owner. Its transaction fails, and the work goes on at the right server.
     assert_eq!(count(0, 1), 3);
     append(&nodes[0].durable, 0, b"list", "x").unwrap();
     assert_eq!(count(1, 1), 4);
-    // And back, which it learns by another process's answer or its own reading alone.
+    // The shard comes back. The process learns that only from another process's answer or from its own reading.
     nodes[1].is_deaf.store(true, Ordering::Release);
     control.command(ControlCommand::Pause(0)).unwrap();
     ack_deaf(&mut control, &nodes[1].durable, 0);
@@ -330,7 +330,7 @@ fn a_change_begins_anew_where_another_server_wrote_meanwhile() {
     append(&nodes[0].durable, 0, b"list", "first").unwrap();
     nodes[0].is_deaf.store(true, Ordering::Release);
     let others = nodes.clone();
-    // The shard goes to another server, which writes, and comes back, before what was decided is written.
+    // The shard goes to another server, which writes, and comes back, before the decided writes are made.
     let meanwhile = move || {
         control.command(ControlCommand::Pause(0)).unwrap();
         ack_deaf(&mut control, &others[0].durable, 0);
@@ -379,7 +379,7 @@ fn another_process_goes_on_where_the_leader_was() {
         assert_eq!(owner, Some(2));
         assert!(add(&nodes[0].durable, shard, b"a", 1).is_ok());
     }
-    // Who led before can change nothing, and knows it once it reaches the store.
+    // The former leader can change nothing, and knows that once it reaches the store.
     nodes[2].revive();
     assert!(control.command(ControlCommand::Pause(0)).is_err());
     drop(control);
@@ -406,7 +406,7 @@ fn a_shard_is_dropped_once_all_follow() {
     thread::sleep(Duration::from_millis(200));
     assert_eq!(control.next_of_shard(0).unwrap(), Next::Waits);
     assert!(control.command(ControlCommand::DropShard(0)).is_err());
-    // It hears of the next record again; one that is gone isn't waited for.
+    // It hears of the next record again. A process that is gone isn't awaited.
     kill(&nodes[2]);
     nodes[2].expire();
     until("it isn't waited for", || {
@@ -422,7 +422,7 @@ fn a_server_runs_once() {
     let node = net.start(&store, 1, 1, |line| Arc::new(line));
     let addresses = Addresses::default();
     let on_change = || Box::new(|| {});
-    // It waits as long as this lease is that the first one goes.
+    // It waits for the length of this lease for the first one to go.
     let second = Member::join(
         store.clone(),
         1,
@@ -439,7 +439,7 @@ fn a_server_runs_once() {
     assert!(third.is_ok());
 }
 
-/// One that was stopped beyond its lease, while its server began elsewhere.
+/// This process was stopped beyond its lease, while its server began elsewhere.
 #[test]
 fn a_process_whose_name_another_one_has_neither_leads_nor_executes() {
     let (store, net) = (in_memory(), Arc::new(Net::default()));
@@ -453,7 +453,7 @@ fn a_process_whose_name_another_one_has_neither_leads_nor_executes() {
     nodes[0].reach_again();
     let old = nodes[0].durable.member().unwrap();
     until("it hears of the other one", || {
-        // What changes here it tells, which the old one hears then.
+        // It tells the changes here, and the old process then hears of them.
         control.command(ControlCommand::Pause(1)).unwrap();
         control.command(ControlCommand::Resume(1)).unwrap();
         old.members().get(&1).map(|it| it.process) != Some(old.process())
@@ -475,7 +475,7 @@ fn a_process_whose_name_another_one_has_neither_leads_nor_executes() {
     assert_eq!(count_of(add(&first.durable, 0, b"a", 1)), 1);
 }
 
-/// A store that doesn't answer what servers tell, where it hangs.
+/// A store that doesn't answer the writes of servers' keys while it hangs.
 struct Hanging {
     store: Handed<Line>,
     hangs: Arc<AtomicBool>,
@@ -507,8 +507,8 @@ fn sleep_for(length: Duration) -> Duration {
     longest
 }
 
-/// Whether a server is there for two lengths of its lease while the store hangs at what it tells, which it then tells;
-/// none if this process itself stood still, so that it kept no lease.
+/// Returns whether a server is there for two lengths of its lease although the store hangs at its writes, and whether
+/// it then writes them. Returns nothing if this process itself stood still, so that it kept no lease.
 fn is_there_though_the_store_hangs() -> Option<bool> {
     let store = in_memory();
     let hangs = Arc::new(AtomicBool::new(false));
@@ -538,7 +538,7 @@ fn a_server_is_there_though_the_store_hangs_when_it_tells_something() {
     assert!(is_there.expect("the machine lets this process run"));
 }
 
-/// Moves shards about as long as it is let, and counts how often.
+/// Moves shards around as long as it may, and counts how often.
 fn migrate(mut control: DurableControl, stops: &AtomicBool, moves: &AtomicUsize) {
     let mut dice = Dice(5);
     while !stops.load(Ordering::Acquire) {
@@ -580,7 +580,7 @@ fn numbered_requests_are_made_once_where_outcomes_are_unknown() {
                         let numbered = Numbered { client, number };
                         let requests = vec![MapRequest::Add(b"count".as_slice().into(), 1)];
                         let begin = Begin::Numbered(numbered, requests);
-                        // Asked twice, anywhere, it replies as it did first.
+                        // If it is asked twice, anywhere, it gives its first reply.
                         let told: Vec<_> = (0..2)
                             .map(|_| {
                                 let node = &nodes[dice.below(3) as usize];
@@ -589,7 +589,8 @@ fn numbered_requests_are_made_once_where_outcomes_are_unknown() {
                             .collect();
                         assert_eq!(told[0], told[1]);
                         replied.lock().unwrap()[usize::from(shard)].push(told[0]);
-                        // The one before isn't made again: who hasn't read this one replies as it did first.
+                        // The request before isn't made again. A server that hasn't read this one gives its first
+                        // reply.
                         let numbered = Numbered {
                             client,
                             number: number - 1,

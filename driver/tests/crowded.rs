@@ -1,6 +1,6 @@
-//! A shard keeps the last requests of all processes that began since the first one that is there. Where these are as
-//! many as it keeps it takes no others, but takes them again once that one has ended; and one that goes on takes another
-//! number before.
+//! A shard keeps the last requests of all processes that began since the first one that is there. If these are as many
+//! as it keeps, it takes no others, but takes them again once that process has ended. A process that goes on takes
+//! another number before that.
 mod common;
 
 use common::cluster::{campaign, until, Net, Node};
@@ -15,12 +15,12 @@ use std::sync::Arc;
 use std::thread;
 use std::time::Duration;
 
-/// How many requests a process writes at once: as many clients it leaves.
+/// How many requests a process writes at once. It leaves as many clients.
 const REQUESTS: usize = 4_096;
-/// How many processes leave as many clients as a shard keeps.
+/// So many processes leave as many clients as a shard keeps.
 const FULL: usize = 32;
 
-/// Where server 1 tells the first number by which it still has requests.
+/// The key at which server 1 tells the first number by which it still has requests.
 const LOWEST: &[u8] = b"lowest/00001";
 
 struct Cluster {
@@ -31,7 +31,7 @@ struct Cluster {
 }
 
 impl Cluster {
-    /// A process with server 1, which goes on, while this server owns the shard.
+    /// Starts a process with server 1, which goes on, while this server owns the shard.
     fn begin(owner: u16) -> Cluster {
         let store: Arc<dyn Store> = Arc::new(Embedded::in_memory());
         let net = Arc::new(Net::default());
@@ -48,7 +48,7 @@ impl Cluster {
         }
     }
 
-    /// How many processes have begun, and numbers were taken since.
+    /// Returns how many processes have begun and how many numbers were taken, in all.
     fn begun(&self) -> u64 {
         let read = self.store.read(&[keys::PROCESS]).expect("a reading");
         let told = read.get(keys::PROCESS).expect("a number");
@@ -56,7 +56,7 @@ impl Cluster {
         told.parse().expect("a number")
     }
 
-    /// The first number by which server 1 still has requests, where it has told one.
+    /// Returns the first number by which server 1 still has requests, if it has told one.
     fn lowest(&self) -> Option<u64> {
         let read = self.store.read(&[LOWEST]).expect("a reading");
         let (_, number) = read.get(LOWEST)?.value.split_last_chunk()?;
@@ -68,7 +68,7 @@ impl Cluster {
             .start(&self.store, server, 1, |line| Arc::new(line))
     }
 
-    /// Whether a process with server 2, which begins and ends, has writes made.
+    /// Starts a process with server 2, which makes writes and ends. Returns whether they were made.
     fn writes_anew(&self) -> Result<Vec<MapReply>, NotDone> {
         let node = self.start(2);
         let key = |at: usize| format!("k{at}").into_bytes().into();

@@ -1,4 +1,4 @@
-//! A server is said to have failed only while its key isn't there: one that is back by then stays.
+//! A server is said to have failed only while its key isn't there. A server that is back by then stays.
 mod common;
 
 use common::add;
@@ -12,7 +12,7 @@ use std::sync::Arc;
 /// The key of server 1.
 const KEY: &[u8] = b"server/00001";
 
-/// A way to the store on which steps of restarts are counted, and may be told as unknown though they aren't made.
+/// A link to the store that counts the steps of restarts. They may have an unknown outcome although they aren't made.
 struct Steps {
     store: Arc<dyn Store>,
     sent: Arc<AtomicUsize>,
@@ -37,7 +37,8 @@ impl Handing for Steps {
     }
 }
 
-/// Three processes, of which the third leads, with how many steps it has sent, and whether the next one is unknown.
+/// Three processes, the third of which leads; how many steps it has sent, and whether the next one has an unknown
+/// outcome.
 struct Three {
     store: Arc<dyn Store>,
     nodes: Vec<Node>,
@@ -78,7 +79,7 @@ impl Three {
         });
     }
 
-    /// Has server 1 lose its key, and the control read that.
+    /// Makes server 1 lose its key, and the control read that.
     fn fall(&mut self) {
         kill(&self.nodes[0]);
         self.nodes[0].expire();
@@ -86,13 +87,13 @@ impl Three {
         until("it is read", || self.control.fallen().unwrap() == Some(1));
     }
 
-    /// Has server 1 have a key again, under another lease.
+    /// Makes server 1 have a key again, under another lease.
     fn rise(&self) {
         self.nodes[0].revive();
         self.await_key(true);
     }
 
-    /// That server 1 goes on as if nothing had been.
+    /// Checks that server 1 goes on as if nothing had happened.
     fn goes_on(&mut self) {
         assert_eq!(self.control.fallen().unwrap(), None);
         assert_eq!(self.control.state_of(1).unwrap(), ServerState::Up);
@@ -117,7 +118,7 @@ fn a_server_that_is_back_is_not_failed() {
     ));
     assert_eq!(three.sent.load(Ordering::Relaxed), 1);
     three.goes_on();
-    // One that is there is never failed, whoever asks for it.
+    // A server that is there never fails, whoever asks for that.
     assert!(is_still_there(
         three.control.command(ControlCommand::Fail(1))
     ));
@@ -129,7 +130,7 @@ fn a_step_of_unknown_outcome_fails_no_server_that_is_back() {
     let mut three = three();
     three.fall();
     three.is_unknown.store(true, Ordering::Relaxed);
-    // It wasn't made, and the server is back as it is sent again.
+    // It wasn't made, and the server is back when it is sent again.
     let store = three.store.clone();
     three.rise();
     assert!(is_still_there(

@@ -1,5 +1,5 @@
-//! What whoever leads goes on with lies in the store, also where outcomes aren't known; nobody else changes it. Nothing
-//! is made that was given up.
+//! The intents with which each leader goes on lie in the store, also if outcomes aren't known. Nobody else changes
+//! them. Nothing is made that was given up.
 mod common;
 
 use common::cluster::{campaign, kill, until, Net};
@@ -11,7 +11,7 @@ use durkenzo_store::{Done, Embedded, Outcome, Store, Transaction, WriteError};
 use std::sync::atomic::{AtomicBool, AtomicU64, Ordering};
 use std::sync::{Arc, Mutex};
 
-/// A store that doesn't tell what became of two of three transactions on intents, or of commands: it makes one of these
+/// A store that doesn't tell the outcome of two of three transactions on intents, or of commands. It makes one of these
 /// two.
 struct Doubtful {
     store: Embedded,
@@ -69,7 +69,7 @@ fn intents_lie_there_until_they_are_withdrawn() {
     control.intend(&[Intent::Drain(2)]).unwrap();
     let all = [Intent::Drain(2), Intent::Home(0, 1), Intent::Home(1, 2)];
     assert_intents(&mut control, &all);
-    // What a later version may write is passed over.
+    // An intent of a later version is skipped.
     let later = Transaction::new().put("home/00009", [2, 0, 1]);
     let later = later.put("drain/00001", [2]);
     let mut made = (0..3).map(|_| store.make(later.clone()));
@@ -106,12 +106,12 @@ fn a_command_that_was_made_is_not_refused() {
             control.command(command).unwrap();
         }
     }
-    // What isn't to be made is refused as ever.
+    // A command that isn't allowed is refused as always.
     let again = control.command(ControlCommand::Back(1));
     assert!(matches!(again, Err(Refused::Judged(_))), "{again:?}");
 }
 
-/// A store that withholds for a while what a control writes, and doesn't know what becomes of that.
+/// A store that withholds a control's writes for a while, and doesn't know their outcomes.
 struct Withholding {
     store: Embedded,
     withholds: Arc<AtomicBool>,
@@ -135,7 +135,7 @@ impl Handing for Withholding {
     }
 }
 
-/// A store that withholds, and what tests do to it.
+/// A store that withholds, and how tests use it.
 struct Late {
     store: Arc<dyn Store>,
     withholds: Arc<AtomicBool>,
@@ -157,7 +157,7 @@ impl Late {
         }
     }
 
-    /// A control over it that leads, and whose shard has an owner.
+    /// Returns a leading control over it, whose shard has an owner.
     fn control(&self) -> DurableControl {
         let durable = Arc::new(opened(&self.store, 1));
         let mut control = DurableControl::lead(durable, &line(1)).unwrap();
@@ -165,7 +165,7 @@ impl Late {
         control
     }
 
-    /// Has all be withheld that the call sends, and its outcome not be known.
+    /// Withholds everything that the call sends, with an unknown outcome.
     fn withhold(&self, call: impl FnOnce() -> Result<(), Refused>) {
         self.withholds.store(true, Ordering::Release);
         let called = call();
@@ -173,7 +173,7 @@ impl Late {
         self.withholds.store(false, Ordering::Release);
     }
 
-    /// What was withheld and writes to this key, from the first on.
+    /// Takes the withheld transactions that write to this key, from the first on.
     fn taken(&self, key: &[u8]) -> Vec<Transaction> {
         let mut withheld = self.withheld.lock().unwrap();
         let writes = |it: &Transaction| it.puts.iter().any(|it| it.key.starts_with(key));
@@ -183,7 +183,7 @@ impl Late {
         taken
     }
 
-    /// Nothing of what writes to this key is made now.
+    /// Checks that no withheld transaction that writes to this key is made now.
     fn assert_outdated(&self, key: &[u8]) {
         for transaction in self.taken(key) {
             let made = self.store.make(transaction);
@@ -202,7 +202,7 @@ fn a_command_that_was_given_up_is_not_made_once_the_control_goes_on() {
     let mut control = late.control();
     let prepared = ControlCommand::PrepareAddShard(0, 2);
     late.withhold(|| control.command(prepared));
-    // What stands isn't told while that may change.
+    // The present state isn't told while it may change.
     late.withhold(|| control.record(0).map(drop));
     let stands = control.record(0).unwrap().map(|it| it.stand);
     assert_eq!(stands, Some(Stand::Serving(1)));
@@ -229,7 +229,7 @@ fn a_process_that_is_elected_anew_leads_on() {
     let process = nodes[0].durable.process();
     let assigned = ControlCommand::Assign(0, 1);
     late.withhold(|| control.command(assigned));
-    // The election comes late: it is seen before the control goes on.
+    // The election comes late. It is seen before the control goes on.
     let elections = late.taken(keys::LEADER);
     assert_eq!(elections.len(), 1);
     let elected = late.store.make(elections[0].clone());
@@ -300,7 +300,7 @@ fn who_leads_no_more_intends_nothing() {
     let nodes = Net::of_three(&store, 1);
     let mut before = campaign(&nodes[0]);
     before.intend(&[Intent::Drain(1)]).unwrap();
-    // Its lease ends, and it doesn't see that.
+    // Its lease ends, but it doesn't see that.
     nodes[0].is_deaf.store(true, Ordering::Release);
     nodes[0].durable.member().unwrap().leave();
     let mut control = campaign(&nodes[1]);

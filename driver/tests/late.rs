@@ -1,5 +1,5 @@
 //! Three processes over a store whose transactions come late, twice or never, while shards move: nothing is made twice,
-//! and nothing that was answered is lost.
+//! and no answered request is lost.
 mod common;
 
 use common::cluster::{append, assign, campaign, settle, soon, Dice, Net, Node};
@@ -17,15 +17,15 @@ use std::time::{Duration, Instant};
 
 const SHARDS: u16 = 3;
 const CLIENTS: u64 = 6;
-/// How long clients go on at least, how often each asks, and for how much longer they go on for that.
+/// The least time for which clients go on, how often each asks, and how much longer they may take for that.
 const LASTS: Duration = Duration::from_secs(5);
 const TIMES: u64 = 100;
 const LATEST: Duration = Duration::from_secs(120);
 
-/// What a client asked: of which shard, by which name, and whether it was answered.
+/// A client's request: its shard, its name, and whether it was answered.
 type Asked = (u16, String, bool);
 
-/// Moves shards about as long as it is let.
+/// Moves shards around as long as it may.
 fn migrate(mut control: DurableControl, stops: &AtomicBool) {
     let mut dice = Dice(5);
     while !stops.load(Ordering::Acquire) {
@@ -33,13 +33,13 @@ fn migrate(mut control: DurableControl, stops: &AtomicBool) {
             dice.below(u64::from(SHARDS)) as u16,
             dice.below(3) as u16 + 1,
         );
-        // Where it is there already, it is refused.
+        // If the shard is there already, the command is refused.
         let _ = control.command(ControlCommand::PrepareAddShard(shard, server));
         settle(&mut control, shard);
     }
 }
 
-/// Has a client ask any of the processes by a name of its own each time, as long as it is to.
+/// Makes a client ask any of the processes, each time with a new name, until the end.
 fn client(nodes: &[Node], client: u64, end: Instant) -> Vec<Asked> {
     let (mut dice, mut number, mut asked) = (Dice(client), 0, Vec::new());
     while Instant::now() < end || (number < TIMES && Instant::now() < end + LATEST) {
@@ -68,7 +68,7 @@ fn client(nodes: &[Node], client: u64, end: Instant) -> Vec<Asked> {
     asked
 }
 
-/// How often what has this name was made.
+/// Returns how often the request with this name was made.
 fn made(durable: &Durable, shard: u16, name: &str, words: &[String]) -> i64 {
     if name.starts_with("word") {
         return words.iter().filter(|it| *it == name).count() as i64;
@@ -130,8 +130,8 @@ fn nothing_is_made_twice_or_lost_where_copies_come_late() {
     }
 }
 
-/// A request whose transaction is made after its server has looked for it, and before the shard goes to another server,
-/// which is before or after what was read comes.
+/// Makes a request whose transaction is made after its server has looked for it, and before the shard goes to another
+/// server. The reading comes before or after that move. Returns the answer.
 fn is_made_once(goes_first: bool, ask: impl Fn(&Durable) -> Told + Sync) {
     let store: Arc<dyn Store> = Arc::new(Embedded::in_memory());
     let net = Arc::new(Net::default());
@@ -163,7 +163,7 @@ fn is_made_once(goes_first: bool, ask: impl Fn(&Durable) -> Told + Sync) {
         }
         reading.release();
         if !goes_first {
-            // By then what was read has come.
+            // By then the reading has come.
             thread::sleep(Duration::from_millis(50));
             soon(&mut control, ControlCommand::Reassign(0, 2));
         }

@@ -1,4 +1,5 @@
-//! Reads that are answered by a lease: without a transaction, and stale for no longer than that lasts.
+//! Reads that are answered by a lease, without a transaction. They are never more out of date than the length of the
+//! lease.
 mod common;
 
 use common::cluster::{
@@ -14,10 +15,10 @@ use std::sync::atomic::Ordering;
 use std::sync::{mpsc, Arc};
 use std::time::{Duration, Instant};
 
-/// How long leases are of which a test sees the end: longer than a busy machine stops a process.
+/// The length of leases if a test waits for their end. It is longer than a busy machine stops a process.
 const SHORT_LEASE: Duration = Duration::from_secs(10);
 
-/// Three processes, of which each owns a shard, and who leads them.
+/// Makes three processes, each of which owns a shard, and the leader's control.
 fn three(reads: Reads, lease: Duration) -> (Vec<Node>, DurableControl) {
     let store: Arc<dyn Store> = Arc::new(Embedded::in_memory());
     let nodes = Net::new(reads, lease).start_three(&store, 3);
@@ -29,8 +30,8 @@ fn three(reads: Reads, lease: Duration) -> (Vec<Node>, DurableControl) {
     (nodes, control)
 }
 
-/// Has shard 0 go to the second process, as far as that needs nobody to have seen it. Processes whose watches are
-/// silent say that they let go, though they go by the record before.
+/// Moves shard 0 to the second process, as far as nobody needs to have seen it. Processes whose watches are silent ack,
+/// although they still use the record before.
 fn take(control: &mut DurableControl, nodes: &[Node]) {
     for step in [
         ControlCommand::PrepareAddShard(0, 2),
@@ -49,7 +50,7 @@ fn is_count(told: Told, count: i64) -> bool {
     told == Ok(vec![MapReply::Count(count)])
 }
 
-/// How many transactions the process makes while it answers so many reads, each of this count.
+/// Returns how many transactions the process makes while it answers so many reads, each with this count.
 fn transactions(node: &Node, reads: usize, count: i64) -> usize {
     let before = node.sent.load(Ordering::Relaxed);
     for _ in 0..reads {
@@ -62,7 +63,7 @@ fn transactions(node: &Node, reads: usize, count: i64) -> usize {
 fn reads_are_answered_without_a_transaction() {
     let (nodes, mut control) = three(Reads::Lease, LEASE);
     assert!(transactions(&nodes[0], 500, 3) <= 2);
-    // Its own writes it knows, and others have their reads answered by it.
+    // It knows its own writes, and others have their reads answered by it.
     for (number, node) in nodes.iter().enumerate() {
         let count = 4 + number as i64;
         assert!(is_count(add(&node.durable, 0, b"a", 1), count));
@@ -93,7 +94,7 @@ fn a_server_that_sees_no_change_tells_what_is_stale_for_no_longer_than_a_lease()
     take(&mut control, &nodes);
     let written = Instant::now();
     assert!(is_count(add(&nodes[1].durable, 0, b"a", 1), 4));
-    // It answers what it was asked by what it knows, until it has to ask.
+    // It answers from its memory, until it must ask the store.
     let mut stale = 0;
     loop {
         let after = written.elapsed();
@@ -106,7 +107,7 @@ fn a_server_that_sees_no_change_tells_what_is_stale_for_no_longer_than_a_lease()
     assert!(stale > 0);
 }
 
-/// It has the key hold 3, which it does by all that a server knows that has missed what was written since.
+/// Its key has 3. The change decides so from everything that a server knows that has missed the writes since.
 #[test]
 fn a_change_that_writes_nothing_is_decided_by_what_is_there() {
     let (nodes, mut control) = three(Reads::Lease, LEASE);

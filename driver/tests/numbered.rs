@@ -1,4 +1,4 @@
-//! All clients that number their requests have room in one shard, and what they ask is made once.
+//! All clients that number their requests have room in one shard, and their requests are made once.
 mod common;
 
 use common::cluster::{campaign, fail, kill, settle, Net};
@@ -9,7 +9,7 @@ use std::sync::Arc;
 use std::thread;
 use std::time::Duration;
 
-/// How many requests each client writes under a number: as many as it may.
+/// How many requests each client writes under a number: as many as allowed.
 const MOST: usize = Numbered::MOST_REQUESTS;
 
 fn begin(client: u64, number: u64, requests: usize) -> Begin {
@@ -18,7 +18,7 @@ fn begin(client: u64, number: u64, requests: usize) -> Begin {
     Begin::Numbered(Numbered { client, number }, vec![add; requests])
 }
 
-/// What is told where each client asks under this number at once.
+/// Returns the answers if each client asks under this number at once.
 fn told_all(durable: &Durable, number: u64) -> Vec<Told> {
     let asked = (1..=Numbered::LAST_CLIENT).map(|it| step(begin(it, number, MOST), None));
     let (steps, told): (Vec<_>, Vec<_>) = asked.unzip();
@@ -28,7 +28,7 @@ fn told_all(durable: &Durable, number: u64) -> Vec<Told> {
     told.map(|it| it.expect("an answer")).collect()
 }
 
-/// What is replied under this number where each one was made once.
+/// Returns the answer under this number if each request was made once.
 fn counted(number: u64) -> Told {
     let first = (number as i64 - 1) * MOST as i64;
     Ok((1..=MOST as i64)
@@ -118,7 +118,7 @@ fn nothing_is_made_twice_where_the_server_of_the_shard_is_killed() {
         let asking = scope.spawn(|| told_all(&nodes[1].durable, 2));
         thread::sleep(Duration::from_millis(20));
         kill(&nodes[0]);
-        // It is asked in vain for a while.
+        // For a while nobody answers it.
         thread::sleep(Duration::from_millis(300));
         nodes[0].expire();
         fail(&mut control, 1);

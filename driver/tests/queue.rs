@@ -1,4 +1,4 @@
-//! Work that waits for a shard: it has a bound, each client has its turn, and what nobody waits for is dropped.
+//! Work that waits for a shard: it has a bound, each client has its turn, and work for which nobody waits is dropped.
 mod common;
 
 use common::handing::{Handed, Handing};
@@ -13,18 +13,18 @@ use std::sync::{Arc, Mutex};
 use std::thread;
 use std::time::{Duration, Instant};
 
-/// How many runs wait at a shard at most, beside those in a round.
+/// The most runs that wait at a shard, beside those in a round.
 const MOST_RUNS: usize = 32_768;
 const MOST_OF_A_ROUND: usize = 1_024;
-/// How long something is waited for at most.
+/// The longest time that a test waits for something.
 const PATIENCE: Duration = Duration::from_secs(60);
 
-/// An addition to this key.
+/// Returns an addition to this key.
 fn addition(name: &str) -> Begin {
     Begin::Write(vec![MapRequest::Add(Key::from(name.as_bytes()), 1)])
 }
 
-/// Work that somebody waits for as long as this says so.
+/// Work for which somebody waits as long as this says so.
 struct Awaited {
     work: Box<dyn Work>,
     is_wanted: Arc<AtomicBool>,
@@ -52,7 +52,7 @@ impl Work for Awaited {
     }
 }
 
-/// The step that is wanted as long as this says so.
+/// Returns the step that is wanted as long as this says so.
 fn awaited(
     begin: Begin,
     is_wanted: &Arc<AtomicBool>,
@@ -98,7 +98,7 @@ fn what_nobody_waits_for_any_more_is_dropped() {
 fn more_than_may_wait_is_refused_at_once() {
     let store: Arc<dyn Store> = Arc::new(Embedded::in_memory());
     let durable: Durable = opened(&store, 1);
-    // Nobody owns the shard, so all waits.
+    // The shard has no owner, so everything waits.
     let mut waits = Vec::new();
     let refused = loop {
         let (one, told) = step(addition("a"), None);
@@ -117,7 +117,7 @@ fn more_than_may_wait_is_refused_at_once() {
         .all(|it| it.recv() == Ok(Err(NotDone::Stopped))));
 }
 
-/// A store that keeps back each transaction to a log until it is released.
+/// A store that withholds each transaction to a log until it is released.
 struct Keeping {
     store: Arc<dyn Store>,
     is_armed: AtomicBool,
@@ -125,7 +125,7 @@ struct Keeping {
 }
 
 impl Keeping {
-    /// Makes the transaction that is kept back, or that will be.
+    /// Makes the transaction that is withheld, or that will be.
     fn release(&self) {
         let end = Instant::now() + PATIENCE;
         while Instant::now() < end {

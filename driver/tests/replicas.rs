@@ -1,4 +1,4 @@
-//! What a server reads of the store: all of a shard once, and then only what it lacks.
+//! The readings of a server: all of a shard once, and then only the batches that it lacks.
 mod common;
 
 use common::cluster::{campaign, kill, settle, soon, until, Net, Node};
@@ -11,10 +11,10 @@ use std::sync::{Arc, Mutex};
 use std::thread;
 use std::time::{Duration, Instant};
 
-/// How many batches a log gets before a base stands for them, at least.
+/// The least number of batches that a log gets before a base replaces them.
 const BATCHES: i64 = 50;
 
-/// Three processes over one store, a control, and what each process read.
+/// Three processes over one store, a control, and the readings of each process.
 struct Trio {
     store: Arc<dyn Store>,
     nodes: Vec<Node>,
@@ -23,7 +23,7 @@ struct Trio {
 }
 
 impl Trio {
-    /// One whose shard is owned by server 1. Each page that is read takes so long.
+    /// Makes three whose shard is owned by server 1. The reading of each page takes so long.
     fn new(page: Duration) -> Trio {
         let store: Arc<dyn Store> = Arc::new(Embedded::in_memory());
         let (net, mut nodes, mut counts) = (Arc::new(Net::default()), Vec::new(), Vec::new());
@@ -43,7 +43,7 @@ impl Trio {
         }
     }
 
-    /// The same, with a base, and `BATCHES` as the count of the key.
+    /// Does the same, with a base, and `BATCHES` as the count of the key.
     fn with_base() -> Trio {
         let trio = Trio::new(Duration::ZERO);
         (0..BATCHES).for_each(|_| drop(add(&trio.nodes[0].durable, 0, b"a", 1).unwrap()));
@@ -51,7 +51,7 @@ impl Trio {
         trio
     }
 
-    /// Waits until a base is named, and what it stands for is deleted.
+    /// Waits until a base is named, and the batches that it replaced are deleted.
     fn await_base(&self) {
         until("a base is made", || {
             let parts = self.store.read_all(b"base/").unwrap().pairs.len();
@@ -60,12 +60,12 @@ impl Trio {
         });
     }
 
-    /// Adds to the key at the server's process, which tells what it then holds.
+    /// Adds to the key at the server's process, which answers this new value.
     fn adds(&self, server: usize, holds: i64) {
         adds(&self.nodes[server - 1], holds);
     }
 
-    /// Has the shard go to the server, after it has read the shard where it may before.
+    /// Moves the shard to the server, after the server has read the shard if it may do so before.
     fn moves_to(&mut self, server: u16) {
         let (change, counts) = (
             ControlCommand::PrepareAddShard(0, server),
@@ -77,7 +77,7 @@ impl Trio {
     }
 }
 
-/// Adds to the key at the process, which tells what it then holds.
+/// Adds to the key at the process, which answers this new value.
 fn adds(node: &Node, holds: i64) {
     let told = add(&node.durable, 0, b"a", 1);
     assert_eq!(told, Ok(vec![MapReply::Count(holds)]));
@@ -156,7 +156,7 @@ fn the_next_owner_reads_before_it_executes() {
     trio.moves_to(2);
     until("the base is read", || trio.counts[1].parts() > 0);
     let parts = trio.counts[1].parts();
-    // The owner executes, whoever is asked.
+    // The owner executes, whichever process is asked.
     trio.adds(2, BATCHES + 1);
     trio.adds(1, BATCHES + 2);
     settle(&mut trio.control, 0);
@@ -180,17 +180,17 @@ fn the_next_owner_reads_the_base_if_what_it_lacks_is_gone() {
     assert!(trio.counts[1].parts() > parts);
 }
 
-/// How many texts the large shard has, of how many bytes: some 20 MiB.
+/// How many texts the large shard has, and of how many bytes: about 20 MiB.
 const TEXTS: usize = 320;
 const BYTES: usize = 65_000;
-/// How long each page takes that is read of the large shard.
+/// How long the reading of each page of the large shard takes.
 const PAGE: Duration = Duration::from_millis(60);
 
 fn text(number: usize) -> MapRequest {
     MapRequest::Put(format!("t{number}").as_bytes().into(), vec![b'x'; BYTES])
 }
 
-/// How long the process takes until it tells what the key holds.
+/// Returns how long the process takes to answer the value of the key.
 fn waits(node: &Node) -> Duration {
     let asked = Instant::now();
     assert!(matches!(
@@ -200,7 +200,8 @@ fn waits(node: &Node) -> Duration {
     asked.elapsed()
 }
 
-/// A server that has read the shard early waits for what was written since, and one that hasn't waits for all of it.
+/// A server that has read the shard early waits for the batches that were written since. A server that hasn't waits for
+/// all of it.
 #[test]
 fn a_large_shard_moves_without_a_wait() {
     let mut trio = Trio::new(PAGE);

@@ -1,4 +1,4 @@
-//! A server that was stopped is up again by a later process, whoever leads by then.
+//! A server that was stopped is up again in a later process, whoever leads by then.
 mod common;
 
 use common::cluster::{assign, campaign, kill, soon, until, Net, Node};
@@ -9,7 +9,7 @@ use durkenzo_store::{Embedded, Store};
 use std::sync::atomic::Ordering;
 use std::sync::Arc;
 
-/// Three processes over a store, of which each shard's owner is one.
+/// Three processes over a store, each of which owns a shard.
 struct Three {
     store: Arc<dyn Store>,
     net: Arc<Net>,
@@ -25,7 +25,7 @@ impl Three {
         Three { store, net, nodes }
     }
 
-    /// Has server 1 be let go for its restart, with its shard paused, by the control of server 3.
+    /// Makes the control of server 3 let server 1 go for its restart, with its shard paused.
     fn let_go(&self) -> DurableControl {
         let mut control = campaign(&self.nodes[2]);
         assign(&mut control, 3);
@@ -39,14 +39,14 @@ impl Three {
         control
     }
 
-    /// Has it be stopped then.
+    /// Stops it then.
     fn stop(&self) -> DurableControl {
         let mut control = self.let_go();
         soon(&mut control, ControlCommand::Stopped(1));
         control
     }
 
-    /// Has server 1 have another process.
+    /// Starts another process for server 1.
     fn start_again(&mut self) {
         let old = self.nodes.remove(0);
         old.durable.member().expect("a member").leave();
@@ -55,7 +55,7 @@ impl Three {
         self.nodes.insert(0, new);
     }
 
-    /// How server 1 is by the number of its process.
+    /// Returns the state of server 1 with the number of its process.
     fn run(&self, state: ServerState) -> ServerRun {
         let process = self.nodes[0].durable.process();
         ServerRun { state, process }

@@ -1,10 +1,12 @@
-//! What work of one shard sees of other work.
+//! How work on one shard sees other work.
 mod common;
 
 use common::cluster::until;
 use common::handing::{Handed, Handing};
 use common::{add, ask, held, led, opened, step, write};
-use durkenzo_driver::{Begin, ControlCommand, Durable, Key, MapReply, MapRequest, NotDone, Tuning};
+use durkenzo_driver::{
+    Begin, ControlCommand, Durable, Key, MapReply, MapRequest, NotDone, ShardOptions,
+};
 use durkenzo_store::{Embedded, ReadError, Reading, Store};
 use std::sync::atomic::{AtomicU64, Ordering};
 use std::sync::Arc;
@@ -89,7 +91,7 @@ fn changes_lose_no_other_write() {
             scope.spawn(|| (0..300).for_each(|_| drop(add(&durable, 0, b"a", 1).unwrap())));
             scope.spawn(|| {
                 for _ in 0..300 {
-                    // Writes the sum whole, so that another write in between would be lost.
+                    // It writes the whole sum, so that another write in between would be lost.
                     let decide = |held: Vec<MapReply>| {
                         let sum = match held[..] {
                             [MapReply::Count(sum)] => sum + 1,
@@ -109,15 +111,15 @@ fn changes_lose_no_other_write() {
 #[test]
 fn what_nobody_executes_waits_and_is_refused_by_its_reason() {
     let store: Arc<dyn Store> = Arc::new(Embedded::in_memory());
-    let tuning = Tuning {
+    let shard_options = ShardOptions {
         wait: Duration::from_millis(200),
-        ..Tuning::default()
+        ..ShardOptions::default()
     };
-    let open = Durable::open(store, 1, tuning, Box::new(|| {}));
+    let open = Durable::open(store, 1, shard_options, Box::new(|| {}));
     let durable = Arc::new(open.unwrap());
     assert_eq!(add(&durable, 0, b"a", 1), Err(NotDone::Vacant));
     let mut control = led(&durable);
-    // A machine that is busy may let something wait in vain that could be made.
+    // On a busy machine, work that could be made may wait in vain.
     let is_made = |count| add(&durable, 0, b"a", 1) == Ok(vec![MapReply::Count(count)]);
     until("the first is made", || is_made(1));
     control.command(ControlCommand::Pause(0)).unwrap();
@@ -173,7 +175,7 @@ fn a_base_stands_for_what_was_made_before() {
     assert_eq!(ask(&durable, 0, Begin::Read(keys), None), Ok(found));
 }
 
-/// A store that counts the ranges that are read of it.
+/// A store that counts the ranges that are read.
 struct Counting {
     store: Arc<dyn Store>,
     ranges: AtomicU64,
@@ -194,7 +196,7 @@ impl Handing for Counting {
 fn a_long_log_is_read_in_few_pages() {
     let store: Arc<dyn Store> = Arc::new(Embedded::in_memory());
     let opened = |store: Arc<dyn Store>| {
-        let open = Durable::open(store, 1, Tuning::default(), Box::new(|| {}));
+        let open = Durable::open(store, 1, ShardOptions::default(), Box::new(|| {}));
         Arc::new(open.unwrap())
     };
     let durable = opened(store.clone());
@@ -209,7 +211,7 @@ fn a_long_log_is_read_in_few_pages() {
     assert_eq!(counting.ranges.load(Ordering::Relaxed), 5);
 }
 
-/// What was written before the store gives back room is there after it, and for the next process.
+/// Writes from before the store returns room are there after it, and for the next process.
 fn is_there_after_compacting(store: &Arc<dyn Store>) {
     let durable = Arc::new(opened(store, 2));
     let _control = led(&durable);
@@ -239,7 +241,7 @@ fn compacting_keeps_what_a_folder_has() {
     let store: Arc<dyn Store> = Arc::new(open());
     is_there_after_compacting(&store);
     drop(store);
-    // SQLite reads its file anew.
+    // SQLite reads its file again.
     let store: Arc<dyn Store> = Arc::new(open());
     let durable = opened(&store, 2);
     assert_eq!(held(&durable, 0, b"a"), Ok(vec![MapReply::Count(30)]));

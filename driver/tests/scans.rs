@@ -1,4 +1,4 @@
-//! What goes over the keys of a shard: it sees what was written before, and nothing else.
+//! Work that goes over the keys of a shard: it sees all writes before it, and nothing else.
 mod common;
 
 use common::{ask, led, opened, write, Uncertain};
@@ -19,7 +19,7 @@ fn range(low: &[u8], high: Option<&[u8]>, most: usize) -> Begin {
     })
 }
 
-/// The pairs that a scan gives.
+/// Returns the pairs that a scan gives.
 fn scanned(durable: &Durable, begin: Begin) -> Vec<(Key, MapReply)> {
     let replies = ask(durable, 0, begin, None).expect("pairs");
     let pair = |it| match it {
@@ -29,7 +29,7 @@ fn scanned(durable: &Durable, begin: Begin) -> Vec<(Key, MapReply)> {
     replies.into_iter().map(pair).collect()
 }
 
-/// All pairs, some at a time.
+/// Returns all pairs, some at a time.
 fn all(durable: &Durable) -> Vec<(Key, MapReply)> {
     let (mut found, mut low) = (Vec::new(), Vec::new());
     loop {
@@ -42,7 +42,7 @@ fn all(durable: &Durable) -> Vec<(Key, MapReply)> {
     }
 }
 
-/// The first keys of all, without what they hold.
+/// Returns the first of all keys, without their values.
 fn keys(durable: &Durable) -> Vec<Key> {
     let range = Range {
         low: Key::default(),
@@ -64,7 +64,7 @@ fn count(durable: &Durable) -> i64 {
     }
 }
 
-/// Numbers by chance, the same in each run.
+/// Pseudo-random numbers, the same in each run.
 struct Chance(u64);
 
 impl Chance {
@@ -77,7 +77,7 @@ impl Chance {
     }
 }
 
-/// A request of few keys.
+/// Returns a request of few keys.
 fn by_chance(chance: &mut Chance) -> MapRequest {
     let key: Key = format!("key {}", chance.below(40)).into_bytes().into();
     match chance.below(7) {
@@ -90,7 +90,7 @@ fn by_chance(chance: &mut Chance) -> MapRequest {
     }
 }
 
-/// What each of the keys holds that were ever written, read one by one.
+/// Returns the values of all keys that were ever written, read one by one.
 fn read(durable: &Durable) -> BTreeMap<Key, MapReply> {
     let keys: Vec<Key> = (0..40)
         .map(|it| format!("key {it}").into_bytes().into())
@@ -100,14 +100,14 @@ fn read(durable: &Durable) -> BTreeMap<Key, MapReply> {
     pairs.filter(|it| it.1 != MapReply::Nothing).collect()
 }
 
-/// Writes by chance, while the shard moves; what is scanned is what is read.
+/// Writes random requests while the shard moves. A scan returns the same as reads.
 fn writes_by_chance(durable: &Durable, control: &mut DurableControl, seed: u64) {
     let mut chance = Chance(seed);
     for step in 0..60 {
         let requests = (0..1 + chance.below(5))
             .map(|_| by_chance(&mut chance))
             .collect();
-        // One whose outcome isn't known may be made.
+        // A write with an unknown outcome may be made.
         let _ = write(durable, 0, requests);
         if step % 5 == 0 {
             moves(control);
@@ -119,7 +119,7 @@ fn writes_by_chance(durable: &Durable, control: &mut DurableControl, seed: u64) 
     }
 }
 
-/// Has the shard go to the other server.
+/// Moves the shard to the other server.
 fn moves(control: &mut DurableControl) {
     let record = control.record(0).expect("a record").expect("a record");
     let to = 3 - record.owner().expect("an owner");
@@ -229,7 +229,7 @@ fn scans_go_with_writes_of_others() {
             }
         });
         while !writer.is_finished() {
-            // What is written together is there together.
+            // Values that are written together are there together.
             let found = scanned(&durable, range(&[], None, 9)).len();
             assert!(found == 0 || found == 2, "{found}");
             assert!(matches!(count(&durable), 0 | 2));

@@ -1,4 +1,5 @@
-//! What is written together where the store takes little, or nothing more: each client's step whole, or not at all.
+//! Writes that are made together if the store takes only a little at once, or nothing more: each client's step is made
+//! as a whole, or not at all.
 mod common;
 
 use common::handing::{Handed, Handing};
@@ -13,15 +14,15 @@ use std::time::{Duration, Instant};
 
 const TEXT: usize = 60_000;
 
-/// A store that refuses batches of more bytes than it takes, and once it has as many as it has room for all but those
-/// that may take what it keeps back.
+/// A store that refuses batches with more bytes than it takes. Once it is full, it refuses everything except writes
+/// that may use its reserve.
 struct Scant {
     store: Arc<dyn Store>,
     most_bytes: usize,
     room: AtomicUsize,
     /// How many bytes it has left for bases.
     left: AtomicU64,
-    /// How many bytes each batch had that was made.
+    /// The size of each batch that was made.
     made: Mutex<Vec<usize>>,
 }
 
@@ -55,7 +56,7 @@ impl Handing for Scant {
     }
 }
 
-/// A shard that nobody owns yet, so that what is asked of it waits, over a store that takes so much.
+/// Opens a shard without an owner, whose requests wait, over a store with these bounds.
 fn opened_over(most_bytes: usize, room: usize) -> (Arc<Handed<Scant>>, Arc<Durable>) {
     let scant = Arc::new(Handed(Scant {
         store: Arc::new(Embedded::in_memory()),
@@ -68,12 +69,12 @@ fn opened_over(most_bytes: usize, room: usize) -> (Arc<Handed<Scant>>, Arc<Durab
     (scant, Arc::new(durable))
 }
 
-/// The key of this number of a client.
+/// Returns the key of this number of a client.
 fn key(client: usize, number: usize) -> Key {
     format!("{client} {number}").into_bytes().into()
 }
 
-/// Gives work of a client, and returns where what becomes of it is told.
+/// Submits work of a client, and returns the receiver of its outcome.
 fn submit(durable: &Durable, begin: Begin, decide: Option<Decide>) -> Receiver<Told> {
     let (one, told) = step(begin, decide);
     durable.submit(0, vec![one]);
@@ -85,7 +86,7 @@ fn texts(client: usize, count: usize) -> Vec<MapRequest> {
     texts.collect()
 }
 
-/// A change of a client that writes so many texts by what one key holds.
+/// Submits a change of a client that writes so many texts, depending on the value of one key.
 fn change(durable: &Durable, client: usize, count: usize) -> Receiver<Told> {
     let decide = move |_: Vec<MapReply>| texts(client, count);
     let begin = Begin::Change(vec![key(client, 0)]);
@@ -96,7 +97,7 @@ fn told(it: &Receiver<Told>) -> Told {
     it.recv_timeout(Duration::from_secs(60)).expect("an answer")
 }
 
-/// How many of these texts of the client are there.
+/// Returns how many of these texts of the client are there.
 fn count_of(durable: &Durable, client: usize, count: usize) -> usize {
     let keys = (0..count).map(|it| key(client, it)).collect();
     let found = ask(durable, 0, Begin::Read(keys), None).unwrap();
@@ -237,7 +238,7 @@ fn reads_go_on_beside_writes_that_never_end() {
     });
 }
 
-/// Deletions that came together with what the store has no room for.
+/// Deletions are submitted together with writes for which the store has no room.
 #[test]
 fn deletions_go_on_where_the_store_is_full() {
     let (_scant, durable) = opened_over(usize::MAX, 0);
@@ -262,7 +263,7 @@ fn deletions_go_on_where_the_store_is_full() {
     assert!((0..20).all(|client| count_of(&durable, client, 4) == 0));
 }
 
-/// A store without room but for what it keeps back, where a base goes on while writes are refused.
+/// The store has only room in its reserve. A base goes on while writes are refused.
 #[test]
 fn deletions_have_a_full_store_make_room_beside_refused_writes() {
     let (scant, durable) = opened_over(usize::MAX, usize::MAX);
@@ -285,7 +286,7 @@ fn deletions_have_a_full_store_make_room_beside_refused_writes() {
     assert_eq!(count_of(&durable, 1, 1), 1);
 }
 
-/// A store that has room for no base gets no part of one.
+/// A store that has no room for a base gets no part of one.
 #[test]
 fn a_base_without_room_is_not_begun() {
     let (scant, durable) = opened_over(usize::MAX, usize::MAX);

@@ -1,5 +1,4 @@
-//! What lay at the keys of a store of a version before this one is read, in a folder and on etcd, and stands as it
-//! stood.
+//! The keys of a store of an earlier version are read, in a folder and in etcd, with all their stands.
 #[path = "../../store/tests/beside/mod.rs"]
 mod beside;
 mod common;
@@ -13,7 +12,7 @@ use std::fs;
 use std::path::{Path, PathBuf};
 use std::sync::Arc;
 
-/// The folders of the versions.
+/// Returns the folders of the versions.
 fn versions() -> Vec<PathBuf> {
     let fixtures = Path::new(env!("CARGO_MANIFEST_DIR")).join("../server/tests/fixtures");
     let folders = fs::read_dir(fixtures)
@@ -24,7 +23,7 @@ fn versions() -> Vec<PathBuf> {
         .collect()
 }
 
-/// What a client was told then.
+/// The answers to a client at that time.
 #[derive(Debug, Default)]
 struct Told {
     /// Each shard's stand, owner, other and generation, as they are written.
@@ -63,7 +62,7 @@ fn bytes_of(digits: &str) -> Vec<u8> {
         .collect()
 }
 
-/// Puts what the file tells into the store, some keys at once.
+/// Puts the file's keys into the store, some at once.
 fn load(store: &dyn Store, file: &Path) {
     let text = fs::read_to_string(file).expect("keys");
     let lines: Vec<_> = text.lines().collect();
@@ -77,7 +76,7 @@ fn load(store: &dyn Store, file: &Path) {
     }
 }
 
-/// The store is read by this version, and is as it was told of.
+/// Checks that this version reads the store, with the answers of that time.
 fn is_read(store: Arc<dyn Store>, told: &Told) {
     let settings = store.read(&[keys::SETTINGS]).expect("settings");
     let settings = settings
@@ -153,7 +152,7 @@ fn keys_are_read() {
     }
 }
 
-/// Where etcd is installed.
+/// This test needs etcd.
 #[test]
 fn keys_on_etcd_are_read() {
     for version in versions() {

@@ -1,12 +1,12 @@
-//! How a process comes to lead, and has nothing more be made of what it sent before.
+//! The election of the leader (the process that leads), which also makes earlier transactions void.
 use super::{DurableControl, WrittenRevisions, TRIES};
 use crate::proved::Director;
-use crate::{keys, Durable, Refused};
+use crate::{keys, CoreFault, Durable, Refused};
 use durkenzo_store::{LeaseId, Outcome, Reading, Revision, Transaction, WriteError};
 
 impl DurableControl {
-    /// Has this process be elected anew if something may still be made that was given up. What was sent before compares
-    /// the election before, so it isn't made from then on. The store is asked once.
+    /// Has this process elected again if a transaction that was given up may still be made. Earlier transactions
+    /// compare the earlier election, so none of them is made from then on. The store is asked once.
     pub(super) fn outdate(&mut self) -> Result<(), Refused> {
         if !self.has_stray {
             return Ok(());
@@ -20,29 +20,37 @@ impl DurableControl {
         self.go_on_from(elected.ok_or(Refused::NotLeader)?)
     }
 
-    /// Goes on from an election anew: all is to be read again.
+    /// Goes on from a new election: everything must be read again.
     fn go_on_from(&mut self, elected: Revision) -> Result<(), Refused> {
         self.director = director(&self.durable, &self.line, elected)?;
         (self.elected, self.has_stray) = (elected, false);
-        (self.is_behind, self.followers) = (true, None);
+        (self.is_behind, self.followers, self.told) = (true, None, None);
         self.written = WrittenRevisions::default();
         Ok(())
     }
 }
 
-/// The proved control of this process, which was elected at this revision. Without a server of its own the process has
-/// all servers, so commands wait for no ack.
+/// Returns the proved control of this process, which was elected at this revision. A process without a server of its
+/// own has all servers, so its commands wait for no ack.
 pub(super) fn director(
     durable: &Durable,
     line: &str,
     elected: Revision,
 ) -> Result<Director, Refused> {
+    proved(durable, line, elected).map_err(Refused::of)
+}
+
+/// Does the same, but returns the code of the fault in the settings.
+pub(super) fn proved(
+    durable: &Durable,
+    line: &str,
+    elected: Revision,
+) -> Result<Director, CoreFault> {
     let process = durable.process();
-    let made = match durable.member() {
+    match durable.member() {
         Some(_) => Director::new(line, process, elected),
         None => Director::alone(line, process, elected),
-    };
-    made.map_err(Refused::of)
+    }
 }
 
 /// Writes the leader's key for this process, and returns its revision.
@@ -58,10 +66,11 @@ pub(super) fn elect(durable: &Durable) -> Result<Revision, Refused> {
     }
 }
 
-/// Writes the leader's key for this process if no other one has it, and returns its revision; none if one has it.
+/// Writes the leader's key for this process if no other one has it, and returns its revision. Returns nothing if
+/// another one has it.
 ///
-/// If it is this process's already, by an election of which it didn't know, or of a control that has ended, it is
-/// elected anew: what was sent by then isn't made from then on, and writes the leader's key no more.
+/// If the key is this process's already, it was elected without learning it, or by a control that has ended. Then it is
+/// elected again: earlier transactions aren't made from then on, and don't write the leader's key any more.
 pub(super) fn campaigned(durable: &Durable) -> Result<Option<Revision>, Refused> {
     let lease = durable.member().and_then(|it| it.lease());
     let lease = Some(lease.ok_or(Refused::NotLeader)?);
@@ -79,8 +88,9 @@ pub(super) fn campaigned(durable: &Durable) -> Result<Option<Revision>, Refused>
     Err(Refused::in_vain())
 }
 
-/// Writes the leader's key for this process if it was last written at this revision, and returns its revision. If this
-/// process was elected by an earlier try, of which that wasn't known, returns the revision of that; else none.
+/// Writes the leader's key for this process if it was last written at this revision, and returns the new revision. If
+/// this process was elected by an earlier attempt without learning it, returns the revision of that attempt. Otherwise
+/// returns nothing.
 fn elected_after(
     durable: &Durable,
     before: Revision,
@@ -93,14 +103,14 @@ fn elected_after(
     })
 }
 
-/// The revision at which this process was elected, by what was read of the leader's key.
+/// Returns the revision at which this process was elected, if the leader's key says so.
 fn own_election(durable: &Durable, found: &Reading) -> Option<Revision> {
     let own = keys::leader_of(durable.process());
     let pair = found.get(keys::LEADER).filter(|it| it.value == own);
     pair.map(|it| it.revision)
 }
 
-/// The transaction by which this process is elected, if the leader's key was last written at this revision.
+/// Returns the transaction that elects this process, if the leader's key was last written at this revision.
 fn election(durable: &Durable, before: Revision, lease: Option<LeaseId>) -> Transaction {
     Transaction::new()
         .compare(keys::LEADER, before)

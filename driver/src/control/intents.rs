@@ -1,9 +1,9 @@
-//! The intents of a control lie in the store, so that whoever leads next goes on with them.
+//! The intents of a control. They lie in the store, so that the next leader goes on with them.
 use super::{DurableControl, TRIES};
 use crate::{keys, Intent, Refused};
 use durkenzo_store::{Outcome, Revision, Transaction, WriteError};
 
-/// How many intents are written or withdrawn at once.
+/// The most intents that are written or withdrawn at once.
 const MOST_AT_ONCE: usize = 64;
 
 impl DurableControl {
@@ -11,7 +11,7 @@ impl DurableControl {
     ///
     /// # Errors
     ///
-    /// As [`Refused`] says; so it is of the calls below.
+    /// As [`Refused`] says. That applies to the calls below, too.
     pub fn intents(&mut self) -> Result<Vec<Intent>, Refused> {
         self.catch_up()?;
         let mut intents = Vec::new();
@@ -23,8 +23,8 @@ impl DurableControl {
         Ok(intents)
     }
 
-    /// Writes the intents to the store. If one of the same server or shard lies there already, that one stays. If they
-    /// may lie there all the same, the error is `Unknown`, whatever came last.
+    /// Writes the intents to the store. If there is one for the same server or shard already, that one stays. If the
+    /// intents may be there in spite of an error, the error is `Unknown`, whatever came last.
     pub fn intend(&mut self, intents: &[Intent]) -> Result<(), Refused> {
         self.catch_up()?;
         let mut intents = intents.chunks(MOST_AT_ONCE);
@@ -57,7 +57,7 @@ impl DurableControl {
         Err(Refused::in_vain())
     }
 
-    /// Withdraws the intents: they are done, or nobody has them any more.
+    /// Withdraws the intents, because they are done, or nobody has them any more.
     pub fn withdraw(&mut self, intents: &[Intent]) -> Result<(), Refused> {
         self.catch_up()?;
         let mut intents = intents.chunks(MOST_AT_ONCE);
@@ -75,12 +75,13 @@ impl DurableControl {
         Err(Refused::in_vain())
     }
 
-    /// Sends the transaction. Returns whether it was made: if that isn't known, or it was lost, it is to be sent again.
+    /// Sends the transaction. Returns whether it was made. If that isn't known, or the transaction was lost, it must be
+    /// sent again.
     fn sent(&mut self, transaction: Transaction) -> Result<bool, Refused> {
         match self.durable.store().make(transaction) {
             Ok(Outcome::Made(_)) => return Ok(true),
             Ok(Outcome::Lost(_)) => {}
-            // It may be made once another one of the same keys was.
+            // It may be made after another one of the same keys.
             Err(WriteError::Unknown(_)) => self.has_stray = true,
             Err(error) => return Err(error.into()),
         }

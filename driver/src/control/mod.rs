@@ -1,50 +1,56 @@
 mod election;
 mod intents;
+mod settings;
 
 use crate::command::{ControlCommand, Next, Subject};
 use crate::plan::planned;
 use crate::proved::{AckRead, CommandTransaction, Director};
-use crate::{keys, process, CoreFault, Durable, Live, Refused, ServerRun, ServerState};
+use crate::{keys, process, Durable, Live, Refused, ServerRun, ServerState};
 use durkenzo::{word, Plan, Record, Stand};
 use durkenzo_store::{Outcome, Reading, Revision, Transaction, WriteError};
+use std::collections::BTreeMap;
 use std::fmt;
 use std::sync::Arc;
 
-/// How often a command is sent again that another one came before, or of which it isn't known what became.
+/// How often a command is sent again if another one came before it, or its outcome isn't known.
 const TRIES: u32 = 8;
 
-/// The control over a store for this process: what it sends and what comes next, the proved one decides.
+/// This process's control over a store. The proved control decides what it sends, and its next steps.
 pub struct DurableControl {
     durable: Arc<Durable>,
     director: Director,
-    /// The settings, as a line.
+    /// The settings in force, as a line, and the revision at which they were written, as they were last read.
     line: Box<str>,
-    servers: u16,
+    settled: Revision,
     /// The revision of the leader's key.
     elected: Revision,
     /// When records and states were written, as far as the director has read or made them.
     written: WrittenRevisions,
-    /// Whether all is to be read again.
+    /// Whether everything must be read again.
     is_behind: bool,
-    /// Whether something may still be made that was sent and given up.
+    /// Whether a transaction that was sent and given up may still be made.
     has_stray: bool,
-    /// How often servers' keys had changed when it was read who follows; none where that is to be read again.
+    /// How many changes servers' keys had when the followers were last read; nothing if they must be read again.
     followers: Option<u64>,
+    /// How many changes they had when the director was last told the followers, as the watch tells them.
+    told: Option<u64>,
 }
 
 impl DurableControl {
-    /// Has this process lead the store that the line of settings describes, whoever led it.
+    /// Makes this process lead the store, whoever led it before. The line of settings describes the store if it has
+    /// none.
     ///
     /// # Errors
     ///
-    /// Where the store can't be read or written, or what lies there isn't of these settings.
+    /// If the store can't be read or written, or its content isn't of these settings.
     pub fn lead(durable: Arc<Durable>, line: &str) -> Result<DurableControl, Refused> {
         let elected = election::elect(&durable)?;
         DurableControl::elected(durable, line, elected)
     }
 
-    /// Has this process lead the store that the line of settings describes, where no other one does: its key lies under
-    /// the lease of this process's server, [`Durable::member`]. None where another one leads.
+    /// Makes this process lead the store, if no other one does. Its key lies under the lease of this process's server,
+    /// [`Durable::member`]. Returns nothing if another process leads. The line of settings describes the store if it
+    /// has none.
     ///
     /// # Errors
     ///
@@ -62,27 +68,25 @@ impl DurableControl {
         elected: Revision,
     ) -> Result<DurableControl, Refused> {
         let director = election::director(&durable, line, elected)?;
-        let servers = u16::try_from(director.servers()).unwrap_or(u16::MAX);
         let mut control = DurableControl {
             durable,
             director,
             line: line.into(),
-            servers,
+            settled: Revision::NEVER,
             elected,
             written: WrittenRevisions::default(),
             is_behind: true,
             has_stray: false,
             followers: None,
+            told: None,
         };
-        if control.director.shards() != usize::from(control.durable.shards()) {
-            return Err(Refused::OtherSettings);
-        }
+        control.has_shards()?;
         control.catch_up()?;
         Ok(control)
     }
 
-    /// The first server to which requests go and that isn't there: [`ControlCommand::Fail`] says that it has failed,
-    /// and is refused if it is there again.
+    /// Returns the first server to which requests go although it isn't there. [`ControlCommand::Fail`] says that it has
+    /// failed. That command is refused if the server is there again.
     ///
     /// # Errors
     ///
@@ -93,9 +97,9 @@ impl DurableControl {
         self.director.fallen().map_err(Refused::of)
     }
 
-    /// Returns the number of servers.
+    /// Returns the greatest number of a server.
     pub fn servers(&self) -> u16 {
-        self.servers
+        self.director.servers().iter().copied().max().unwrap_or(0)
     }
 
     /// Returns the number of shards.
@@ -103,20 +107,20 @@ impl DurableControl {
         self.durable.shards()
     }
 
-    /// Reads records and states if that is due, once nothing may still be made that was given up.
+    /// Reads records and states if that is due, once no transaction that was given up may still be made.
     fn catch_up(&mut self) -> Result<(), Refused> {
         self.outdate()?;
         self.read_again()
     }
 
-    /// Reads records and states if that is due. A command may still be made that is tried again.
+    /// Reads records and states if that is due. A command that is tried again may still be made.
     fn read_again(&mut self) -> Result<(), Refused> {
         self.look_at_member()?;
         if self.is_behind {
             self.director.lost().map_err(Refused::of)?;
-            let reading = self.read_all()?;
+            let reading = self.read_in_force()?;
             self.give(&reading).map_err(Refused::of)?;
-            (self.is_behind, self.followers) = (false, None);
+            (self.is_behind, self.followers, self.told) = (false, None, None);
             if self.durable.member().is_none() {
                 self.follow_all(reading.revision)?;
             }
@@ -124,7 +128,7 @@ impl DurableControl {
         Ok(())
     }
 
-    /// Refuses if this process has seen that it doesn't lead any more.
+    /// Fails if this process has seen that it doesn't lead any more.
     fn look_at_member(&self) -> Result<(), Refused> {
         match self.durable.member() {
             Some(member) if !member.leads(self.elected) => Err(Refused::NotLeader),
@@ -132,50 +136,15 @@ impl DurableControl {
         }
     }
 
-    fn read_all(&self) -> Result<Reading, Refused> {
-        let shards = (0..self.durable.shards()).map(keys::record);
-        let servers = (1..=self.servers).map(keys::state);
-        let keys: Vec<_> = [keys::COMMANDS.to_vec()]
-            .into_iter()
-            .chain(shards)
-            .chain(servers)
-            .collect();
-        let slices: Vec<&[u8]> = keys.iter().map(Vec::as_slice).collect();
-        Ok(self.durable.store().read(&slices)?)
-    }
-
-    /// Gives what was read.
-    fn give(&mut self, reading: &Reading) -> Result<(), CoreFault> {
-        let mut pairs = reading.pairs.iter().peekable();
-        let mut next = |key: &[u8]| pairs.next_if(|it| it.key == key);
-        let placed = next(keys::COMMANDS).map_or(Revision::NEVER, |it| it.revision);
-        self.written = WrittenRevisions::default();
-        for shard in 0..self.durable.shards() {
-            let pair = next(&keys::record(shard));
-            let stood = pair.map_or(Revision::NEVER, |it| it.revision);
-            self.director
-                .record(pair.map_or(&keys::VACANT, |it| &it.value), stood)?;
-            self.written.records.push(stood);
-        }
-        for server in 1..=self.servers {
-            let pair = next(&keys::state(server));
-            self.director
-                .state(pair.map_or(&keys::VACANT, |it| &it.value))?;
-            self.written
-                .states
-                .push(pair.map_or(Revision::NEVER, |it| it.revision));
-        }
-        self.director.read(placed)
-    }
-
-    /// Says that all servers follow: they are of this process, which has read as far as its watch.
+    /// Says that all servers follow: they are in this process, which has read as far as its watch.
     fn follow_all(&mut self, revision: Revision) -> Result<(), Refused> {
-        let servers = (1..=self.servers).map(|it| (it, revision));
-        self.director.follow(servers).map_err(Refused::of)
+        let servers = self.director.servers().to_vec();
+        let all = servers.into_iter().map(|it| (it, revision));
+        self.director.follow(all).map_err(Refused::of)
     }
 
-    /// Reads which servers are there, and how far they follow, where that may have changed: no earlier than what else
-    /// is read. It takes as long as a command does, so it is read where it is asked for alone.
+    /// Reads which servers are there, and how far they follow, if that may have changed. It must be read no earlier
+    /// than the rest. That takes as long as a command, so it is done only on request.
     fn follow(&mut self) -> Result<(), Refused> {
         let Some(member) = self.durable.member() else {
             return Ok(());
@@ -187,27 +156,40 @@ impl DurableControl {
         let reading = self.durable.store().read_all(keys::SERVERS)?;
         let pairs = reading.pairs.iter();
         let there = pairs.filter_map(|it| {
-            // If its bytes can't be read the server is there all the same, and nothing waits for what it has read.
+            // If its bytes can't be read, the server is there all the same, and nothing waits for it to read.
             let followed =
                 Live::of(&it.value, it.created).map_or(reading.revision, |live| live.followed);
             Some((keys::server_of(&it.key)?, followed))
         });
-        let known = there.filter(|it| (1..=self.servers).contains(&it.0));
-        self.director.follow(known).map_err(Refused::of)?;
-        self.followers = Some(changes);
+        self.director.follow(there).map_err(Refused::of)?;
+        (self.followers, self.told) = (Some(changes), None);
         Ok(())
     }
 
-    /// Reads who follows where the shard is taken: it is dropped once all do.
+    /// If the shard is taken, tells the director which servers follow, because the shard is dropped once all do. The
+    /// watch tells the followers of one moment. If that moment is before the shard was taken, nobody follows so far, so
+    /// the shard waits.
     fn follow_if_taken(&mut self, shard: u16) -> Result<(), Refused> {
-        match self.record_read(shard)?.map(|it| it.stand) {
-            Some(Stand::Taken { .. }) => self.follow(),
-            _ => Ok(()),
+        let stand = self.record_read(shard)?.map(|it| it.stand);
+        let member = self.durable.member();
+        let Some(member) = member.filter(|_| matches!(stand, Some(Stand::Taken { .. }))) else {
+            return Ok(());
+        };
+        let changes = member.changes();
+        if self.told == Some(changes) {
+            return Ok(());
         }
+        let Some(followers) = member.followers() else {
+            return self.follow();
+        };
+        let told = self.director.follow(followers.into_iter());
+        told.map_err(Refused::of)?;
+        (self.followers, self.told) = (None, Some(changes));
+        Ok(())
     }
 
-    /// Tells the director the acks of what the subject waits for, as this process has seen them; they count once they
-    /// were made. If this process has all servers, nothing waits.
+    /// Tells the director the acks for which the subject waits, as this process has seen them. An ack counts once it
+    /// was made. If this process has all servers, nothing waits.
     fn hear_acks(&mut self, subject: Subject) -> Result<(), Refused> {
         let Some(member) = self.durable.member().cloned() else {
             return Ok(());
@@ -224,8 +206,8 @@ impl DurableControl {
         self.director.acked(acks.into_iter()).map_err(Refused::of)
     }
 
-    /// Tells the director the acks that the command may wait for: those of the shard that it changes, or of all shards
-    /// that are paused for the server that is to be stopped.
+    /// Tells the director the acks for which the command may wait: those of the shard that it changes, or of all shards
+    /// that are paused for the server that it stops.
     fn hear_acks_for(&mut self, command: ControlCommand) -> Result<(), Refused> {
         match command {
             ControlCommand::Ask(_)
@@ -245,8 +227,8 @@ impl DurableControl {
         }
     }
 
-    /// The servers whose acks may be waited for, each with the shard: those that the shard's record names, or the
-    /// server with each shard that is paused for it.
+    /// Returns the servers whose acks may be awaited, each with the shard: the servers that the shard's record names,
+    /// or the server with each shard that is paused for it.
     fn awaited(&mut self, subject: Subject) -> Result<Vec<(u16, u16)>, Refused> {
         let mut awaited = Vec::new();
         match subject {
@@ -266,7 +248,7 @@ impl DurableControl {
         Ok(awaited)
     }
 
-    /// Makes the command, or says why not.
+    /// Makes the command, or returns why it doesn't.
     ///
     /// # Errors
     ///
@@ -274,11 +256,11 @@ impl DurableControl {
     pub fn command(&mut self, command: ControlCommand) -> Result<(), Refused> {
         self.outdate()?;
         let made = self.tried(command);
-        // If the store doesn't take that now, it does before the control goes on.
+        // If the store doesn't take that now, it will before the control goes on.
         made.inspect_err(|_| drop(self.outdate()))
     }
 
-    /// Makes the command, again as often as another one comes before, or it isn't known what became of it.
+    /// Makes the command. Tries again each time another command came before, or the outcome isn't known.
     fn tried(&mut self, command: ControlCommand) -> Result<(), Refused> {
         let mut unknown = None;
         for _ in 0..TRIES {
@@ -309,8 +291,8 @@ impl DurableControl {
         Err(Refused::in_vain())
     }
 
-    /// Whether what was sent to a key lies there: then it was made, though that wasn't known. It tells the generation,
-    /// or how far a restart has come, which no other command of this process leads to.
+    /// Returns whether the value that was sent to a key is there. Then it was made, though that wasn't known: the value
+    /// tells the generation, or how far a restart has come, and no other command of this process leads to the same.
     fn lies(&self, sent: &Option<(Vec<u8>, Vec<u8>)>) -> Result<bool, Refused> {
         let Some((key, written)) = sent else {
             return Ok(false);
@@ -319,11 +301,11 @@ impl DurableControl {
         Ok(reading.get(key).is_some_and(|it| &it.value == written))
     }
 
-    /// Goes on from what was made at this revision: the server's state, or the shard's record.
+    /// Goes on from the command that was made at this revision, which wrote the server's state or the shard's record.
     fn made(&mut self, number: u16, is_state: bool, revision: Revision) -> Result<(), Refused> {
         self.director.made(revision).map_err(Refused::of)?;
         self.written.note(number, is_state, revision);
-        // What was sent before compares the key of commands as it was.
+        // Earlier transactions compare the key of commands as it was before.
         (self.is_behind, self.has_stray, self.followers) = (false, false, None);
         match self.durable.member() {
             None => self.follow_all(revision),
@@ -349,8 +331,8 @@ impl DurableControl {
         }
     }
 
-    /// Refuses if another process leads, or the server's key was there that must not be: with one that is back
-    /// nothing is to be done.
+    /// Fails if another process leads; or if a server's key was there that must not be, because nothing is to be done
+    /// for a server that is back.
     fn look_at_lost(&self, absent: Option<u16>, found: &Reading) -> Result<(), Refused> {
         self.look_at_leader()?;
         match absent.filter(|it| found.get(&keys::server(*it)).is_some()) {
@@ -359,7 +341,7 @@ impl DurableControl {
         }
     }
 
-    /// Refuses where another process leads.
+    /// Fails if another process leads.
     fn look_at_leader(&self) -> Result<(), Refused> {
         let reading = self.durable.store().read(&[keys::LEADER])?;
         let own = keys::leader_of(self.durable.process());
@@ -369,11 +351,11 @@ impl DurableControl {
         }
     }
 
-    /// What comes next of the shard: its migration takes the next step.
+    /// Returns the next step of the shard's migration.
     ///
     /// # Errors
     ///
-    /// As [`Refused`] says; so it is of the questions below.
+    /// As [`Refused`] says. That applies to the functions below, too.
     pub fn next_of_shard(&mut self, shard: u16) -> Result<Next, Refused> {
         self.catch_up()?;
         self.follow_if_taken(shard)?;
@@ -381,32 +363,34 @@ impl DurableControl {
         self.director.next_of_shard(shard).map_err(Refused::of)
     }
 
-    /// What comes next of the server's restart.
+    /// Returns the next step of the server's restart.
     pub fn next_of_server(&mut self, server: u16) -> Result<Next, Refused> {
         self.catch_up()?;
         self.hear_acks(Subject::Server(server))?;
         self.director.next_of_server(server).map_err(Refused::of)
     }
 
-    /// What comes next of the drain of the server, or for 0 of the vacant shards.
+    /// Returns the next step of the drain of the server, or of the vacant shards if `server` is 0.
     pub fn next_of_drain(&mut self, server: u16) -> Result<Next, Refused> {
         self.catch_up()?;
         self.director.next_of_drain(server).map_err(Refused::of)
     }
 
-    /// Plans where the shards of the server go, or for 0 the vacant shards, as if each move were made in its turn.
+    /// Plans the moves of the server's shards, or of the vacant shards if `server` is 0, as if each move were made in
+    /// its turn.
     pub fn plan(&mut self, server: u16) -> Result<Plan, Refused> {
         let mut stands = Vec::new();
         for shard in 0..self.durable.shards() {
             stands.push(self.record(shard)?.map_or(Stand::Vacant, |it| it.stand));
         }
-        let states = (1..=self.servers).map(|it| self.state_of(it));
+        let servers = self.director.servers().to_vec();
+        let states = servers.into_iter().map(|it| self.state_of(it));
         let states = states.collect::<Result<Vec<_>, _>>()?;
         planned(&self.line, &stands, &states, server)
     }
 
-    /// The paused shards whose owners came back after that, so that nothing is under way of them: one that was paused
-    /// as its owner was to stop or had failed, where who led then went no further.
+    /// Returns the paused shards whose owners came back after the pause, and for which nothing is under way. Such a
+    /// shard was paused because its owner was to stop or had failed, and then the leader of that time went no further.
     pub fn left_paused(&mut self) -> Result<Vec<u16>, Refused> {
         let mut left = Vec::new();
         for shard in 0..self.durable.shards() {
@@ -421,7 +405,7 @@ impl DurableControl {
         Ok(left)
     }
 
-    /// The shard's record, none of whose changes by this control is missing.
+    /// Returns the shard's record, including all changes by this control.
     pub fn record(&mut self, shard: u16) -> Result<Option<Record>, Refused> {
         self.catch_up()?;
         self.record_read(shard)
@@ -438,14 +422,14 @@ impl DurableControl {
         Ok(self.run_of(server)?.state)
     }
 
-    /// Returns how far the server's restart has come, and of which process of the server that is said.
+    /// Returns how far the server's restart has come, and the process of the server to which that applies.
     pub fn run_of(&mut self, server: u16) -> Result<ServerRun, Refused> {
         self.catch_up()?;
         self.director.run_of(server).map_err(Refused::of)
     }
 
-    /// The process that runs the server of the command, as it was seen last; 0 if none was. If this process has all
-    /// servers it runs them: one that was stopped begins anew under a number that no process has.
+    /// Returns the process that runs the command's server, as it was last seen; 0 if none was. If this process has all
+    /// servers, it runs them: a server that was stopped begins again under a number that no process has.
     fn process_of(&mut self, command: ControlCommand) -> Result<u64, Refused> {
         let Subject::Server(server) = command.subject() else {
             return Ok(0);
@@ -464,34 +448,28 @@ impl DurableControl {
     }
 }
 
-/// The revisions of shards' records, and of servers' states from the first one on.
+/// The revisions of shards' records and of servers' states, by their numbers.
 #[derive(Default)]
 struct WrittenRevisions {
     records: Vec<Revision>,
-    states: Vec<Revision>,
+    states: BTreeMap<u16, Revision>,
 }
 
 impl WrittenRevisions {
-    /// Notes what a command wrote: the server's state, or the shard's record.
+    /// Notes the revision at which a command wrote the server's state, or the shard's record.
     fn note(&mut self, number: u16, is_state: bool, revision: Revision) {
-        let place = match is_state {
-            true => usize::from(number).checked_sub(1),
-            false => Some(usize::from(number)),
-        };
         let written = match is_state {
-            true => &mut self.states,
-            false => &mut self.records,
+            true => self.states.get_mut(&number),
+            false => self.records.get_mut(usize::from(number)),
         };
-        if let Some(it) = place.and_then(|it| written.get_mut(it)) {
+        if let Some(it) = written {
             *it = revision;
         }
     }
 
-    /// Whether the shard's record was written before the server's state was.
+    /// Returns whether the shard's record was written before the server's state was.
     fn is_before(&self, shard: u16, server: u16) -> bool {
-        let state = usize::from(server)
-            .checked_sub(1)
-            .and_then(|it| self.states.get(it));
+        let state = self.states.get(&server);
         self.records.get(usize::from(shard)) < state
     }
 }
@@ -499,7 +477,7 @@ impl WrittenRevisions {
 impl fmt::Debug for DurableControl {
     fn fmt(&self, f: &mut fmt::Formatter<'_>) -> fmt::Result {
         f.debug_struct("Control")
-            .field("servers", &self.servers)
+            .field("servers", &self.director.servers())
             .finish_non_exhaustive()
     }
 }

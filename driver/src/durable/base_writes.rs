@@ -1,4 +1,4 @@
-//! How bases are written, and how what they stand for is deleted.
+//! How a base is written, and how the batches are deleted that it replaces.
 use super::durable_inner::{locked, DurableInner};
 use super::reader_job::Parts;
 use crate::base_parts::BaseParts;
@@ -7,16 +7,17 @@ use durkenzo_store::{Outcome, Transaction, WriteError};
 use std::sync::atomic::Ordering;
 use std::sync::{Arc, Mutex};
 
-/// How many parts of a base are written at once.
+/// The most parts of a base that are written at once.
 const PARTS: usize = 4;
-/// How much more room a base takes than its bytes: so much of that many, and what SQLite's pages take at least.
+/// How much more room a base takes than its bytes: this fraction of them, and at least the size of SQLite's pages.
 const BASE_ROOM: (u64, u64) = (17, 16);
 const BASE_SLACK: u64 = 32 << 10;
-/// How many keys are deleted at once.
+/// The most keys that are deleted at once.
 const DELETES: usize = 64;
 impl DurableInner {
-    /// Writes the parts of a base, some at once and each by itself, and tells whether all were. If the store hasn't
-    /// room for all of them, none is written: no part could be deleted before a later base is named.
+    /// Writes the parts of a base, some at once and each by itself, and tells whether all were written. If the store
+    /// doesn't have room for all of them, none is written, because no part could be deleted until a later base is
+    /// named.
     pub(super) fn write_base(self: &Arc<DurableInner>, shard: u16, ticket: Ticket, parts: Parts) {
         let bytes = parts.iter().map(|it| it.1.len() as u64).sum::<u64>();
         let others = self.basing.fetch_add(bytes, Ordering::AcqRel);
@@ -29,7 +30,7 @@ impl DurableInner {
         (0..PARTS).for_each(|_| self.write_part(shard, (ticket, bytes), &parts));
     }
 
-    /// Says that the base of so many bytes is written, or isn't.
+    /// Tells that the base of so many bytes is written, or isn't.
     pub(super) fn end_base(
         self: &Arc<DurableInner>,
         shard: u16,
@@ -68,7 +69,7 @@ impl DurableInner {
         self.store.submit(part, Box::new(done));
     }
 
-    /// Deletes these keys, some at once. What isn't deleted the next sweep finds.
+    /// Deletes these keys, some at once. The next sweep finds those that weren't deleted.
     pub(super) fn delete(&self, keys: &[Vec<u8>]) {
         for keys in keys.chunks(DELETES) {
             let each = keys.iter().cloned();

@@ -1,6 +1,7 @@
 use super::reader_job::ReaderJob;
+use super::unread_shards::UnreadShards;
 use super::watches::written;
-use super::{Tuning, STOP};
+use super::{ShardOptions, STOP};
 use crate::clock::Clock;
 use crate::shard::{Action, Shard, Ticket};
 use crate::{keys, Acks, NotDone, Own, StoredRecord};
@@ -11,50 +12,51 @@ use std::sync::mpsc::Sender;
 use std::sync::{Arc, Mutex, MutexGuard, OnceLock, PoisonError};
 use std::time::Instant;
 
-/// The shards of a process, for all who do something with them.
+/// The shards of a process, shared by everybody who works with them.
 pub(crate) struct DurableInner {
     pub(super) store: Arc<dyn Store>,
     pub(super) clock: Clock,
     pub(super) shards: Box<[Mutex<Shard>]>,
-    /// Of which shards something may wait, or become due.
+    /// The shards at which something may wait, or become due.
     pub(super) stirred: Box<[AtomicBool]>,
+    pub(super) unread: UnreadShards,
     pub(super) process: u64,
-    /// The number of a process that was taken last for all shards.
+    /// The latest number that was taken for the process, for all shards.
     pub(super) number: AtomicU64,
-    /// Whether another one is being taken for all of them.
+    /// Whether another number is being taken for all of them.
     pub(super) is_numbering: AtomicBool,
-    /// The one server of this process, where it hasn't all.
+    /// The only server of this process, unless it has all.
     pub(super) own: Option<Own>,
-    pub(super) tuning: Tuning,
-    /// Servers that no request reaches.
+    pub(super) shard_options: ShardOptions,
+    /// The servers that no request reaches.
     pub(super) away: Mutex<BTreeSet<u16>>,
     pub(super) jobs: Mutex<Option<Sender<ReaderJob>>>,
     pub(super) under_way: AtomicUsize,
-    /// Whether the store keeps room back for bases: where it doesn't, none can be made once it is full.
+    /// Whether the store reserves room for bases. If it doesn't, no base can be made once it is full.
     pub(super) keeps_room: bool,
-    /// Whether it had no room for what was written last, but for what makes some.
+    /// Whether it had no room for the last write, except for writes that make room.
     pub(super) is_full: AtomicBool,
     /// How many bytes the bases have that are being written.
     pub(super) basing: AtomicU64,
     pub(super) is_stopping: AtomicBool,
-    /// Why the store ended, if it did.
+    /// Why the store has ended, if it has.
     pub(super) ended: OnceLock<String>,
-    /// Who is told of each record that changes.
+    /// Called for each record that changes.
     pub(super) on_change: Box<dyn Fn() + Send + Sync>,
 }
 
 impl DurableInner {
-    /// This moment, by the clock of the process.
+    /// Returns this moment, by the clock of the process.
     pub(crate) fn now(&self) -> Instant {
         self.clock.now()
     }
 
-    /// Whether the process ends.
+    /// Returns whether the process ends.
     pub(crate) fn is_stopping(&self) -> bool {
         self.is_stopping.load(Ordering::Acquire)
     }
 
-    /// Does something with the shard, and then what comes of it, with no lock.
+    /// Does something with the shard, and then carries out the resulting actions without a lock.
     pub(super) fn with(
         self: &Arc<DurableInner>,
         shard: u16,
@@ -66,8 +68,9 @@ impl DurableInner {
         let (mut actions, mut held) = (Vec::new(), locked(place));
         work(&mut held, &mut actions);
         self.stirred[usize::from(shard)].store(true, Ordering::Release);
+        self.unread.note(shard, held.waits_for_store());
         drop(held);
-        // What the store is to make is on its way before those are told who waited for what it has made.
+        // Transactions go to the store first, and then the clients are told whose requests it has made.
         actions.sort_by_key(|it| !matches!(it, Action::Submit(..)));
         actions.into_iter().for_each(|it| self.perform(shard, it));
     }
@@ -102,7 +105,7 @@ impl DurableInner {
 
     pub(super) fn hand_to_reader(&self, job: ReaderJob) {
         let jobs = self.jobs.lock().unwrap_or_else(PoisonError::into_inner);
-        // Where there is none the process ends.
+        // If there is no receiver, the process ends.
         let _ = jobs.as_ref().map(|it| it.send(job));
     }
 
@@ -129,8 +132,7 @@ impl DurableInner {
         self.store.submit(transaction, Box::new(done));
     }
 
-    /// Notes whether the store had room for what was written. If it hadn't, shards of which keys were deleted get a
-    /// base.
+    /// Notes whether the store had room for a write. If it didn't, shards with deleted keys get a base.
     pub(super) fn note_room(&self, outcome: &Result<Outcome, WriteError>) {
         let is_full = match outcome {
             Ok(Outcome::Made(_)) => false,
@@ -173,7 +175,7 @@ impl DurableInner {
         }
     }
 
-    /// Sees what the watch tells of records.
+    /// Processes records that the watch has seen.
     pub(super) fn see(self: &Arc<DurableInner>, seen: Seen) {
         let (moment, records) = written(seen);
         let (is_change, mut is_awaited) = (!records.is_empty(), false);
@@ -185,7 +187,7 @@ impl DurableInner {
                 let member = own.map(|it| &it.member);
                 let acked = member.and_then(|it| Some((it, stored.acked_by(it.server())?)));
                 self.with(shard, |it, actions| it.see(stored, self.now(), actions));
-                // From here on the shard goes by this record.
+                // From here on the shard uses this record.
                 if let Some((member, generation)) = acked {
                     member.ack(shard, generation);
                 }
@@ -197,7 +199,7 @@ impl DurableInner {
         (self.on_change)();
     }
 
-    /// Sees what the watch tells of states.
+    /// Processes states that the watch has seen.
     pub(super) fn see_states(self: &Arc<DurableInner>, seen: Seen) {
         for it in written(seen).1 {
             if let Some(server) = keys::server_of_state(&it.key) {
@@ -207,14 +209,14 @@ impl DurableInner {
         (self.on_change)();
     }
 
-    /// Has each shard drop what nobody waits for, and refuse what has waited in vain.
+    /// Makes each shard drop the work for which nobody waits, and refuse the work that has waited in vain.
     pub(crate) fn tick_shards(self: &Arc<DurableInner>) {
         let now = self.now();
         (0..self.shards.len() as u16).for_each(|it| self.tick(it, now));
     }
 
-    /// Has the shard drop what nobody waits for, and refuse what has waited in vain. One of which nothing waits is left
-    /// alone until something is done with it again.
+    /// Makes the shard drop the work for which nobody waits, and refuse the work that has waited in vain. A shard
+    /// without waiting work is skipped until something is done with it again.
     pub(super) fn tick(self: &Arc<DurableInner>, shard: u16, now: Instant) {
         let place = usize::from(shard);
         if !self.stirred[place].load(Ordering::Acquire) {
@@ -223,11 +225,15 @@ impl DurableInner {
         let is_full = self.is_full.load(Ordering::Acquire);
         self.with(shard, |it, actions| {
             it.drop_unwanted(actions);
-            it.tick(now, self.tuning.wait, actions);
+            it.tick(now, self.shard_options.wait, actions);
             it.begin_base(is_full, now, actions);
         });
         let held = locked(&self.shards[place]);
-        self.stirred[place].store(held.has_waiting(is_full), Ordering::Release);
+        // The store may have become full meanwhile, or may do so from here on. This tick or the next one sees it.
+        self.stirred[place].swap(false, Ordering::AcqRel);
+        if held.has_waiting(self.is_full.load(Ordering::Acquire)) {
+            self.stirred[place].store(true, Ordering::Release);
+        }
     }
 
     pub(super) fn stop(self: &Arc<DurableInner>) {

@@ -1,4 +1,4 @@
-//! The threads of a process's shards. Only here do these wait for work, or for time to pass.
+//! The threads of a process's shards. Only here do shards wait for work, or for time to pass.
 use super::durable_inner::DurableInner;
 use super::reader_job::ReaderJob;
 use crate::OpenFault;
@@ -9,15 +9,15 @@ use std::time::{Duration, Instant};
 
 /// How many threads read shards.
 const READERS: usize = 4;
-/// How often it is looked for what has waited in vain.
+/// How often threads look for work that has waited in vain.
 const TICK: Duration = Duration::from_millis(10);
-/// How often it is looked whether the process is to take another number.
+/// How often a thread checks whether the process must take another number.
 const NUMBERING: Duration = Duration::from_secs(1);
-/// How often it is looked whether what is waited for is over.
+/// How often a thread checks whether its wait is over.
 const LOOK: Duration = Duration::from_millis(1);
 
 impl DurableInner {
-    /// Does what readers are handed, until the process ends.
+    /// Does the readers' jobs, until the process ends.
     fn run_jobs(self: Arc<DurableInner>, jobs: &Mutex<Receiver<ReaderJob>>) {
         loop {
             let next = jobs.lock().unwrap_or_else(PoisonError::into_inner).recv();
@@ -28,7 +28,7 @@ impl DurableInner {
         }
     }
 
-    /// Refuses what has waited in vain, until the process ends.
+    /// Refuses work that has waited in vain, until the process ends.
     fn tick_all(self: Arc<DurableInner>) {
         let mut numbered = self.now();
         while !self.is_stopping() {
@@ -42,7 +42,7 @@ impl DurableInner {
         }
     }
 
-    /// Blocks until that is so, or until that time.
+    /// Blocks until the condition holds, or until that time.
     pub(crate) fn block_until(&self, end: Instant, is_so: impl Fn() -> bool) {
         while !is_so() && self.now() < end {
             thread::sleep(LOOK);
@@ -50,7 +50,7 @@ impl DurableInner {
     }
 }
 
-/// The threads that read shards, and the one that looks for what has waited in vain.
+/// Returns the threads that read shards, and the one that looks for work that has waited in vain.
 pub(crate) fn threads(
     inner: &Arc<DurableInner>,
     jobs: Receiver<ReaderJob>,
@@ -67,9 +67,9 @@ pub(crate) fn threads(
     Ok(threads)
 }
 
-/// Waits until this is told: a control waits so, on its own thread.
+/// Blocks until it is told. A control waits like this, on its own thread.
 pub(super) fn wait_for(told: &Receiver<()>) {
-    // Where it is dropped the process ends.
+    // If the sender is dropped, the process ends.
     let _ = told.recv();
 }
 

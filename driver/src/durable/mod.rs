@@ -1,24 +1,26 @@
-//! The shards of a store. Only `durable_threads` has threads, and waits: all else is told the time, so that it can be
-//! simulated.
+//! The shards of a store. Only `durable_threads` has threads and waits. Everything else is told the time, so that it
+//! can be simulated.
 mod base_writes;
 mod durable_inner;
-// It waits, and has the threads.
+// This module waits, and has the threads.
 #[allow(clippy::disallowed_methods)]
 mod durable_threads;
 mod reader_job;
 mod readings;
-mod tuning;
+mod shard_options;
+mod unread_shards;
 mod watches;
 
 pub(crate) use durable_inner::DurableInner;
 pub(crate) use reader_job::{ReadBack, ReaderJob};
-pub use tuning::{Reads, Tuning};
+pub use shard_options::{Reads, ShardOptions};
 
 use crate::clock::Clock;
 use crate::shard::Shard;
+use crate::stored_record::takes_part;
 use crate::{
-    process, Came, Chores, CompactFault, Elsewhere, Member, NotDone, OpenFault, Own, StoredRecord,
-    WorkStep,
+    process, Came, Chores, CompactFault, Elsewhere, Member, NotDone, OpenFault, Own, Ownership,
+    StoredRecord, WorkStep,
 };
 use durable_inner::locked;
 use durable_threads::{threads, wait_for};
@@ -29,25 +31,26 @@ use std::sync::mpsc::{self, Receiver};
 use std::sync::{Arc, Mutex, OnceLock, PoisonError};
 use std::thread::JoinHandle;
 use std::time::{Duration, Instant};
+use unread_shards::UnreadShards;
 use watches::watches;
 
-/// How long a stop waits for transactions that are under way.
+/// How long a stop waits for transactions under way.
 const STOP: Duration = Duration::from_secs(10);
 
-/// The shards of a store, with all their servers in this process, or one of them.
+/// The shards of a store, with all their servers in this process, or with one of them.
 ///
-/// Whoever gives work isn't kept waiting, and no lock is held while the store is waited for: a shard that waits stops
-/// its own work alone.
+/// A caller that submits work isn't kept waiting, and no lock is held during a wait for the store: a shard that waits
+/// stops only its own work.
 pub struct Durable {
     inner: Arc<DurableInner>,
     threads: Vec<JoinHandle<()>>,
-    /// They end with this value.
+    /// The watches end with this value.
     watches: Mutex<Vec<Watch>>,
 }
 
 impl Durable {
-    /// The shards of this store, so many, with all their servers in this process; `on_change` is told when a record has
-    /// changed, and when the store has ended.
+    /// Opens so many shards of this store, with all their servers in this process. `on_change` is called when a record
+    /// has changed, and when the store has ended.
     ///
     /// # Errors
     ///
@@ -55,15 +58,15 @@ impl Durable {
     pub fn open(
         store: Arc<dyn Store>,
         shards: u16,
-        tuning: Tuning,
+        shard_options: ShardOptions,
         on_change: Box<dyn Fn() + Send + Sync>,
     ) -> Result<Durable, OpenFault> {
         let process = process::begin(&*store)?;
-        Durable::begin(store, shards, tuning, (process, None), on_change)
+        Durable::begin(store, shards, shard_options, (process, None), on_change)
     }
 
-    /// The shards of this store, of which this process has one server, and others have the others; all else is as if
-    /// it had all.
+    /// Opens the shards of this store. This process has one server of them, and other processes have the others.
+    /// Otherwise it is as if it had all.
     ///
     /// # Errors
     ///
@@ -71,30 +74,38 @@ impl Durable {
     pub fn open_one(
         store: Arc<dyn Store>,
         shards: u16,
-        tuning: Tuning,
+        shard_options: ShardOptions,
         own: Own,
         on_change: Box<dyn Fn() + Send + Sync>,
     ) -> Result<Durable, OpenFault> {
         let process = own.member.process();
-        Durable::begin(store, shards, tuning, (process, Some(own)), on_change)
+        Durable::begin(
+            store,
+            shards,
+            shard_options,
+            (process, Some(own)),
+            on_change,
+        )
     }
 
     fn begin(
         store: Arc<dyn Store>,
         shards: u16,
-        tuning: Tuning,
+        shard_options: ShardOptions,
         own: (u64, Option<Own>),
         on_change: Box<dyn Fn() + Send + Sync>,
     ) -> Result<Durable, OpenFault> {
         let clock = Clock::default();
-        let (mut durable, handed) = Durable::idle(store, shards, tuning, own, (clock, on_change))?;
+        let (mut durable, handed) =
+            Durable::idle(store, shards, shard_options, own, (clock, on_change))?;
         durable.threads = threads(&durable.inner, handed)?;
         Ok(durable)
     }
 
-    /// Opens the shards of a process as [`Durable::open_one`] does, but starts no thread. The caller does what the
-    /// threads would do, by the [`Chores`], and the clock tells the time. Such a process can be simulated: it does
-    /// nothing by itself. [`Durable::change`] doesn't wait for transactions under way, and to drop it is a crash.
+    /// Opens the shards of a process as [`Durable::open_one`] does, but starts no thread. The caller must do the
+    /// threads' work, with the [`Chores`], and the clock must tell the time. Such a process can be simulated, because
+    /// it does nothing by itself. [`Durable::change`] doesn't wait for transactions under way, and dropping the process
+    /// is a crash.
     ///
     /// # Errors
     ///
@@ -102,30 +113,30 @@ impl Durable {
     pub fn open_without_threads(
         store: Arc<dyn Store>,
         shards: u16,
-        tuning: Tuning,
+        shard_options: ShardOptions,
         own: Own,
         clock: Clock,
     ) -> Result<(Durable, Chores), OpenFault> {
         let own = (own.member.process(), Some(own));
         let on_change = Box::new(|| {});
         let by = (clock, on_change as Box<_>);
-        let (durable, handed) = Durable::idle(store, shards, tuning, own, by)?;
+        let (durable, handed) = Durable::idle(store, shards, shard_options, own, by)?;
         let chores = Chores::new(durable.inner.clone(), handed);
         Ok((durable, chores))
     }
 
-    /// The shards, with no thread yet, and what these are to read.
+    /// Returns the shards, without threads yet, and the queue of the threads' readings.
     fn idle(
         store: Arc<dyn Store>,
         shards: u16,
-        tuning: Tuning,
+        shard_options: ShardOptions,
         (process, own): (u64, Option<Own>),
         (clock, on_change): (Clock, Box<dyn Fn() + Send + Sync>),
     ) -> Result<(Durable, Receiver<ReaderJob>), OpenFault> {
         let (jobs, handed) = mpsc::channel();
         let member = own.as_ref().map(|it| it.member.clone());
         let each = |it| {
-            let shard = Shard::new(it, process, member.clone(), tuning);
+            let shard = Shard::new(it, process, member.clone(), shard_options);
             Mutex::new(shard)
         };
         let keeps_room = store.left().is_some();
@@ -134,11 +145,12 @@ impl Durable {
             clock,
             shards: (0..shards).map(each).collect(),
             stirred: (0..shards).map(|_| AtomicBool::new(true)).collect(),
+            unread: UnreadShards::new(shards),
             process,
             number: AtomicU64::new(process),
             is_numbering: AtomicBool::new(false),
             own,
-            tuning,
+            shard_options,
             jobs: Mutex::new(Some(jobs)),
             away: Mutex::default(),
             under_way: AtomicUsize::new(0),
@@ -161,33 +173,33 @@ impl Durable {
         ))
     }
 
-    /// How many processes had begun here with this one.
+    /// Returns this process's number: how many processes had begun on this store, including this one.
     pub fn process(&self) -> u64 {
         self.inner.process
     }
 
-    /// The server of this process, if it has one.
+    /// Returns the server of this process, if it has one.
     pub fn member(&self) -> Option<&Arc<Member>> {
         self.inner.own.as_ref().map(|it| &it.member)
     }
 
-    /// The store.
+    /// Returns the store.
     pub fn store(&self) -> &Arc<dyn Store> {
         &self.inner.store
     }
 
-    /// The clock of the process.
+    /// Returns the clock of the process.
     pub fn clock(&self) -> &Clock {
         &self.inner.clock
     }
 
-    /// The number of shards.
+    /// Returns the number of shards.
     pub fn shards(&self) -> u16 {
-        // They were counted by such a number.
+        // They were counted with this type.
         self.inner.shards.len() as u16
     }
 
-    /// Has the shard do these steps of one client, in their order. Of a shard that there isn't nothing is done.
+    /// Makes the shard do these steps of one client, in their order. If there is no such shard, nothing is done.
     pub fn submit(&self, shard: u16, steps: Vec<WorkStep>) {
         let Some(steps) = self.taken(steps) else {
             return;
@@ -197,9 +209,9 @@ impl Durable {
         });
     }
 
-    /// Has the shard do work that another process forwarded so, and that has waited there since then. The work waits
-    /// until the record of its revision was seen. If this process's server doesn't execute the shard, the work ends with
-    /// [`NotDone::Moved`].
+    /// Makes the shard do work that another process forwarded, and that has waited there since then. The work waits
+    /// until the record at its revision was seen. If this process's server doesn't execute the shard, the work ends
+    /// with [`NotDone::Moved`].
     pub fn submit_from(&self, shard: u16, steps: Vec<WorkStep>, came: Came, since: Instant) {
         let Some(steps) = self.taken(steps) else {
             return;
@@ -209,9 +221,9 @@ impl Durable {
         });
     }
 
-    /// Takes back what was to go there, of which nothing was made there: as the server didn't get it, or has answered
-    /// [`NotDone::Moved`] with this revision, up to which the record is seen first. It is judged again, within the time
-    /// that work waits.
+    /// Takes back steps that were to go to another server, which did none of them: it didn't get them, or it answered
+    /// [`NotDone::Moved`] with this revision. The record is first seen up to that revision. Then the steps are judged
+    /// again, within the time for which work waits.
     pub fn submit_again(&self, elsewhere: Elsewhere, steps: Vec<WorkStep>, revision: Revision) {
         let Some(steps) = self.taken(steps) else {
             return;
@@ -221,7 +233,7 @@ impl Durable {
         });
     }
 
-    /// The steps that may be done; the others come to their end. None if the process or the store has ended.
+    /// Returns the steps that can be done. The others end here. Returns nothing if the process or the store has ended.
     fn taken(&self, steps: Vec<WorkStep>) -> Option<Vec<WorkStep>> {
         let is_over = self.inner.is_stopping();
         if is_over || self.inner.ended.get().is_some() {
@@ -240,14 +252,26 @@ impl Durable {
         Some(taken)
     }
 
-    /// The shard's record, as it was seen last.
+    /// Returns the shard's record, as it was last seen.
     pub fn standing(&self, shard: u16) -> Option<StoredRecord> {
         let shard = self.inner.shards.get(usize::from(shard))?;
         Some(locked(shard).stored().clone())
     }
 
-    /// Makes a transaction on the shard's record while none of its servers has one under way, so that none is lost by
-    /// that; and waits until servers go by the new record.
+    /// Returns the records by which the shard's owner was seen to be the owner, up to the record that was seen last.
+    pub fn ownership(&self, shard: u16) -> Option<Ownership> {
+        let shard = self.inner.shards.get(usize::from(shard))?;
+        Some(locked(shard).ownership())
+    }
+
+    /// Returns whether the server [takes part](takes_part) in the shard by its record, as that was last seen.
+    pub fn executes(&self, server: u16, shard: u16) -> bool {
+        let record = self.standing(shard).and_then(|it| it.record());
+        record.is_some_and(|it| takes_part(it.stand, server))
+    }
+
+    /// Makes a transaction on the shard's record while none of the shard's servers has a transaction under way, so that
+    /// none of theirs is lost. Waits until the servers use the new record.
     ///
     /// # Errors
     ///
@@ -255,7 +279,7 @@ impl Durable {
     pub fn change(&self, shard: u16, transaction: Transaction) -> Result<Outcome, WriteError> {
         let (tell, told) = mpsc::channel();
         let holder = move || {
-            // Who asked waits for it.
+            // The caller waits for it.
             let _ = tell.send(());
         };
         self.inner
@@ -264,30 +288,30 @@ impl Durable {
             wait_for(&told);
         }
         let outcome = self.inner.store.make(transaction);
-        // The watch told of it before the outcome was; other stores tell it soon.
+        // Some watches told it before the outcome was known. Other stores tell it soon.
         self.inner
             .with(shard, |it, actions| it.release(self.inner.now(), actions));
         outcome
     }
 
-    /// Has requests reach the server, or not.
+    /// Sets whether requests reach the server.
     pub fn set_away(&self, server: u16, is_away: bool) {
         self.inner.set_away(server, is_away);
     }
 
-    /// Whether no request reaches the server, by its state in the store as it was seen last; of a process that has all
-    /// servers, by [`Durable::set_away`] alone.
+    /// Returns whether no request reaches the server, by its state in the store as it was last seen. If the process has
+    /// all servers, only [`Durable::set_away`] counts.
     pub fn is_away(&self, server: u16) -> bool {
         self.inner.away().contains(&server)
     }
 
-    /// Has each shard that this process executes get a base now, deletes what is behind it, and has the store give back
-    /// the room. Before that it does so with what was deleted earlier, so that there is some; bases for which there is
-    /// none are tried again as long as others make some.
+    /// Makes a new base for each shard that this process executes, deletes the batches that it replaces, and has the
+    /// store return the room. Before that, it has the store return the room of earlier deletions, so that there is
+    /// some. A base without room is tried again as long as other bases make room.
     ///
     /// # Errors
     ///
-    /// As the store says; `NoBase` if shards got none in the end, after what could be given back was.
+    /// As the store says; `NoBase` if some shards got none in the end. Room was returned all the same.
     pub fn compact(&self) -> Result<(), CompactFault> {
         self.inner.store.compact()?;
         let mut left: Vec<u16> = (0..self.shards()).collect();
@@ -307,7 +331,7 @@ impl Durable {
         }
     }
 
-    /// Has these shards get a base, and waits for it until that time.
+    /// Makes a base for these shards, and waits for it until that time.
     fn make_bases(&self, shards: &[u16], end: Instant) {
         for shard in shards {
             let is_full = self.inner.is_full.load(Ordering::Acquire);
@@ -320,25 +344,36 @@ impl Durable {
         self.inner.block_until(end, are_made);
     }
 
-    /// How many requests that only read were answered without a transaction.
+    /// Returns how many requests that only read were answered without a transaction.
     pub fn read_by_lease(&self) -> u64 {
         let shards = self.inner.shards.iter();
         shards.map(|it| locked(it).read_by_lease()).sum()
     }
 
-    /// Of how many clients the last request is kept, by the shard that keeps most, as far as this process has read
+    /// Returns how many clients' last requests are kept, by the shard that keeps most, as far as this process has read
     /// them.
     pub fn clients_kept(&self) -> usize {
         let shards = self.inner.shards.iter();
         shards.map(|it| locked(it).clients()).max().unwrap_or(0)
     }
 
-    /// Why the store ended, if it did: nothing more is done.
+    /// Returns the shards whose requests wait here because the store gave nothing when they were last read. This locks
+    /// no shard.
+    pub fn unread_shards(&self) -> Vec<u16> {
+        self.inner.unread.numbers()
+    }
+
+    /// Returns how many such shards there are.
+    pub fn unread_count(&self) -> usize {
+        self.inner.unread.count()
+    }
+
+    /// Returns why the store has ended, if it has. Then nothing more is done.
     pub fn ended(&self) -> Option<&str> {
         self.inner.ended.get().map(String::as_str)
     }
 
-    /// Takes no more work, waits for what is under way, and refuses the rest.
+    /// Takes no more work, waits for work under way, and refuses the rest.
     pub fn stop(&self) {
         self.inner.stop();
     }
@@ -346,7 +381,7 @@ impl Durable {
 
 impl Drop for Durable {
     fn drop(&mut self) {
-        // Without threads nobody would answer what is under way.
+        // Without threads nobody would finish the work under way.
         if !self.threads.is_empty() {
             self.inner.stop();
         }
@@ -355,7 +390,7 @@ impl Drop for Durable {
             .unwrap_or_else(PoisonError::into_inner)
             .clear();
         for thread in self.threads.drain(..) {
-            // A thread that panicked has said so.
+            // A thread that panicked has logged that.
             let _ = thread.join();
         }
     }

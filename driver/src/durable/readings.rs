@@ -1,4 +1,4 @@
-//! What is read of the store for shards, and which numbers of a process they have.
+//! The readings of the store for shards, and the numbers of the process.
 use super::durable_inner::{locked, DurableInner};
 use super::reader_job::{ReadBack, ReaderJob};
 use crate::recovery::ServerPlace;
@@ -9,7 +9,7 @@ use std::sync::Arc;
 use std::time::Instant;
 
 impl DurableInner {
-    /// Reads the shard's record, as somebody has seen a later one. If that can't be read it is tried again.
+    /// Reads the shard's record, because somebody has seen a later one. If it can't be read, it is tried again.
     fn read_record(&self, shard: u16) -> Option<StoredRecord> {
         let key = keys::record(shard);
         let found = self.store.read(&[&key]).ok()?;
@@ -17,7 +17,7 @@ impl DurableInner {
         Some(StoredRecord::new(pair.value, pair.revision))
     }
 
-    /// Has later requests of all shards have this number of a process. If there is none it is tried again.
+    /// Gives later requests of all shards this number of the process. If there is none, it is tried again.
     fn renew_all(self: &Arc<DurableInner>, process: Option<u64>) {
         if let Some(process) = process {
             for shard in 0..self.shards.len() as u16 {
@@ -28,8 +28,8 @@ impl DurableInner {
         self.is_numbering.store(false, Ordering::Release);
     }
 
-    /// Takes another number of a process where many others have begun since, and tells them once no shard has requests
-    /// by an earlier one: what those left is forgotten then.
+    /// Takes another number for the process if many others have begun since. Tells them once no shard has requests by
+    /// an earlier number: then the requests of earlier numbers can be forgotten.
     pub(crate) fn keep_number(&self) {
         let Some(own) = &self.own else {
             return;
@@ -47,7 +47,7 @@ impl DurableInner {
         }
     }
 
-    /// Reads the store for this job, and returns what tells of it.
+    /// Reads the store for this job. Returns the call that tells the result.
     pub(crate) fn read(self: &Arc<DurableInner>, job: ReaderJob) -> ReadBack {
         let inner = self.clone();
         match job {
@@ -67,7 +67,7 @@ impl DurableInner {
                 None => Box::new(|| {}),
             },
             ReaderJob::Process(shard) => {
-                // If there is none it is tried again.
+                // If there is no number, it is tried again.
                 let process = process::begin(&*self.store).unwrap_or(0);
                 inner.told(shard, move |it, now, actions| {
                     it.renew(process, now, actions)
@@ -90,7 +90,7 @@ impl DurableInner {
         }
     }
 
-    /// Returns what does this with the shard.
+    /// Returns the call that does this with the shard.
     fn told(
         self: Arc<DurableInner>,
         shard: u16,

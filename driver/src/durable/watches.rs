@@ -1,10 +1,10 @@
-//! What is watched of the store.
+//! The watches on the store.
 use super::durable_inner::DurableInner;
 use crate::{keys, OpenFault};
 use durkenzo_store::{Pair, Revision, Seen, Watch};
 use std::sync::{Arc, Weak};
 
-/// Watches all records, and where other processes have servers the states of those; nothing is missed from then on.
+/// Watches all records; if other processes have servers, also their states. No change is missed from then on.
 pub(super) fn watches(inner: &Arc<DurableInner>) -> Result<Vec<Watch>, OpenFault> {
     let seeing: Weak<DurableInner> = Arc::downgrade(inner);
     let watcher = move |seen| {
@@ -25,7 +25,7 @@ pub(super) fn watches(inner: &Arc<DurableInner>) -> Result<Vec<Watch>, OpenFault
     Ok(watches)
 }
 
-/// Returns the moment of what a watch tells, and what was written.
+/// Returns the moment that a watch tells, and the pairs that were written.
 pub(super) fn written(seen: Seen) -> (Revision, Vec<Pair>) {
     match seen {
         Seen::All(reading) => (reading.revision, reading.pairs),

@@ -16,7 +16,7 @@ struct Clocks {
 }
 
 impl Machine {
-    /// The clock of leases on this machine.
+    /// Returns the clock of leases on this machine.
     pub(crate) fn clock(&self) -> LeaseClock {
         let machine = self.clone();
         LeaseClock::new(move || machine.look())
@@ -39,7 +39,7 @@ impl Machine {
         self.0.lock().unwrap().real -= time;
     }
 
-    /// Has each look wait so long between one clock and the next.
+    /// Makes each look wait so long between one clock and the next.
     pub(crate) fn look_for(&self, time: Duration) {
         self.0.lock().unwrap().looks_for = time;
     }

@@ -7,29 +7,34 @@ use look::Look;
 #[cfg(test)]
 pub(crate) use machine::Machine;
 pub(crate) use moment::Moment;
-use std::sync::{Mutex, PoisonError};
+use std::sync::{PoisonError, RwLock, TryLockError};
 use std::time::Duration;
 
-/// The clock by which leases are judged. It goes on while the machine is suspended, as CLOCK_BOOTTIME does.
+/// For this long after a look, the clocks are compared with that look, so that looks of many threads don't wait for
+/// each other.
+const RECENT: Duration = Duration::from_millis(1);
+
+/// The clock by which leases are judged. It goes on while the machine is suspended, because CLOCK_BOOTTIME does.
 ///
-/// That clock stands while a guest is paused. The guest learns of its pause only if its CLOCK_REALTIME is set forward
-/// then, so this clock adds each step forward. If it was no pause, a lease ends early. A step back takes nothing away.
+/// CLOCK_BOOTTIME stops while a guest is paused. The guest learns of its pause only if its CLOCK_REALTIME is then set
+/// forward, so this clock adds each step forward. If a step wasn't a pause, a lease ends early. A step back takes
+/// nothing away.
 pub(crate) struct LeaseClock {
     look: Box<dyn Fn() -> Look + Send + Sync>,
     /// The last look, and the sum of all steps that were seen until then.
-    seen: Mutex<(Look, Duration)>,
+    seen: RwLock<(Look, Duration)>,
 }
 
 impl LeaseClock {
-    /// Begins at what the function tells of the machine's clocks, which is called for each moment.
+    /// Makes a clock from this function, which reads the machine's clocks. It is called for each moment.
     fn new(look: impl Fn() -> Look + Send + Sync + 'static) -> LeaseClock {
         LeaseClock {
-            seen: Mutex::new((look(), Duration::ZERO)),
+            seen: RwLock::new((look(), Duration::ZERO)),
             look: Box::new(look),
         }
     }
 
-    /// Begins at what the function tells as the time since some beginning, which never goes back.
+    /// Makes a clock from this function, which returns the time since some beginning and must never go back.
     pub(crate) fn by(passed: impl Fn() -> Duration + Send + Sync + 'static) -> LeaseClock {
         LeaseClock::new(move || {
             let passed = passed();
@@ -37,11 +42,25 @@ impl LeaseClock {
         })
     }
 
-    /// Returns this moment, which isn't before any that was returned earlier.
+    /// Returns this moment, which isn't before any moment that was returned earlier.
     pub(crate) fn now(&self) -> Moment {
-        let mut seen = self.seen.lock().unwrap_or_else(PoisonError::into_inner);
-        // No other thread looks meanwhile, so each look is later than the one before.
+        let (last, steps) = *self.seen.read().unwrap_or_else(PoisonError::into_inner);
+        // It is later than the last look, which was noted before.
         let look = (self.look)();
+        // A step that another thread has noted meanwhile may have been taken back before this look.
+        let again = self.seen.read().unwrap_or_else(PoisonError::into_inner).1;
+        let is_stepless = steps == again && look.is_stepless_since(&last);
+        if is_stepless && look.is_within(RECENT, &last) {
+            return look.moment(steps);
+        }
+        let mut seen = match self.seen.try_write() {
+            Ok(seen) => seen,
+            // Another thread is noting a look about as late as this one.
+            Err(TryLockError::WouldBlock) if is_stepless => return look.moment(steps),
+            Err(_) => self.seen.write().unwrap_or_else(PoisonError::into_inner),
+        };
+        // If another thread has noted a look meanwhile, this one may be earlier. From now on no thread does.
+        let look = if seen.0 == last { look } else { (self.look)() };
         let (last, steps) = *seen;
         *seen = (look, steps.saturating_add(look.step_since(&last)));
         look.moment(seen.1)
@@ -49,7 +68,7 @@ impl LeaseClock {
 }
 
 impl Default for LeaseClock {
-    /// The clock of this machine.
+    /// Returns the clock of this machine.
     fn default() -> LeaseClock {
         LeaseClock::new(Look::now)
     }
@@ -61,7 +80,7 @@ mod tests {
 
     const SECOND: Duration = Duration::from_secs(1);
 
-    /// How much time has passed by a clock of this machine when each of these was done to it.
+    /// Returns how much time has passed by a machine's clock after each of these was done to it.
     fn passed(done: &[&dyn Fn(&Machine)]) -> Duration {
         let machine = Machine::default();
         let clock = machine.clock();
@@ -107,6 +126,36 @@ mod tests {
             it.set_back(SECOND / 2000);
         };
         assert_eq!(passed(&[&is_fast, &is_slow]), 2 * SECOND + SECOND / 2000);
+    }
+
+    #[test]
+    fn looks_of_many_threads_go_on_and_count_each_pause_once() {
+        let machine = Machine::default();
+        let clock = machine.clock();
+        let began = clock.now();
+        std::thread::scope(|scope| {
+            let look = || {
+                let mut last = clock.now();
+                for _ in 0..2_000 {
+                    let now = clock.now();
+                    assert!(now >= last, "{now:?} {last:?}");
+                    last = now;
+                }
+            };
+            (0..4).for_each(|_| drop(scope.spawn(look)));
+            for _ in 0..100 {
+                machine.go_on(SECOND / 3_000);
+                machine.pause(SECOND);
+                machine.set_back(SECOND);
+                machine.pause(SECOND);
+            }
+        });
+        let passed = clock.now().since(began);
+        // The looks together take no longer than the machine ran, and a step may be counted short by the time that its
+        // looks took.
+        let (paused, ran) = (100 * SECOND, 100 * (SECOND / 3_000));
+        assert!(passed >= paused, "{passed:?}");
+        assert!(passed <= 2 * paused + ran, "{passed:?}");
     }
 
     #[test]

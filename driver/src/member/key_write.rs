@@ -1,31 +1,32 @@
 use crate::{keys, Live};
 use durkenzo_store::{LeaseId, Outcome, Revision, Transaction, WriteError};
 
-/// A server's key as it is written, and acks with it.
+/// A write of a server's key, with its acks.
 pub(super) struct KeyWrite {
     pub(super) server: u16,
     pub(super) live: Live,
     pub(super) acks: Vec<(u16, u64)>,
-    /// The revision at which the key was written before.
+    /// The revision at which the key was last written before.
     pub(super) before: Revision,
     /// The revision that created it then.
     pub(super) created: Revision,
 }
 
-/// How a server's key lies.
+/// The state of a server's key.
 pub(super) struct Lying {
     pub(super) revision: Revision,
     pub(super) created: Revision,
 }
 
-/// Why a server's key wasn't written: where the process is that has it, and if that is this process, how the key lies.
+/// Why a server's key wasn't written: the address of the process that has it, and the state of the key if that is this
+/// process.
 pub(super) struct Taken {
     pub(super) by: String,
     pub(super) own: Option<Lying>,
 }
 
 impl KeyWrite {
-    /// Returns the transaction that writes the key under this lease, if it lies as it did before.
+    /// Returns the transaction that writes the key under this lease, if the key is as it was before.
     pub(super) fn transaction(&self, lease: LeaseId) -> Transaction {
         let key = keys::server(self.server);
         let write = Transaction::new()
@@ -39,7 +40,7 @@ impl KeyWrite {
         })
     }
 
-    /// Returns how the key lies, by what became of its transaction.
+    /// Returns the state of the key after this outcome of its transaction.
     pub(super) fn judged(
         &self,
         outcome: Result<Outcome, WriteError>,
@@ -64,7 +65,7 @@ impl KeyWrite {
             created: pair.created,
         };
         let (by, own) = match Live::of(&pair.value, self.live.joined) {
-            // What became of it wasn't known. Which acks were told with it isn't known either.
+            // The outcome wasn't known, so it isn't known either which acks were told with the key.
             Some(found) if found == self.live && self.acks.is_empty() => return Ok(Ok(lying)),
             Some(found) => {
                 let is_own = found.process == self.live.process;

@@ -11,21 +11,21 @@ use std::sync::atomic::{AtomicBool, Ordering};
 use std::sync::{Arc, Mutex, MutexGuard, PoisonError, Weak};
 use std::time::Duration;
 
-/// A server, its lease, and what it saw of others.
+/// A server, its lease, and its view of the others.
 pub(super) struct MemberInner {
     pub(super) store: Arc<dyn Store>,
     pub(super) server: u16,
     pub(super) process: u64,
     pub(super) addresses: Addresses,
     pub(super) length: Duration,
-    /// Tells when something is due.
+    /// Tells the time by which work becomes due.
     pub(super) clock: Clock,
     pub(super) lease_clock: LeaseClock,
     pub(super) state: Mutex<OwnKey>,
-    /// Is told if there is something to write, or the end has come.
+    /// Notified if there is something to write, or at the end.
     pub(super) notifier: Arc<Notifier>,
     pub(super) seen: Mutex<SeenKeys>,
-    /// Whether it was seen that another process has the server's name.
+    /// Whether another process was seen to have the server's name.
     pub(super) is_replaced: AtomicBool,
     pub(super) on_change: Box<dyn Fn() + Send + Sync>,
 }
@@ -39,12 +39,12 @@ impl MemberInner {
         self.seen.lock().unwrap_or_else(PoisonError::into_inner)
     }
 
-    /// Returns how long after it was kept a lease is kept again.
+    /// Returns how long after a lease was kept it is kept again.
     pub(super) fn keeping(&self) -> Duration {
         self.length / PARTS
     }
 
-    /// Whether no request reaches the server.
+    /// Returns whether no request reaches the server.
     pub(super) fn is_away(&self) -> Result<bool, JoinFault> {
         let state = self.store.read(&[&keys::state(self.server)])?;
         Ok(state.pairs.iter().any(|it| !keys::is_reached(&it.value)))
@@ -59,25 +59,31 @@ impl MemberInner {
         }
     }
 
-    /// Has its thread come to its end.
+    /// Makes its thread end.
     pub(super) fn end(&self) {
         self.state().is_over = true;
         self.notifier.notify();
     }
 
-    /// Ends the lease, if there is one. If it can't be ended now it ends by itself.
+    /// Ends the lease, if there is one.
     pub(super) fn end_lease(&self) {
         let lease = self.state().lease.take();
+        self.revoke(lease);
+    }
+
+    /// Ends this lease. If it can't be ended now, it ends by itself.
+    pub(super) fn revoke(&self, lease: Option<LeaseId>) {
         let _ = lease.map(|it| self.store.revoke(it));
     }
 
-    /// Does what is due: keeps the lease, or takes another one, and writes the key if it has more to tell. Returns for
-    /// how long nothing is due then, unless it is notified; none at the end, which is that of the lease.
+    /// Does the work that is due: keeps the lease, or takes another one, and writes the key if it has more to tell.
+    /// Returns for how long nothing is due then, unless it is notified. Returns nothing at the end, which is also the
+    /// end of the lease.
     pub(super) fn turn(&self) -> Option<Duration> {
         self.hear_of_write();
-        let now = self.clock.now();
+        let by_lease = self.lease_clock.now();
         let state = self.state();
-        let (is_over, keeps) = (state.is_over, now >= state.keep_due);
+        let (is_over, keeps) = (state.is_over, by_lease >= state.keep_due);
         drop(state);
         if is_over {
             self.end_lease();
@@ -86,21 +92,24 @@ impl MemberInner {
         if keeps {
             self.keep_lease();
         }
+        // This process executes nothing until its tenure is written, and there may be many acks to write.
+        while self.write_tenure() {}
         if self.write() {
-            // A store may have made it already.
+            // Some stores have made it already.
             self.hear_of_write();
+            while self.write_tenure() {}
         }
-        let next = self.state().next_turn();
-        Some(next.saturating_duration_since(self.clock.now()))
+        let (now, by_lease) = (self.clock.now(), self.lease_clock.now());
+        Some(self.state().next_turn(now, by_lease))
     }
 
     /// Keeps the lease, or takes another one if there is none any more.
     pub(super) fn keep_lease(&self) {
-        let (began, lease) = (self.clock.now(), self.state().lease);
+        let (began, lease) = (self.lease_clock.now(), self.state().lease);
         let is_there = self.has_renewed(lease);
         self.state().keep_due = match is_there {
-            true => began + self.keeping(),
-            false => self.clock.now() + PAUSE,
+            true => began.after(self.keeping()),
+            false => self.lease_clock.now().after(PAUSE),
         };
     }
 
@@ -114,7 +123,7 @@ impl MemberInner {
                     self.state().kept = kept;
                     return true;
                 }
-                // Whether it goes on is told next time.
+                // The next attempt finds out whether it goes on.
                 Err(LeaseError::Unavailable(_) | LeaseError::Stopped) => return true,
             }
         }
@@ -124,7 +133,7 @@ impl MemberInner {
         granted.is_some()
     }
 
-    /// Writes the key if it has more to tell. Returns whether it is on its way.
+    /// Writes the key if it has more to tell. Returns whether the write is on its way.
     fn write(&self) -> bool {
         let now = self.clock.now();
         let mut state = self.state();
@@ -135,6 +144,7 @@ impl MemberInner {
         if state.is_told() {
             return false;
         }
+        state.wrote = now;
         let write = KeyWrite {
             server: self.server,
             live: self.live(state.followed),
@@ -142,7 +152,7 @@ impl MemberInner {
             before: state.written,
             created: state.joined,
         };
-        // What a store that hangs makes late is found at the next write.
+        // If a store that hangs makes it late, the next write finds that.
         let (transaction, end) = (write.transaction(lease), now + self.keeping());
         let (pending, done) = PendingWrite::new(write, end, &self.notifier);
         state.pending = Some(pending);
@@ -151,7 +161,35 @@ impl MemberInner {
         true
     }
 
-    /// Notes what became of the write that was on its way, if that is known.
+    /// Writes that this process executes, if that is due. Returns whether its outcome is known already.
+    fn write_tenure(&self) -> bool {
+        let now = self.clock.now();
+        let mut state = self.state();
+        if let Some(tenure) = &mut state.tenure {
+            tenure.hear(self.server, now);
+        }
+        let (written, joined) = (state.written, state.joined);
+        let is_due = !state.is_over && state.tenure_due_at().is_some_and(|it| it <= now);
+        let Some(tenure) = state.tenure.as_mut().filter(|_| is_due) else {
+            return false;
+        };
+        let transaction = tenure.transaction(self.server, written);
+        let (pending, done) = PendingWrite::new(joined, now + self.keeping(), &self.notifier);
+        tenure.wait_for(pending);
+        drop(state);
+        self.store.submit(transaction, done);
+        let mut state = self.state();
+        let now = self.clock.now();
+        if let Some(tenure) = &mut state.tenure {
+            tenure.hear(self.server, now);
+        }
+        state
+            .tenure
+            .as_ref()
+            .is_some_and(|it| it.patience().is_none())
+    }
+
+    /// Notes the outcome of the write that was on its way, if it is known.
     fn hear_of_write(&self) {
         let (now, mut state) = (self.clock.now(), self.state());
         let told = state.pending.as_ref().and_then(|it| it.outcome(now));
@@ -167,9 +205,9 @@ impl MemberInner {
                 state.told = write.live.followed;
                 state.have_told(&write.acks, now);
             }
-            Err(WriteError::LeaseEnded) => state.lose_lease(now),
-            // The key went with the lease, so it is tried anew. Or an earlier write was made, or not, of which that
-            // wasn't known: it goes on from what lies there.
+            Err(WriteError::LeaseEnded) => state.lose_lease(now, self.lease_clock.now()),
+            // The key went with the lease, so it is written again. Or an earlier write had an unknown outcome: then it
+            // goes on from the key's present state.
             Ok(Err(Taken { own: Some(it), .. })) => {
                 (state.written, state.joined) = (it.revision, it.created);
                 state.pause(now, PAUSE);
@@ -204,7 +242,7 @@ impl MemberInner {
         Ok(self.store.watch(prefix, Box::new(watcher))?)
     }
 
-    /// Sees what the watch of the keys that begin so tells.
+    /// Processes the changes that the watch has seen at keys with this prefix.
     fn see(&self, prefix: &[u8], seen: Seen) {
         let mut keys = self.seen();
         match seen {
@@ -216,7 +254,7 @@ impl MemberInner {
             }
         }
         keys.changes += 1;
-        // Where none was seen yet, some may be there.
+        // If none was seen yet, some may be there.
         if !keys.members.is_empty() {
             keys.lowest = keys.lowest_with(self.server, self.process);
         }

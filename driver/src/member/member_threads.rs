@@ -1,5 +1,5 @@
-//! The threads of a process's server. Only here does it wait, for the store or for time to pass.
-use super::joining::{JoinStep, Joining};
+//! The thread of a process's server. Only here does the server wait, for the store or for time to pass.
+use super::joining_member::{JoinStep, JoiningMember};
 use super::member_inner::MemberInner;
 use super::notifier::Notifier;
 use super::Member;
@@ -8,8 +8,11 @@ use std::sync::{Arc, PoisonError};
 use std::thread;
 use std::time::Duration;
 
+/// How often in a lease's length the thread checks whether the lease must be kept.
+const LOOKS: u32 = 30;
+
 impl Notifier {
-    /// Waits until somebody notifies it, for so long at most.
+    /// Waits until somebody notifies it, at most for so long.
     fn wait(&self, most: Duration) {
         let is_notified = self.is_notified();
         let waited = self
@@ -21,12 +24,12 @@ impl Notifier {
     }
 }
 
-impl Joining {
+impl JoiningMember {
     /// Waits until the server is there.
     ///
     /// # Errors
     ///
-    /// As of [`Member::join`].
+    /// As [`Member::join`] says.
     pub fn wait(mut self) -> Result<Member, JoinFault> {
         loop {
             match self.turn() {
@@ -41,13 +44,15 @@ impl Joining {
     }
 }
 
-/// Has a thread keep the lease, until the end.
+/// Starts a thread that keeps the lease, until the end.
 pub(super) fn begin(inner: &Arc<MemberInner>) -> Result<(), OpenFault> {
     let keeping = inner.clone();
     let keeps = move || {
-        // It waits by a clock that stands while the machine is suspended: then the lease is only kept later.
+        // The thread waits by a clock that stops while the machine is suspended. So it looks at the lease's clock
+        // often: if that clock has jumped, the lease is kept at once.
+        let look = keeping.length / LOOKS;
         while let Some(most) = keeping.turn() {
-            keeping.notifier.wait(most);
+            keeping.notifier.wait(most.min(look));
         }
     };
     let thread = thread::Builder::new().name("member".to_owned());

@@ -1,6 +1,6 @@
 use std::sync::{Condvar, Mutex, MutexGuard, PoisonError};
 
-/// Wakes the thread of a server, if it has one, as there may be something to do.
+/// Wakes the thread of a server, if it has one, because there may be something to do.
 #[derive(Default)]
 pub(super) struct Notifier {
     is_notified: Mutex<bool>,
@@ -8,7 +8,7 @@ pub(super) struct Notifier {
 }
 
 impl Notifier {
-    /// Wakes the thread, or has it not wait next time.
+    /// Wakes the thread, or makes it not wait next time.
     pub(super) fn notify(&self) {
         *self.is_notified() = true;
         self.wakes.notify_all();

@@ -5,15 +5,15 @@ use std::sync::mpsc::{sync_channel, Receiver, SyncSender, TryRecvError};
 use std::sync::Arc;
 use std::time::Instant;
 
-/// A key that is on its way to the store, until something became of it, or it is waited for no longer. It may still be
-/// made then.
-pub(super) struct PendingWrite {
-    pub(super) write: KeyWrite,
+/// A write on its way to the store, until its outcome is known, or nobody waits for it any more. Then it may still be
+/// made.
+pub(super) struct PendingWrite<W = KeyWrite> {
+    pub(super) write: W,
     told: Receiver<Result<Outcome, WriteError>>,
     end: Instant,
 }
 
-/// Tells what became of a write, or that nobody ever will.
+/// Tells the outcome of a write, or that it will never be told.
 struct Teller {
     tell: Option<SyncSender<Result<Outcome, WriteError>>>,
     notifier: Arc<Notifier>,
@@ -26,13 +26,9 @@ impl Drop for Teller {
     }
 }
 
-impl PendingWrite {
-    /// Returns the write, which is waited for until this time, and whom the store tells what became of it.
-    pub(super) fn new(
-        write: KeyWrite,
-        end: Instant,
-        notifier: &Arc<Notifier>,
-    ) -> (PendingWrite, Done) {
+impl<W> PendingWrite<W> {
+    /// Returns the write, for which one waits until this time, and the callback by which the store tells its outcome.
+    pub(super) fn new(write: W, end: Instant, notifier: &Arc<Notifier>) -> (PendingWrite<W>, Done) {
         let (tell, told) = sync_channel(1);
         let teller = Teller {
             tell: Some(tell),
@@ -40,14 +36,14 @@ impl PendingWrite {
         };
         let done = move |outcome| {
             let teller = teller;
-            // Nobody waits any more if it comes late.
+            // If it comes late, nobody waits any more.
             let _ = teller.tell.as_ref().map(|it| it.send(outcome));
         };
         let pending = PendingWrite { write, told, end };
         (pending, Box::new(done))
     }
 
-    /// Returns what became of it, if that is told or is waited for no longer.
+    /// Returns the outcome, if it is known, or if nobody waits for it any more.
     pub(super) fn outcome(&self, now: Instant) -> Option<Result<Outcome, WriteError>> {
         match self.told.try_recv() {
             Ok(outcome) => Some(outcome),
@@ -59,7 +55,7 @@ impl PendingWrite {
         }
     }
 
-    /// Returns until when it is waited for.
+    /// Returns until when one waits for it.
     pub(super) fn end(&self) -> Instant {
         self.end
     }

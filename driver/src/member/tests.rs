@@ -5,22 +5,27 @@ use durkenzo_store::Embedded;
 use std::thread;
 use std::time::Instant;
 
-/// So long that the thread that keeps the lease doesn't keep it within a test.
+/// It is so long that the thread that keeps the lease doesn't do so during a test.
 const LENGTH: Duration = Duration::from_secs(600);
 
-/// A member on this machine, and the moment after it joined.
+/// Returns a member on this machine, and the moment after it joined.
 fn joined(machine: &Machine) -> (Member, Moment) {
+    joined_for(machine, LENGTH)
+}
+
+/// Does the same, under a lease of this length.
+fn joined_for(machine: &Machine, length: Duration) -> (Member, Moment) {
     let store: Arc<dyn Store> = Arc::new(Embedded::in_memory());
     let addresses = Addresses::default();
     let (clocks, on_change) = ((Clock::default(), machine.clock()), Box::new(|| {}));
-    let member = Member::join_by(clocks, store, 1, addresses, LENGTH, on_change);
+    let member = Member::join_by(clocks, store, 1, addresses, length, on_change);
     let member = member.unwrap();
     let now = member.now();
     assert!(member.is_kept_since(now));
     (member, now)
 }
 
-/// Whether the lease counts as over, and doesn't any more once it was kept again.
+/// Returns whether the lease counts as over, and no longer does once it was kept again.
 fn is_over_until_kept(member: &Member, since: Moment) -> bool {
     let is_over = !member.is_kept_since(since) && !member.is_kept_since(member.now());
     let lease = member.lease();
@@ -58,7 +63,27 @@ fn a_step_back_leaves_a_lease_its_length() {
     assert!(is_over_until_kept(&member, since));
 }
 
-/// Waits until that holds, as what is written is seen by another thread.
+#[test]
+fn a_lease_is_kept_at_once_after_its_clock_jumped() {
+    // By the other clock it would be kept ten seconds after it was granted.
+    let length = Duration::from_secs(30);
+    let (machine, end) = (Machine::default(), Instant::now() + length / 6);
+    let (member, since) = joined_for(&machine, length);
+    let lease = member.lease();
+    let jumps: [fn(&Machine, Duration); 2] = [Machine::go_on, Machine::pause];
+    for jump in jumps {
+        jump(&machine, length * 3 / 4);
+        let now = member.time();
+        while member.kept_lease().unwrap().asked < now {
+            assert!(Instant::now() < end, "it isn't kept");
+            thread::sleep(Duration::from_millis(2));
+        }
+    }
+    assert!(!member.is_kept_since(since) && member.is_kept_since(member.now()));
+    assert_eq!(member.lease(), lease);
+}
+
+/// Waits until that holds, because another thread sees the writes.
 fn until(holds: impl Fn() -> bool) {
     let end = Instant::now() + Duration::from_secs(20);
     while !holds() {
@@ -79,7 +104,7 @@ fn others_see_what_a_server_acks_until_it_leaves() {
     until(|| two.members().joined_of(1) == Some(one.joined()));
     assert_eq!(two.members().joined_of(3), None);
 
-    // More than one transaction may tell, and a late one that is older.
+    // There are more acks than one transaction may tell, and one comes late with an older generation.
     let shards = MOST_ACKS as u16 + 7;
     (0..shards).for_each(|shard| one.ack(shard, 5));
     one.ack(3, 9);
@@ -87,7 +112,7 @@ fn others_see_what_a_server_acks_until_it_leaves() {
     until(|| (0..shards).all(|shard| two.acked(shard, 1).is_some()));
     until(|| two.acked(3, 1) == Some(9));
     assert_eq!((two.acked(4, 1), two.acked(4, 2)), (Some(5), None));
-    // The key was written over, and not made anew.
+    // The key was overwritten, and not created again.
     assert_eq!(two.members().joined_of(1), Some(one.joined()));
 
     let joined = one.joined();

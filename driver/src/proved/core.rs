@@ -4,10 +4,10 @@ use crate::{CoreFault, Key, MapReply, Numbered};
 use durkenzo_store::Revision;
 use durkenzo_store_sys::{self as sys, Code, Limits, Server, ServerRequest, Told};
 
-/// How much a server takes: of a batch as much as a round has at most, and of what waits more, so that what is given
-/// together is sent together. Of so many clients the last request is kept: those of 16 processes, of which each has as
-/// many as a round has requests, and all that clients who number their requests may have. A process that goes on takes
-/// another number before so many others have begun.
+/// The limits of a server. A batch has at most as many requests as a round. More requests may wait, so that requests
+/// that are given together are sent together. The last request is kept of so many clients: those of 16 processes, each
+/// of which has as many as a round has requests, and all possible clients that number their requests. A process that
+/// goes on takes another number before so many others have begun.
 const LIMITS: Limits = Limits {
     batch_bytes: Size::MOST.bytes as u64,
     batch_requests: Size::MOST.requests,
@@ -21,18 +21,19 @@ pub(crate) struct Core {
 }
 
 impl Core {
-    /// Server `me` of the shard, one of so many, which has read nothing yet.
+    /// Makes server `me` of the shard, one of so many. It has read nothing yet.
     pub(crate) fn new(me: u16, shard: u16, count: u16) -> Result<Core, CoreFault> {
         let server = Server::new(me, shard, u64::from(count), LIMITS)?;
         Ok(Core { server })
     }
 
-    /// Returns how many keys hold something after all requests that are made.
+    /// Returns how many keys there are after all requests that were made.
     pub(crate) fn count(&mut self) -> Result<u64, CoreFault> {
         Ok(self.server.count()?)
     }
 
-    /// Returns the first of these keys from `low` on and below `high`, or up to the last one, at most so many.
+    /// Returns the first of the keys from `low` on and below `high`, or up to the last one if there is no `high`; at
+    /// most so many.
     pub(crate) fn scan(
         &mut self,
         low: &[u8],
@@ -42,27 +43,27 @@ impl Core {
         Ok(self.server.scan(low, high, most)?)
     }
 
-    /// Adds the next part that was read of the base.
+    /// Adds the next part of the base that was read.
     pub(crate) fn add_part(&mut self, bytes: &[u8]) -> Result<(), CoreFault> {
         Ok(self.server.add_part(bytes)?)
     }
 
-    /// Begins a base, whose parts are to be written now; none where none begins.
+    /// Begins a base, whose parts must be written now. Returns nothing if none begins.
     pub(crate) fn base(&mut self) -> Result<Option<Base>, CoreFault> {
         Ok(self.server.base()?)
     }
 
-    /// Each part of the base was written.
+    /// Notes that each part of the base was written.
     pub(crate) fn parts_made(&mut self) -> Result<(), CoreFault> {
         Ok(self.server.parts_made()?)
     }
 
-    /// Whether a batch, or a part of a base, is behind the base that the head names.
+    /// Returns whether the base that the head names has replaced this batch, or this part of another base.
     pub(crate) fn is_behind(&mut self, passing: Passing) -> Result<bool, CoreFault> {
         Ok(self.server.is_behind(passing)?)
     }
 
-    /// Of how many clients the last request is kept.
+    /// Returns how many clients' last requests are kept.
     pub(crate) fn clients(&mut self) -> Result<usize, CoreFault> {
         Ok(self.server.clients()?)
     }
@@ -72,7 +73,7 @@ impl Core {
         Ok(self.server.add_batch(bytes)?)
     }
 
-    /// The shard was read: its record and the head of its log, each with its revision.
+    /// Notes that the shard was read: its record and the head of its log, each with its revision.
     pub(crate) fn read(
         &mut self,
         (record, stood): (&[u8], Revision),
@@ -86,8 +87,8 @@ impl Core {
         Ok(self.server.batch_count()?)
     }
 
-    /// The shard was read from where the server is: its record and the head of its log, each with its revision, and the
-    /// batches that were added. What was sent or waits here is to be given again.
+    /// Notes that the shard was read from the server's position on: its record and the head of its log, each with its
+    /// revision, and the batches that were added. Requests that were sent or wait here must be given again.
     pub(crate) fn append(
         &mut self,
         (record, stood): (&[u8], Revision),
@@ -96,18 +97,18 @@ impl Core {
         Ok(self.server.append((record, stood.0), (head, logged.0))?)
     }
 
-    /// What was sent wasn't made, or isn't known to be. The server decides nothing before it has appended what it
-    /// hasn't read, and what it held is to be given again.
+    /// Notes that the transaction on its way wasn't made, or isn't known to be made. The server decides nothing until
+    /// it has appended the batches that it hasn't read. Requests that it held must be given again.
     pub(crate) fn lost(&mut self) -> Result<(), CoreFault> {
         Ok(self.server.lost()?)
     }
 
-    /// The record was seen. What waits here is to be given again.
+    /// Notes that the record was seen. Requests that wait here must be given again.
     pub(crate) fn record(&mut self, record: &[u8], stood: Revision) -> Result<(), CoreFault> {
         Ok(self.server.record(record, stood.0)?)
     }
 
-    /// What is decided of a request.
+    /// Decides about a request.
     pub(crate) fn take(&mut self, request: &ServerRequest<'_>) -> Result<Decision, CoreFault> {
         Ok(match self.server.take(request)? {
             sys::Decision::Replied(reply) => {
@@ -121,12 +122,12 @@ impl Core {
         })
     }
 
-    /// Lets what waits be sent: whether there is something to send now.
+    /// Makes the waiting requests ready to be sent. Returns whether there is something to send now.
     pub(crate) fn flush(&mut self) -> Result<bool, CoreFault> {
         Ok(self.server.flush()?)
     }
 
-    /// What is sent.
+    /// Returns the transaction to send.
     pub(crate) fn sending(&mut self) -> Result<ServerTransaction, CoreFault> {
         let sent = self.server.sending()?;
         Ok(ServerTransaction {
@@ -138,14 +139,14 @@ impl Core {
         })
     }
 
-    /// What was sent was made at this revision: the answers to requests, and to reads.
+    /// Notes that the transaction was made at this revision. Returns the answers to requests, and to reads.
     pub(crate) fn made(&mut self, revision: Revision) -> Result<Vec<ClientReply>, CoreFault> {
         let (made, read) = self.server.made(revision.0)?;
         Ok(made.into_iter().chain(read).map(answer).collect())
     }
 }
 
-/// Why a request isn't taken here and now.
+/// Returns why a request isn't taken here and now.
 fn refusal(code: Code) -> Result<Decision, CoreFault> {
     match code {
         Code::TOO_FAR => Ok(Decision::TooFar),

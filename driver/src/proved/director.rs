@@ -1,16 +1,16 @@
 use crate::command::{ControlCommand, Next};
 use crate::{keys, CoreFault, ServerRun, ServerState};
 use durkenzo_store::Revision;
-use durkenzo_store_sys::{self as sys, Code, DirectorStep};
+use durkenzo_store_sys::{self as sys, Code, DirectorStep, SettingsRefusal, SettingsTransaction};
 
-/// What a command's transaction compares and writes.
+/// The compares and the writes of a command's transaction.
 #[derive(Debug)]
 pub(crate) struct CommandTransaction {
     pub(crate) elected: Revision,
     pub(crate) placed: Revision,
-    /// The server whose key isn't there, if that is compared.
+    /// The server whose key must be absent, if that is compared.
     pub(crate) absent: Option<u16>,
-    /// The shard whose record is written, or the server whose state is.
+    /// The shard whose record is written, or the server whose state is written.
     pub(crate) number: u16,
     pub(crate) is_state: bool,
     pub(crate) written: Vec<u8>,
@@ -18,7 +18,7 @@ pub(crate) struct CommandTransaction {
 }
 
 impl CommandTransaction {
-    /// The key of the record or the state.
+    /// Returns the key of the record or the state.
     pub(crate) fn key(&self) -> Vec<u8> {
         match self.is_state {
             true => keys::state(self.number),
@@ -27,7 +27,7 @@ impl CommandTransaction {
     }
 }
 
-/// The generation up to which a server was read to have acked a shard's records.
+/// The generation up to which a server has acked a shard's records, as it was read.
 #[derive(Clone, Copy, Debug)]
 pub(crate) struct AckRead {
     pub(crate) shard: u16,
@@ -42,14 +42,14 @@ pub(crate) struct Director {
 }
 
 impl Director {
-    /// That of the store which this line of settings describes, for this process, which was elected at this revision.
+    /// Makes the control of the store with this line of settings, for this process, which was elected at this revision.
     /// Its commands wait for acks.
     pub(crate) fn new(line: &str, process: u64, elected: Revision) -> Result<Director, CoreFault> {
         let control = sys::Director::new(line, process, elected.0)?;
         Ok(Director { control })
     }
 
-    /// The same, for a process that has all servers of the store: its commands wait for no ack.
+    /// Does the same, for a process that has all servers of the store. Its commands wait for no ack.
     pub(crate) fn alone(
         line: &str,
         process: u64,
@@ -59,14 +59,14 @@ impl Director {
         Ok(Director { control })
     }
 
-    /// How many shards the settings have.
+    /// Returns how many shards the settings have.
     pub(crate) fn shards(&self) -> usize {
         usize::from(self.control.shards())
     }
 
-    /// How many servers the settings have.
-    pub(crate) fn servers(&self) -> usize {
-        self.control.servers().len()
+    /// Returns the servers of the settings, by number, in the order of their rows.
+    pub(crate) fn servers(&self) -> &[u16] {
+        self.control.servers()
     }
 
     /// Adds the next shard's record.
@@ -79,20 +79,20 @@ impl Director {
         Ok(self.control.state(bytes)?)
     }
 
-    /// All is read, at a moment at which the key of commands had this revision.
+    /// Notes that everything was read, at a moment when the key of commands had this revision.
     pub(crate) fn read(&mut self, placed: Revision) -> Result<(), CoreFault> {
         Ok(self.control.read(placed.0)?)
     }
 
-    /// Judges the command, where this process runs the server that it names, 0 if none was seen: it is to be sent, or
-    /// refused by the first fault that applies.
+    /// Judges the command. `runs` is the process that runs the server that it names, or 0 if none was seen. The command
+    /// must then be sent, or is refused with the first fault that applies.
     pub(crate) fn command(&mut self, command: ControlCommand, runs: u64) -> Result<(), CoreFault> {
         let (kind, shard, server) = command.parts();
         let step = DirectorStep::of_shard(kind, shard, server);
         Ok(self.control.command(step, runs)?)
     }
 
-    /// What is sent.
+    /// Returns the transaction to send.
     pub(crate) fn sending(&mut self) -> Result<CommandTransaction, CoreFault> {
         let sent = self.control.sending()?;
         Ok(CommandTransaction {
@@ -106,17 +106,26 @@ impl Director {
         })
     }
 
-    /// What was sent was made at this revision.
+    /// Returns the compares and writes that replace this control's settings by those of the other control. Both must
+    /// have read the same records and states.
+    pub(crate) fn resettle(
+        &mut self,
+        other: &mut Director,
+    ) -> Result<SettingsTransaction, SettingsRefusal> {
+        self.control.resettle(&mut other.control)
+    }
+
+    /// Notes that the transaction was made at this revision.
     pub(crate) fn made(&mut self, revision: Revision) -> Result<(), CoreFault> {
         Ok(self.control.made(revision.0)?)
     }
 
-    /// All is to be read again.
+    /// Notes that everything must be read again.
     pub(crate) fn lost(&mut self) -> Result<(), CoreFault> {
         Ok(self.control.lost()?)
     }
 
-    /// These servers are there, and have each read the store up to that revision.
+    /// Notes that these servers are there, and have each read the store up to that revision.
     pub(crate) fn follow(
         &mut self,
         servers: impl Iterator<Item = (u16, Revision)>,
@@ -128,7 +137,7 @@ impl Director {
         Ok(())
     }
 
-    /// These are the acks that were read. Those that were told before are forgotten.
+    /// Notes the acks that were read. Earlier ones are forgotten.
     pub(crate) fn acked(&mut self, acks: impl Iterator<Item = AckRead>) -> Result<(), CoreFault> {
         self.control.forget_acks()?;
         for ack in acks {
@@ -137,33 +146,33 @@ impl Director {
         Ok(())
     }
 
-    /// What comes next of the shard.
+    /// Returns the next step of the shard.
     pub(crate) fn next_of_shard(&mut self, shard: u16) -> Result<Next, CoreFault> {
         next(self.control.next_of_shard(shard))
     }
 
-    /// What comes next of the server's restart.
+    /// Returns the next step of the server's restart.
     pub(crate) fn next_of_server(&mut self, server: u16) -> Result<Next, CoreFault> {
         next(self.control.next_of_server(server))
     }
 
-    /// What comes next of the drain of the server, or for 0 of the vacant shards.
+    /// Returns the next step of the drain of the server, or of the vacant shards if `server` is 0.
     pub(crate) fn next_of_drain(&mut self, server: u16) -> Result<Next, CoreFault> {
         next(self.control.next_of_drain(server))
     }
 
-    /// The first server to which requests go and that isn't among those that follow.
+    /// Returns the first server to which requests go although it isn't among the followers.
     pub(crate) fn fallen(&mut self) -> Result<Option<u16>, CoreFault> {
         let server = self.control.fallen()?;
         Ok(Some(server).filter(|it| *it > 0))
     }
 
-    /// The shard's record, as its word.
+    /// Returns the shard's record, as its word.
     pub(crate) fn word_of(&mut self, shard: u16) -> Result<u64, CoreFault> {
         Ok(self.control.record_of(shard)?.0)
     }
 
-    /// How far the server's restart has come, and of which process that is said.
+    /// Returns how far the server's restart has come, and the process to which that applies.
     pub(crate) fn run_of(&mut self, server: u16) -> Result<ServerRun, CoreFault> {
         let (number, process) = self.control.state_of(server)?;
         let state = ServerState::of_number(number).ok_or(CoreFault(Code::BAD_ARGUMENT))?;

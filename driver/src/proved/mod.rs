@@ -1,4 +1,4 @@
-//! The proved servers and the proved control, in the words of this crate.
+//! The proved servers and the proved control, with the types of this crate.
 mod core;
 mod director;
 

@@ -3,17 +3,17 @@ use crate::work::{self, Work, WorkStep};
 use crate::Elsewhere;
 use durkenzo_store::Transaction;
 
-/// What a shard has its driver do. The shard itself does no I/O.
+/// An action that a shard asks of its driver. The shard itself does no I/O.
 pub(crate) enum Action {
     /// Sends a server's transaction. The outcome is told by [`super::Shard::on_outcome`], with this ticket.
     Submit(Ticket, Transaction),
-    /// Recovers the shard for a server: what it lacks, if it has kept what it made, and else all. What was read is told
-    /// by [`super::Shard::on_read`], with this ticket.
+    /// Recovers the shard for a server: the batches that it lacks if it has kept the requests that it made, otherwise
+    /// everything. The result is told by [`super::Shard::on_read`], with this ticket.
     Read(Ticket, Option<Core>),
     /// Writes the parts of a server's base at these keys. Whether all were written is told by
     /// [`super::Shard::on_base`], with this ticket.
     WriteBase(Ticket, Vec<(Vec<u8>, Vec<u8>)>),
-    /// Looks for what may be behind the base of this server.
+    /// Looks for keys that the base of this server may have replaced.
     Sweep(u16),
     /// Deletes these keys.
     Delete(Vec<Vec<u8>>),
@@ -31,7 +31,7 @@ pub(crate) enum Action {
     StoreEnded(String),
 }
 
-/// Names the transaction, the recovery or the base of a server whose outcome is told.
+/// Identifies the transaction, the recovery or the base of a server whose outcome is told.
 #[derive(Clone, Copy, Debug, PartialEq, Eq)]
 pub(crate) struct Ticket {
     pub(crate) server: u16,

@@ -4,37 +4,40 @@ use crate::keys;
 use crate::recovery::LogSize;
 use std::time::Instant;
 
-/// How far a base is.
+/// The progress of a base.
 #[derive(Clone, Copy, Debug, PartialEq, Eq)]
 pub(super) enum BaseProgress {
-    /// Its parts are being written: those of the base with this number of a ticket.
+    /// Its parts are being written: those of the base whose ticket has this number.
     Writes(u64),
-    /// One wasn't written: once no transaction is under way the server catches up with the log, and makes none then.
+    /// A part wasn't written. Once no transaction is under way, the server catches up with the log, and then makes no
+    /// base.
     Failed,
-    /// They are written, so the next transaction names it.
+    /// All parts are written, so the next transaction names it.
     Names,
-    /// The transaction with this number does.
+    /// The transaction with this number names it.
     Named(u64),
 }
 
-/// What a base is wished for.
+/// The demand for a base.
 #[derive(Debug, Default)]
 pub(super) struct BaseDemand {
-    /// Whether one is to begin as soon as its server has read the shard.
+    /// Whether a base must begin as soon as its server has read the shard.
     pub(super) is_wanted: bool,
-    /// Whether it is to make room, so that nothing else that takes some is sent meanwhile.
+    /// Whether it must make room. Then no transaction that takes room is sent meanwhile.
     pub(super) is_alone: bool,
-    /// Whether keys were deleted since the last one.
+    /// Whether keys were deleted since the last base.
     pub(super) has_freed: bool,
+    /// Whether keys had been deleted when the present base began. Their batches aren't replaced until it is named.
+    had_freed: bool,
 }
 
-/// How many bytes a log has at least before it gets another base for their number.
+/// A log has at least so many bytes before it gets another base because of their number.
 const LEAST_BYTES: u64 = 1 << 20;
-/// How many bytes are read in the time that it takes to read a batch beside its own.
+/// How many bytes are read in the time that reading a batch takes in addition to its bytes.
 const BATCH_BYTES: u64 = 1 << 10;
 
 impl Shard {
-    /// Begins a base where one is due.
+    /// Begins a base, if one is due.
     pub(crate) fn begin_base(&mut self, is_full: bool, now: Instant, actions: &mut Vec<Action>) {
         let may_begin = self.base.is_none() && self.base_pause.is_over(now);
         if self.base_demand.is_wanted || self.is_base_due(is_full) && may_begin {
@@ -42,12 +45,12 @@ impl Shard {
         }
     }
 
-    /// Whether the log is to get another base: it is long, or the store is full and keys were deleted.
+    /// Returns whether the log must get another base: it is long, or the store is full and keys were deleted.
     pub(super) fn is_base_due(&self, is_full: bool) -> bool {
         self.base_demand.is_wanted || self.is_log_long() || is_full && self.base_demand.has_freed
     }
 
-    /// Whether the log is to get another base.
+    /// Returns whether the log is long enough for another base.
     fn is_log_long(&self) -> bool {
         let LogSize {
             base,
@@ -55,12 +58,12 @@ impl Shard {
             bytes,
         } = self.log;
         let cost = bytes + batches * BATCH_BYTES;
-        batches >= self.tuning.most_batches || cost >= LEAST_BYTES.max(2 * base)
+        batches >= self.shard_options.most_batches || cost >= LEAST_BYTES.max(2 * base)
     }
 
-    /// Begins a base, where the server that executes is of this process and makes none. Where it hasn't read the shard,
-    /// it reads that first. If the store is full, nothing that takes room is sent until it is over: what is refused has
-    /// the server read again, and so its base begun anew.
+    /// Begins a base, if the server that executes is in this process and makes none. If the server hasn't read the
+    /// shard, it reads the shard first. If the store is full, no transaction that takes room is sent until the base is
+    /// over. Otherwise a refused transaction would make the server read again, and so begin its base again.
     pub(crate) fn want_base(&mut self, is_full: bool, now: Instant, actions: &mut Vec<Action>) {
         self.base_demand.is_wanted = false;
         if self.base.is_some() {
@@ -74,7 +77,7 @@ impl Shard {
         let core = match self.replicas.get_mut(&server) {
             Some(ReplicaState::Ready(core, _)) => core,
             Some(ReplicaState::Sent(core, ..)) if !is_full => core,
-            // What is sent may be refused, so a base begins after it.
+            // The transaction on its way may be refused, so a base begins after it.
             Some(ReplicaState::Sent(..)) => {
                 self.base_demand.is_wanted = true;
                 return;
@@ -86,12 +89,12 @@ impl Shard {
                 return;
             }
         };
-        // Where it fails, the log stays as long as it is, and it is tried again.
+        // If it fails, the log stays as long as it is, and it is tried again.
         if let Ok(Some(Base { number, parts })) = core.base() {
             self.log.base = parts.iter().map(|it| it.len() as u64).sum();
             self.log_before = self.log;
-            // What is deleted from now on needs another one; where this one fails, the log is read again.
-            self.base_demand.has_freed = false;
+            // Keys that are deleted from now on need another base.
+            self.base_demand.had_freed = std::mem::take(&mut self.base_demand.has_freed);
             self.tickets += 1;
             let ticket = Ticket {
                 server,
@@ -106,30 +109,31 @@ impl Shard {
         }
     }
 
-    /// Whether a base is made, or what is behind it isn't deleted yet.
+    /// Returns whether a base is being made, or the keys that it replaced aren't deleted yet.
     pub(crate) fn makes_base(&self) -> bool {
         self.base.is_some() || self.base_demand.is_wanted || self.sweeps > 0
     }
 
-    /// Whether a base is made, or is to be made soon, in order to make room; or what is behind it isn't deleted yet, as
-    /// a server that reads again meanwhile wouldn't do that.
+    /// Returns whether a base is being made, or must be made soon, in order to make room; or whether the keys that it
+    /// replaced aren't deleted yet, because a server that reads again meanwhile wouldn't delete them.
     pub(super) fn makes_room(&self) -> bool {
         self.base_demand.is_alone && self.makes_base()
     }
 
-    /// The server that makes bases, if it is of this process and isn't away.
+    /// Returns the server that makes bases, if it is in this process and isn't away.
     fn base_server(&self) -> Option<u16> {
         let owner = self.stored.record().and_then(|it| it.owner());
         let is_other = |it: &u16| self.me().is_some_and(|me| me != *it);
         owner.filter(|it| !is_other(it) && !self.away.contains(it))
     }
 
-    /// Whether one is still made, or the last one that began wasn't written and this process would make the next.
+    /// Returns whether a base is still being made, or the last one wasn't written and this process would make the next.
     pub(crate) fn lacks_base(&self) -> bool {
         self.makes_base() || (self.base_pause.is_some() && self.base_server().is_some())
     }
 
-    /// The parts of the base that was begun so were written, or weren't. One that was given up meanwhile is no more.
+    /// Notes whether the parts of the base with this ticket were written. A base that was given up meanwhile doesn't
+    /// count.
     pub(crate) fn on_base(
         &mut self,
         ticket: Ticket,
@@ -144,7 +148,7 @@ impl Shard {
         let Some(ReplicaState::Ready(core, _) | ReplicaState::Sent(core, ..)) =
             self.replicas.get_mut(&server)
         else {
-            self.base = None;
+            self.forget_base(|_| true);
             return;
         };
         if is_written && core.parts_made().is_ok() {
@@ -157,7 +161,21 @@ impl Shard {
         self.go_on(now, actions);
     }
 
-    /// Has a server catch up whose base failed, where nothing that it sent is under way: it forgets that base.
+    /// Forgets the base that is being made, if such a server makes it, because it may never be named. Keys that were
+    /// deleted before need another base.
+    pub(super) fn forget_base(&mut self, is_meant: impl FnOnce(u16) -> bool) {
+        if self.base.take_if(|it| is_meant(it.0)).is_some() {
+            self.base_demand.has_freed |= std::mem::take(&mut self.base_demand.had_freed);
+        }
+    }
+
+    /// Notes that the base that was being made is named.
+    pub(super) fn end_base(&mut self) {
+        (self.base, self.base_demand.had_freed) = (None, false);
+        self.base_pause.end();
+    }
+
+    /// Makes a server whose base has failed catch up, if no transaction of it is under way. It forgets that base.
     pub(super) fn end_failed_base(&mut self, server: u16) {
         let is_ready = matches!(self.replicas.get(&server), Some(ReplicaState::Ready(..)));
         if is_ready && self.base == Some((server, BaseProgress::Failed)) {
@@ -165,7 +183,7 @@ impl Shard {
         }
     }
 
-    /// Sends what names a base, where nothing else is to be sent.
+    /// Sends the transaction that names a base, if nothing else must be sent.
     pub(super) fn name_base(&mut self, actions: &mut Vec<Action>) {
         if let Some((server, BaseProgress::Names)) = self.base {
             if self.send(server, actions).is_err() {
@@ -174,7 +192,7 @@ impl Shard {
         }
     }
 
-    /// Deletes of what was found what is behind the base.
+    /// Deletes those of the found keys that the base has replaced.
     pub(crate) fn on_swept(&mut self, server: u16, found: &[Passing], actions: &mut Vec<Action>) {
         self.sweeps = self.sweeps.saturating_sub(1);
         let Some(
@@ -207,8 +225,8 @@ mod tests {
     use crate::shard::Revisions;
     use crate::work::WorkOutcome;
     use crate::{
-        recovery, Begin, ControlCommand, Durable, DurableControl, MapReply, MapRequest, Range,
-        StoredRecord, Tuning, Work, WorkStep,
+        recovery, Begin, ControlCommand, Durable, DurableControl, MapReply, MapRequest, NotDone,
+        Range, ShardOptions, StoredRecord, Work, WorkStep,
     };
     use durkenzo_store::{Embedded, Revision, Store, WriteError};
     use std::sync::mpsc::{self, Receiver, Sender};
@@ -220,17 +238,17 @@ mod tests {
         r#""ops":1,"kept":9,"ceiling":99,"workers":1}"#
     );
 
-    /// The only server of the only shard.
+    /// The place of the only server of the only shard.
     const PLACE: ServerPlace = ServerPlace {
         server: 1,
         shard: 0,
         count: 1,
     };
 
-    /// A store with a shard of server 1.
+    /// Returns a store with a shard of server 1.
     fn written() -> Arc<dyn Store> {
         let store: Arc<dyn Store> = Arc::new(Embedded::in_memory());
-        let open = Durable::open(store.clone(), 1, Tuning::default(), Box::new(|| {}));
+        let open = Durable::open(store.clone(), 1, ShardOptions::default(), Box::new(|| {}));
         let mut control = DurableControl::lead(Arc::new(open.unwrap()), LINE).unwrap();
         control.command(ControlCommand::Assign(0, 1)).unwrap();
         store
@@ -239,7 +257,7 @@ mod tests {
     #[test]
     fn a_base_ends_where_its_server_reads_anew() {
         let (store, now) = (written(), Instant::now());
-        let mut shard = Shard::new(0, 1, None, Tuning::default());
+        let mut shard = Shard::new(0, 1, None, ShardOptions::default());
         let read = recovery::recover(&*store, None, PLACE)
             .map_err(|it| it.fault)
             .unwrap();
@@ -252,7 +270,7 @@ mod tests {
         };
         shard.on_read(ticket, Ok(read), now, &mut Vec::new());
         shard.base = Some((1, BaseProgress::Writes(2)));
-        // The record changes while it isn't known what became of a transaction.
+        // The record changes while the outcome of a transaction isn't known.
         shard.unknown_at = Some(Revisions { stood, logged });
         let changed = StoredRecord::new(bytes, Revision(stood.0 + 1));
         shard.see(changed, now, &mut Vec::new());
@@ -266,7 +284,8 @@ mod tests {
     #[test]
     fn a_base_ends_where_its_server_could_not_list() {
         let (store, now) = (written(), Instant::now());
-        let (mut shard, mut actions) = (Shard::new(0, 1, None, Tuning::default()), Vec::new());
+        let (mut shard, mut actions) =
+            (Shard::new(0, 1, None, ShardOptions::default()), Vec::new());
         let pair = store.read(&[&keys::record(0)]).unwrap().pairs.remove(0);
         let (stood, logged) = (pair.revision, Revision::NEVER);
         shard.see(StoredRecord::new(pair.value, stood), now, &mut actions);
@@ -310,7 +329,7 @@ mod tests {
         (WorkStep { begin, work }, told)
     }
 
-    /// Carries out what the shard has to do, but for what names a base: returns the ticket of that.
+    /// Carries out the shard's actions, except for the transaction that names a base. Returns the ticket of that.
     fn carried_out(
         (shard, store): (&mut Shard, &dyn Store),
         now: Instant,
@@ -341,7 +360,8 @@ mod tests {
     #[test]
     fn keys_are_listed_anew_after_a_base_of_which_it_is_unknown_whether_it_is_named() {
         let (store, now) = (written(), Instant::now());
-        let (mut shard, mut actions) = (Shard::new(0, 1, None, Tuning::default()), Vec::new());
+        let (mut shard, mut actions) =
+            (Shard::new(0, 1, None, ShardOptions::default()), Vec::new());
         let pair = store.read(&[&keys::record(0)]).unwrap().pairs.remove(0);
         let stored = StoredRecord::new(pair.value, pair.revision);
         shard.see(stored, now, &mut actions);
@@ -364,5 +384,38 @@ mod tests {
         let text = Box::new(MapReply::Text(b"text".to_vec()));
         let found = MapReply::Pair(b"key".as_slice().into(), text);
         assert_eq!(scanned.recv().unwrap(), Ok(vec![found]));
+    }
+
+    #[test]
+    fn what_is_deleted_gets_another_base_after_one_that_a_refused_write_ends() {
+        let (store, now) = (written(), Instant::now());
+        let (mut shard, mut actions) =
+            (Shard::new(0, 1, None, ShardOptions::default()), Vec::new());
+        let pair = store.read(&[&keys::record(0)]).unwrap().pairs.remove(0);
+        let stored = StoredRecord::new(pair.value, pair.revision);
+        shard.see(stored, now, &mut actions);
+        let put = || MapRequest::Put(b"key".as_slice().into(), b"text".to_vec());
+        for request in [put(), MapRequest::Delete(b"key".as_slice().into())] {
+            let (write, written) = step(Begin::Write(vec![request]));
+            shard.take(vec![write], now, &mut actions);
+            carried_out((&mut shard, &*store), now, std::mem::take(&mut actions));
+            assert_eq!(written.recv().unwrap(), Ok(vec![MapReply::Done]));
+        }
+        // Its parts are on their way. Other writes go on, because the store isn't known to be full.
+        shard.want_base(false, now, &mut Vec::new());
+        assert!(matches!(shard.base, Some((1, BaseProgress::Writes(_)))));
+        let (write, written) = step(Begin::Write(vec![put()]));
+        shard.take(vec![write], now, &mut actions);
+        let Some(Action::Submit(ticket, _)) = actions.pop() else {
+            panic!("nothing is written")
+        };
+        let full = Err(WriteError::Full("a test".to_owned()));
+        shard.on_outcome(ticket, full, now, &mut actions);
+        carried_out((&mut shard, &*store), now, std::mem::take(&mut actions));
+        assert!(matches!(written.recv().unwrap(), Err(NotDone::Full(_))));
+        assert_eq!(shard.base, None);
+        shard.begin_base(true, now, &mut actions);
+        let naming = carried_out((&mut shard, &*store), now, actions);
+        assert!(naming.is_some() && shard.makes_room());
     }
 }

@@ -1,6 +1,6 @@
 use std::time::{Duration, Instant};
 
-/// How long until the next base begins after one failed, at first, and at most: always twice as long.
+/// The first pause after a failed base, and the longest one. Each pause is twice as long as the one before.
 const FIRST_PAUSE: Duration = Duration::from_secs(1);
 const LAST_PAUSE: Duration = Duration::from_secs(64);
 
@@ -12,23 +12,23 @@ pub(super) struct BasePause {
 }
 
 impl BasePause {
-    /// Whether one may begin.
+    /// Returns whether a base may begin.
     pub(super) fn is_over(&self, now: Instant) -> bool {
         self.end.is_none_or(|it| now >= it)
     }
 
-    /// Whether the last one failed.
+    /// Returns whether the last one failed.
     pub(super) fn is_some(&self) -> bool {
         self.end.is_some()
     }
 
-    /// One failed, so none begins for a while.
+    /// Notes that a base failed, so none begins for a while.
     pub(super) fn begin(&mut self, now: Instant) {
         self.last = (2 * self.last).clamp(FIRST_PAUSE, LAST_PAUSE);
         self.end = Some(now + self.last);
     }
 
-    /// One was made, so the next may begin at once.
+    /// Notes that a base was made, so the next may begin at once.
     pub(super) fn end(&mut self) {
         *self = BasePause::default();
     }

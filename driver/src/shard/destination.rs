@@ -4,26 +4,26 @@ use crate::{Came, Elsewhere, NotDone};
 use durkenzo_store::Revision;
 use std::time::Instant;
 
-/// Where a run goes.
+/// The destination of a run.
 #[derive(Clone, Copy, Debug, PartialEq, Eq)]
 pub(super) enum RunDestination {
-    /// This process's servers are asked.
+    /// The servers of this process.
     Here,
     /// It waits until others have written or answered.
     Waits,
-    /// This server of another process is, to which it is forwarded so.
+    /// This server of another process, to which it is forwarded like this.
     Elsewhere(u16, Came),
-    /// To whoever sent it: he looks again who executes.
+    /// Its sender, who looks again which server executes.
     Back,
 }
 
 impl Shard {
-    /// The one server of this process, where it hasn't all.
+    /// Returns the only server of this process, unless it has all.
     pub(super) fn me(&self) -> Option<u16> {
         self.own.as_ref().map(|it| it.server())
     }
 
-    /// Whether requests can be given to the server.
+    /// Returns whether requests can be given to the server.
     pub(super) fn is_reached(&self, server: u16) -> bool {
         let is_there = self.own.as_ref().is_none_or(|own| {
             let is_own = own.server() == server;
@@ -32,12 +32,12 @@ impl Shard {
         !self.away.contains(&server) && is_there
     }
 
-    /// Whether another process has the name of this one's server, which is away then.
+    /// Returns whether another process has the name of this one's server. Then the server is away here.
     fn is_replaced(&self) -> bool {
         self.own.as_ref().is_some_and(|it| it.is_replaced())
     }
 
-    /// Where the run goes by the record, as it was seen last.
+    /// Returns the destination of the run by the record, as it was last seen.
     pub(super) fn destination_of(&self, run: &Run, now: Instant) -> RunDestination {
         let Some(me) = self.me() else {
             return RunDestination::Here;
@@ -80,7 +80,7 @@ impl Shard {
         }
     }
 
-    /// Hands over what other processes' servers are to do.
+    /// Hands over the runs that other processes' servers must do.
     pub(super) fn route(&mut self, now: Instant, actions: &mut Vec<Action>) {
         if self.own.is_none() {
             return;
@@ -90,7 +90,7 @@ impl Shard {
         }
     }
 
-    /// Hands over the run, or has it wait behind the others.
+    /// Hands over the run, or puts it behind the others to wait.
     pub(super) fn route_one(&mut self, mut run: Run, now: Instant, actions: &mut Vec<Action>) {
         match self.destination_of(&run, now) {
             RunDestination::Here | RunDestination::Waits => self.runs.push_back(run),
@@ -113,7 +113,7 @@ impl Shard {
         }
     }
 
-    /// Has the record be read where somebody has seen a later one.
+    /// Has the record read, if somebody has seen a later one.
     pub(super) fn look(&mut self, now: Instant, actions: &mut Vec<Action>) {
         let latest = self.runs.iter().map(|it| it.after).max();
         let is_behind = latest.unwrap_or(Revision::NEVER) > self.stored.revision();

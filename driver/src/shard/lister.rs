@@ -4,8 +4,8 @@ use crate::proved::Core;
 use crate::work::Begin;
 use crate::{CoreFault, Key, Range};
 
-/// The server that executes, while it lists keys for the steps of a round. Its map is that after all requests which are
-/// made, up to the head of its revision.
+/// The server that executes, while it lists keys for the steps of a round. Its map is the one after all requests that
+/// were made, up to the head at its revision.
 pub(crate) struct Lister {
     server: u16,
     core: Core,
@@ -14,7 +14,7 @@ pub(crate) struct Lister {
 }
 
 impl Lister {
-    /// Lists keys at this server, if it is ready; else gives its state back.
+    /// Makes the lister with this server, if the server is ready. Otherwise gives its state back.
     pub(super) fn new(server: u16, state: ReplicaState) -> Result<Lister, ReplicaState> {
         match state {
             ReplicaState::Ready(core, at) => Ok(Lister {
@@ -30,14 +30,14 @@ impl Lister {
         }
     }
 
-    /// Returns the server, its state, and whether a call failed. After one that failed, the server has to read the
-    /// shard again.
+    /// Returns the server, its state, and whether a call failed. If one failed, the server must read the shard again.
     pub(super) fn end(self) -> (u16, ReplicaState, bool) {
         let state = ReplicaState::Ready(self.core, self.at);
         (self.server, state, self.has_failed)
     }
 
-    /// Returns what a step lists that begins so; nothing if the step lists no keys, or a call failed.
+    /// Returns the list for a step that begins like this. Returns nothing if the step lists no keys, or if a call
+    /// failed.
     pub(crate) fn list(&mut self, begin: &Begin) -> Option<KeyList> {
         let found = match begin {
             Begin::Scan(range) => self.keys(range).map(Found::Pairs),

@@ -14,7 +14,7 @@ use crate::recovery::{LogSize, Recovered, RecoveryFault, Unrecovered};
 use crate::round::{Round, MOST_BYTES};
 use crate::run::{DecidedChange, Origin, Run};
 use crate::work::{NotDone, WorkStep};
-use crate::{Came, Elsewhere, Member, StoredRecord, Tuning};
+use crate::{Came, Elsewhere, Member, Ownership, ShardOptions, StoredRecord};
 pub(crate) use action::{Action, Ticket};
 use base::{BaseDemand, BaseProgress};
 use base_pause::BasePause;
@@ -27,66 +27,68 @@ use std::collections::{BTreeMap, BTreeSet, VecDeque};
 use std::sync::Arc;
 use std::time::{Duration, Instant};
 
-/// A shard, with the proved servers that this process runs of it. The servers decide, in rounds; the shard says what is
-/// to be sent, read and told, by [`Action`]s. It does no I/O.
+/// A shard, with the proved servers that this process runs for it. The servers decide, in rounds. The shard says with
+/// [`Action`]s what must be sent, read and told. It does no I/O.
 pub(crate) struct Shard {
     number: u16,
-    /// The number of this process, which its clients' numbers begin with.
+    /// The number of this process, with which its clients' numbers begin.
     process: u64,
-    /// The one server of this process, where it hasn't all.
+    /// The only server of this process, unless it has all.
     own: Option<Arc<Member>>,
     /// Whether another number is taken for the process.
     renews: bool,
-    /// Whether requests were refused as too many clients are kept.
+    /// Whether requests were refused because too many clients are kept.
     is_crowded: bool,
-    /// When the record was read last because somebody had seen a later one.
+    /// When the record was last read because somebody had seen a later one.
     looked: Option<Instant>,
-    /// The revision of the log's head as it was known last.
+    /// The revision of the log's head, as it was last known.
     logged: Revision,
-    /// The revisions that a transaction compared whose outcome isn't known.
+    /// The revisions that a transaction with an unknown outcome compared.
     unknown_at: Option<Revisions>,
     stored: StoredRecord,
+    /// The records by which its owner was seen to be the owner.
+    ownership: Ownership,
     replicas: BTreeMap<u16, ReplicaState>,
-    /// What the store told when a server read the shard last, where it gave nothing.
+    /// The store's message when a server last read the shard, if the store gave nothing.
     unanswered: Option<String>,
-    /// Servers that no request reaches.
+    /// The servers that no request reaches.
     away: BTreeSet<u16>,
     runs: VecDeque<Run>,
     decided: VecDeque<DecidedChange>,
     round: Option<Round>,
-    /// How many bytes several steps write together at most, as far as the store takes that.
+    /// The most bytes that several steps write together, as far as the store takes that.
     most_bytes: usize,
-    /// Whether the store took no writes: what writes nothing, or only deletes, goes first then.
+    /// Whether the store took no writes. Then steps that write nothing, or only delete, go first.
     is_unwritten: bool,
     rounds: u64,
     runs_begun: u64,
     tickets: u64,
-    /// How long the log is behind its base.
+    /// The length of the log behind its base.
     log: LogSize,
-    /// The server that makes a base, and how far it is.
+    /// The server that makes a base, and its progress.
     base: Option<(u16, BaseProgress)>,
-    /// How long the log was when that began.
+    /// The length of the log when that base began.
     log_before: LogSize,
-    /// How long none begins after one failed.
+    /// The pause before the next base after one failed.
     base_pause: BasePause,
-    /// What the next one is wished for.
+    /// The demand for the next one.
     base_demand: BaseDemand,
-    /// How often it is looked for what is behind a base.
+    /// How many sweeps for replaced keys are under way.
     sweeps: usize,
-    tuning: Tuning,
+    shard_options: ShardOptions,
     lease_reads: LeaseReads,
-    /// How many hold it, and who is told once nothing is under way.
+    /// How many callers hold the shard, and whom to tell once nothing is under way.
     holds: usize,
     holders: Vec<Box<dyn FnOnce() + Send>>,
 }
 
-/// How long a shard isn't read again after that failed.
+/// The pause before a shard is read again after that failed.
 const READ_AGAIN: Duration = Duration::from_millis(100);
-/// How many runs wait at most before further ones are refused. A connection has at most one at each shard.
+/// The most runs that wait before further ones are refused. A connection has at most one at each shard.
 const MOST_RUNS: usize = 32_768;
-/// How many times longer work waits while its shard is read.
+/// By this factor, work waits longer while its shard is read.
 const READING_WAITS: u32 = 4;
-/// How long steps wait that came back before they are handed over again.
+/// How long returned steps wait until they are handed over again.
 const PAUSE: Duration = Duration::from_millis(10);
 
 impl Shard {
@@ -94,7 +96,7 @@ impl Shard {
         number: u16,
         process: u64,
         own: Option<Arc<Member>>,
-        tuning: Tuning,
+        shard_options: ShardOptions,
     ) -> Shard {
         Shard {
             number,
@@ -106,6 +108,7 @@ impl Shard {
             logged: Revision::NEVER,
             unknown_at: None,
             stored: StoredRecord::vacant(),
+            ownership: Ownership::default(),
             replicas: BTreeMap::new(),
             unanswered: None,
             away: BTreeSet::new(),
@@ -123,19 +126,36 @@ impl Shard {
             base_pause: BasePause::default(),
             base_demand: BaseDemand::default(),
             sweeps: 0,
-            tuning,
+            shard_options,
             lease_reads: LeaseReads::default(),
             holds: 0,
             holders: Vec::new(),
         }
     }
 
-    /// The record, as it was seen last.
+    /// Returns the record, as it was last seen.
     pub(crate) fn stored(&self) -> &StoredRecord {
         &self.stored
     }
 
-    /// Of how many clients the last request is kept by the server here that keeps most.
+    /// Returns the records by which the owner was seen to be the owner, up to the record that was seen last.
+    pub(crate) fn ownership(&self) -> Ownership {
+        self.ownership
+    }
+
+    /// Notes the record that was seen last.
+    fn store(&mut self, stored: StoredRecord) {
+        let record = stored.record();
+        self.ownership = record.map_or_else(Ownership::default, |it| self.ownership.seen(&it));
+        self.stored = stored;
+    }
+
+    /// Returns whether requests wait here because the store gave nothing when a server last read the shard.
+    pub(crate) fn waits_for_store(&self) -> bool {
+        self.unanswered.is_some() && self.is_unread() && !self.runs.is_empty()
+    }
+
+    /// Returns how many clients' last requests are kept, by the server here that keeps most.
     pub(crate) fn clients(&mut self) -> usize {
         let cores = self
             .replicas
@@ -146,7 +166,7 @@ impl Shard {
                 | ReplicaState::Ready(core, _)
                 | ReplicaState::Sent(core, ..) => Some(core),
             });
-        // One that can't tell is closed at its next step.
+        // A server that can't tell is closed at its next step.
         cores.filter_map(|it| it.clients().ok()).max().unwrap_or(0)
     }
 
@@ -197,7 +217,7 @@ impl Shard {
         }
     }
 
-    /// Takes back steps that were to go elsewhere, which wait for a record of this revision.
+    /// Takes back steps that were to go to another server. They wait for a record at this revision.
     pub(crate) fn take_back(
         &mut self,
         steps: Vec<WorkStep>,
@@ -219,20 +239,20 @@ impl Shard {
         });
     }
 
-    /// The first number of a process by which it still has requests.
+    /// Returns the first number of a process by which the shard still has requests.
     pub(crate) fn first_process(&self) -> u64 {
         let round = self.round.as_ref().map_or(self.process, |it| it.process);
         round.min(self.process)
     }
 
-    /// Has later requests have clients of this number of a process.
+    /// Makes later requests have clients with this number of the process.
     pub(crate) fn renew(&mut self, process: u64, now: Instant, actions: &mut Vec<Action>) {
         self.process = self.process.max(process);
         self.renews = false;
         self.go_on(now, actions);
     }
 
-    /// Has requests reach the server, or not. One that they don't reach forgets what it read.
+    /// Sets whether requests reach the server. If they don't, the server forgets what it has read.
     pub(crate) fn set_away(
         &mut self,
         server: u16,
@@ -248,7 +268,7 @@ impl Shard {
         self.go_on(now, actions);
     }
 
-    /// Has no further transaction be sent until it is released, and tells once none is under way.
+    /// Lets no further transaction be sent until the shard is released, and tells once none is under way.
     pub(crate) fn hold(&mut self, holder: Box<dyn FnOnce() + Send>, actions: &mut Vec<Action>) {
         self.holds += 1;
         self.holders.push(holder);
@@ -261,19 +281,19 @@ impl Shard {
         self.go_on(now, actions);
     }
 
-    /// Sees the record, by the watch or where it was read.
+    /// Processes the record that the watch, or a reading, has seen.
     pub(crate) fn see(&mut self, stored: StoredRecord, now: Instant, actions: &mut Vec<Action>) {
         if stored.revision() <= self.stored.revision() {
             return;
         }
-        self.stored = stored;
+        self.store(stored);
         self.follow_record();
         self.read_ahead(now, actions);
         self.go_on(now, actions);
     }
 
-    /// Has this process's server read the shard if it comes next, before anybody asks it: when it executes, it lacks
-    /// only what was written since.
+    /// Makes this process's server read the shard if the server is the next owner, before anybody asks it. So when it
+    /// executes, it lacks only the batches that were written since.
     fn read_ahead(&mut self, now: Instant, actions: &mut Vec<Action>) {
         let stand = self.stored.record().map(|it| it.stand);
         let next = match stand {
@@ -288,15 +308,16 @@ impl Shard {
         }
     }
 
-    /// Has each server that is ready go by the last record, and lets those go that it doesn't name.
+    /// Makes each ready server use the last record, and drops those that it doesn't name.
     pub(super) fn follow_record(&mut self) {
         let (stored, away, round) = (&self.stored, &self.away, &self.round);
-        // By what it reads it is found out what became of the round.
+        // This server's reading shows the outcome of the round.
         let finds_out = round.as_ref().is_some_and(|it| it.may_be_made);
         let stays = |it: &u16| finds_out || stored.names(*it) && !away.contains(it);
         self.replicas
             .retain(|server, replica| matches!(replica, ReplicaState::Sent(..)) || stays(server));
-        // Until the record changed, what is unknown may be made, and the owner before may write: that is read.
+        // Until the record changed, the transaction with an unknown outcome may be made, and the earlier owner may
+        // write. That is read.
         let is_unknown = self.unknown_at.is_some();
         let next = stored.record().and_then(|it| match it.stand {
             Stand::Forwarding { next, .. } => Some(next),
@@ -329,15 +350,14 @@ impl Shard {
                 false => self.round.iter_mut().for_each(|it| it.take_back(server)),
             }
         }
-        // A server that reads again knows nothing of the base that it made.
-        let reads = |it: u16| {
-            let state = self.replicas.get(&it);
-            state.is_none_or(|it| it.reads_from().is_some())
-        };
-        self.base = self.base.filter(|it| !reads(it.0));
+        // A server that reads again knows nothing of the base that it was making.
+        let maker = self.base.and_then(|it| self.replicas.get(&it.0));
+        let reads = maker.is_none_or(|it| it.reads_from().is_some());
+        self.forget_base(|_| reads);
     }
 
-    /// The shard was read for a server. What was asked for before the server forgot it is too old.
+    /// Notes that the shard was read for a server. The result of a reading from before the server was forgotten is too
+    /// old.
     pub(crate) fn on_read(
         &mut self,
         ticket: Ticket,
@@ -364,7 +384,7 @@ impl Shard {
         self.go_on(now, actions);
     }
 
-    /// Has the server read again later, or ends what waits if that wouldn't help.
+    /// Makes the server read again later, or ends the waiting work if that wouldn't help.
     fn on_unread(
         &mut self,
         server: u16,
@@ -396,7 +416,7 @@ impl Shard {
         }
     }
 
-    /// Makes the server ready by what it read.
+    /// Makes the server ready with the result of its reading.
     fn make_ready(&mut self, server: u16, read: Recovered) {
         let Recovered {
             core,
@@ -404,23 +424,23 @@ impl Shard {
             logged,
             log,
         } = read;
-        // What was read may have deletions.
+        // The batches that were read may contain deletions.
         self.base_demand.has_freed |= log.batches_read > 0;
         self.log.note(log);
         self.unanswered = None;
         let stood = stored.revision();
         let at = Revisions { stood, logged };
         self.replicas.insert(server, ReplicaState::Ready(core, at));
-        // What was sent by other revisions can't be made any more, and what was made is read.
+        // Transactions that compare other revisions can't be made any more, and those that were made are read.
         self.unknown_at = self.unknown_at.filter(|it| *it == at);
         self.note_head(logged);
         if stood > self.stored.revision() {
-            self.stored = stored;
+            self.store(stored);
         }
         self.follow_record();
     }
 
-    /// Refuses what has waited for so long, where no transaction is under way for it.
+    /// Refuses work that has waited for so long, if no transaction is under way for it.
     pub(crate) fn tick(&mut self, now: Instant, wait: Duration, actions: &mut Vec<Action>) {
         let is_sent = self.is_sent();
         let is_idle = self.runs.is_empty() && self.decided.is_empty() && self.round.is_none();
@@ -437,7 +457,7 @@ impl Shard {
             .any(|it| matches!(it, ReplicaState::Reading(_)));
         let why = self.why_not();
         let may_soon = matches!(why, NotDone::Busy | NotDone::Unread | NotDone::NotMade(_));
-        // Whoever reads the shard will soon execute.
+        // Another server reads the shard, and will soon execute.
         let wait = match is_reading && may_soon {
             true => READING_WAITS * wait,
             false => wait,
@@ -445,7 +465,7 @@ impl Shard {
         if self.round.as_ref().is_some_and(|it| now >= it.since + wait) {
             self.give_up_round(&why, actions);
         }
-        // What another process is to do is refused by who can't ask it, and says why.
+        // Work for another process is refused by the part that can't reach that process, and that says why.
         self.route(now, actions);
         let (late, runs) = std::mem::take(&mut self.runs)
             .into_iter()
@@ -458,13 +478,14 @@ impl Shard {
         self.go_on(now, actions);
     }
 
-    /// Whether something waits that a later tick may go on with, or refuse, if the store is full or isn't.
+    /// Returns whether something waits that a later tick may go on with or refuse, depending on whether the store is
+    /// full.
     pub(crate) fn has_waiting(&self, is_full: bool) -> bool {
         let is_idle = self.runs.is_empty() && self.decided.is_empty() && self.round.is_none();
         !is_idle || self.is_base_due(is_full)
     }
 
-    /// Why nobody executes.
+    /// Returns why no server executes.
     fn why_not(&self) -> NotDone {
         let record = self.stored.record();
         let owner = record.and_then(|it| it.owner());
@@ -489,13 +510,13 @@ impl Shard {
         }
     }
 
-    /// Whether a server is still to read the shard.
+    /// Returns whether a server must still read the shard.
     fn is_unread(&self) -> bool {
         let mut replicas = self.replicas.values();
         replicas.any(|it| it.reads_from().is_some() || matches!(it, ReplicaState::Reading(_)))
     }
 
-    /// Refuses all that waits.
+    /// Refuses all waiting work.
     pub(crate) fn give_up(&mut self, why: &NotDone, actions: &mut Vec<Action>) {
         self.give_up_round(why, actions);
         for step in self.runs.drain(..).flat_map(|it| it.steps) {
@@ -503,7 +524,8 @@ impl Shard {
         }
     }
 
-    /// Refuses what is in the round. What waits at a server won't be sent any more, and what was sent may be made.
+    /// Refuses the work in the round. Work that waits at a server won't be sent any more, and work that was sent may be
+    /// made.
     pub(super) fn give_up_round(&mut self, why: &NotDone, actions: &mut Vec<Action>) {
         for it in std::mem::take(&mut self.decided) {
             actions.push(Action::Tell(it.step.work, Err(why.clone())));

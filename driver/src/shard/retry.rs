@@ -6,12 +6,12 @@ use crate::{NotDone, WorkStep};
 use durkenzo_store::Revision;
 use std::collections::{BTreeMap, VecDeque};
 
-/// Steps that begin anew, of each run in their order.
+/// Steps that begin again, in the order of each run.
 type Retries = BTreeMap<u64, (Origin, VecDeque<WorkStep>)>;
 
 impl Shard {
-    /// Notes the head of the log as it was read. Where it isn't as this process left it, somebody else has written
-    /// since changes were decided: they read again.
+    /// Notes the head of the log as it was read. If it isn't as this process left it, somebody else has written since
+    /// changes were decided, so these changes read again.
     pub(super) fn note_head(&mut self, logged: Revision) {
         if logged <= self.logged {
             return;
@@ -25,8 +25,8 @@ impl Shard {
         self.begin_again(again);
     }
 
-    /// Aborts the round. Nothing of it is made or will be, except what has its reply: that is told. All else begins
-    /// anew, or ends with its reason.
+    /// Aborts the round. Nothing of it is made or will be, except requests with replies: these are told. All others
+    /// begin again, or end with their reasons.
     pub(super) fn abort_round(&mut self, actions: &mut Vec<Action>) {
         let Some(round) = self.round.take() else {
             return;
@@ -45,13 +45,13 @@ impl Shard {
         self.begin_again(again);
     }
 
-    /// Drops what nobody waits for any more.
+    /// Drops the steps for which nobody waits any more.
     pub(crate) fn drop_unwanted(&mut self, actions: &mut Vec<Action>) {
         self.abort_if_unwanted(actions);
         self.runs.retain_mut(Run::keep_wanted);
     }
 
-    /// Aborts the round if nobody waits any more for some of it, unless something of it may be made.
+    /// Aborts the round if nobody waits any more for a part of it, unless something of it may have been made.
     pub(super) fn abort_if_unwanted(&mut self, actions: &mut Vec<Action>) {
         let may_be_made = self.is_sent() || self.unknown_at.is_some();
         if !may_be_made && self.round.as_ref().is_some_and(Round::has_unwanted) {
@@ -59,7 +59,7 @@ impl Shard {
         }
     }
 
-    /// Has nothing wait at the server any more.
+    /// Takes everything back that waits at the server.
     fn forget_waiting(&mut self, server: u16) {
         let stored = &self.stored;
         if let Some(ReplicaState::Ready(core, at)) = self.replicas.get_mut(&server) {
@@ -70,7 +70,7 @@ impl Shard {
         }
     }
 
-    /// Has these steps come before what else waits of their runs.
+    /// Puts these steps before the other waiting steps of their runs.
     fn begin_again(&mut self, again: Retries) {
         for (number, (origin, mut steps)) in again.into_iter().rev() {
             match self.runs.iter_mut().find(|it| it.origin.run == number) {
@@ -89,7 +89,7 @@ impl Shard {
         }
     }
 
-    /// Ends the round, as it isn't known what became of it.
+    /// Ends the round with an unknown outcome.
     pub(super) fn end_unknown(&mut self, actions: &mut Vec<Action>) {
         self.round.iter_mut().for_each(|it| it.may_be_made = true);
         self.give_up_round(

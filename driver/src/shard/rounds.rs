@@ -9,31 +9,31 @@ use durkenzo_store::Revision;
 use std::collections::VecDeque;
 use std::time::Instant;
 
-/// What the servers decided of a request.
+/// The servers' verdict about a request.
 enum RequestVerdict {
     Replied(MapReply),
     Waits(u16),
-    /// Nobody executes it now.
+    /// No server executes it now.
     Nobody,
-    /// This server of another process executes it, to which it was then forwarded so often.
+    /// This server of another process executes it, and it was then forwarded so often.
     Leaves(u16, u8),
-    /// Another server executes it, to which this one doesn't forward it.
+    /// Another server executes it, to which this server doesn't forward it.
     Back,
-    /// A later number of its client is made.
+    /// A later number of its client was made.
     Passed,
-    /// Its client is forgotten.
+    /// Its client was forgotten.
     Forgotten,
     /// The shard keeps as many clients as it may.
     Crowded,
 }
 
-/// What the servers decided of a round.
+/// The servers' verdict about a round.
 enum RoundVerdict {
     /// Each request has its reply, or waits at a server.
     Whole,
     /// Some of it goes no further here, so the round is aborted.
     Aborts,
-    /// Nobody executes it now.
+    /// No server executes it now.
     Nobody,
     /// Its outcome isn't known, and never will be.
     Unknown,
@@ -43,7 +43,7 @@ enum RoundVerdict {
 type ForwardedRuns = Vec<(u64, u16, u8)>;
 
 impl Shard {
-    /// Goes on as far as that is possible now: ends the round and forms the next, has servers decide, and sends.
+    /// Goes on as far as possible now: ends the round and forms the next one, has servers decide, and sends.
     pub(super) fn go_on(&mut self, now: Instant, actions: &mut Vec<Action>) {
         loop {
             if self.round.as_ref().is_some_and(Round::is_replied) {
@@ -77,13 +77,14 @@ impl Shard {
         }
     }
 
-    /// Forms the next round of what waits here; returns whether there is one.
+    /// Forms the next round of waiting steps. Returns whether there is one.
     fn form(&mut self, now: Instant) -> bool {
         if self.renews || self.decided.is_empty() && self.runs.is_empty() {
             return false;
         }
         self.rounds += 1;
-        // What needs no transaction doesn't wait for what does, nor what takes no room for what couldn't be written.
+        // Steps that need no transaction don't wait for steps that do. Steps that take no room don't wait for steps
+        // that couldn't be written.
         let makes_room = self.makes_room();
         let is_scant = std::mem::take(&mut self.is_unwritten) || makes_room;
         let first = match (self.is_leased(), is_scant) {
@@ -100,7 +101,7 @@ impl Shard {
         is_formed
     }
 
-    /// A round with what waits here, as far as it takes that.
+    /// Returns a round of waiting steps, as far as the round takes them.
     fn filled(&mut self, takes: StepFilter, now: Instant) -> Round {
         let mut round = Round::new(self.rounds, self.process, self.most_bytes, now);
         round.filter = takes;
@@ -109,9 +110,9 @@ impl Shard {
         round
     }
 
-    /// Fills the round with what waits here. Each run gives its share in turn, until none has more or the round is
-    /// full: who asks for much doesn't have others wait behind all of that. The run at which the round was full comes
-    /// first in the next one.
+    /// Fills the round with waiting steps. Each run gives its share in turn, until none has more or the round is full,
+    /// so that nobody waits behind all requests of a client that asks for much. The run at which the round was full
+    /// comes first in the next round.
     fn fill(&mut self, round: &mut Round, now: Instant) {
         let mut runs = std::mem::take(&mut self.runs);
         let mut lister = self.take_lister();
@@ -137,8 +138,8 @@ impl Shard {
         }
     }
 
-    /// Has the server of the lister be among the others again. If a call failed, the server reads the shard again, and
-    /// the round that it listed for lists anew.
+    /// Puts the lister's server back among the others. If a call failed, the server reads the shard again, and the
+    /// round for which it listed lists again.
     fn end_lister(&mut self, lister: Lister, round: &mut Round) {
         let (server, state, has_failed) = lister.end();
         self.replicas.insert(server, state);
@@ -148,7 +149,7 @@ impl Shard {
         }
     }
 
-    /// Has the server that executes list keys, if it is ready. It isn't among the others until it ends that.
+    /// Makes the executing server the lister, if it is ready. It isn't among the others until the listing ends.
     fn take_lister(&mut self) -> Option<Lister> {
         let server = self.stored.record()?.executor()?;
         let state = self.replicas.remove(&server)?;
@@ -161,7 +162,7 @@ impl Shard {
         }
     }
 
-    /// The revision of the head that the server goes by, where it is ready.
+    /// Returns the revision of the head that the server has, if it is ready.
     fn logged_of(&self, server: u16) -> Option<Revision> {
         match self.replicas.get(&server)? {
             ReplicaState::Ready(_, at) => Some(at.logged),
@@ -172,8 +173,8 @@ impl Shard {
         }
     }
 
-    /// Has servers decide all requests of the round that wait nowhere, and sends what they send; or says which server
-    /// is to be read again.
+    /// Has servers decide all requests of the round that wait nowhere, and sends their transactions; or returns the
+    /// server that must be read again.
     fn decide(&mut self, now: Instant, actions: &mut Vec<Action>) -> Result<(), u16> {
         let Some(mut round) = self.round.take() else {
             return Ok(());
@@ -182,7 +183,8 @@ impl Shard {
         let judged = self.judge(&mut round, &mut leaving, now, actions);
         self.round = Some(round);
         match judged? {
-            // What is written together is sent together: nothing, while some of it is with nobody.
+            // Steps that are written together are sent together. So nothing is sent as long as no server executes some
+            // of them.
             RoundVerdict::Nobody => return Ok(()),
             RoundVerdict::Unknown => {
                 self.end_unknown(actions);
@@ -199,7 +201,7 @@ impl Shard {
         ready.into_iter().try_for_each(|it| self.send(it, actions))
     }
 
-    /// Notes where runs go that this process's server forwards.
+    /// Notes the destinations of runs that this process's server forwards.
     fn note_forwarded(&mut self, leaving: &ForwardedRuns) {
         let revision = self.stored.revision();
         for run in &mut self.runs {
@@ -210,7 +212,7 @@ impl Shard {
         }
     }
 
-    /// Judges the round by what is found of its requests.
+    /// Judges the round by the verdicts about its requests.
     fn judge(
         &mut self,
         round: &mut Round,
@@ -236,7 +238,7 @@ impl Shard {
             return Ok(RoundVerdict::Nobody);
         }
         if round.may_be_made && self.unknown_at.is_some() {
-            // A copy that comes late may be made yet: it goes on as it was sent.
+            // A copy that comes late may still be made, so the round goes on as it was sent.
             return match found {
                 RoundVerdict::Whole => Ok(found),
                 RoundVerdict::Aborts | RoundVerdict::Nobody | RoundVerdict::Unknown => {
@@ -280,7 +282,8 @@ impl Shard {
         Ok(judged)
     }
 
-    /// Notes what was found of the request in this place; returns how the whole round is judged, where that tells.
+    /// Notes the verdict about the request in this place. Returns the verdict about the whole round, if this decides
+    /// it.
     fn note_verdict(
         &mut self,
         round: &mut Round,
@@ -301,7 +304,7 @@ impl Shard {
             RequestVerdict::Back if origin.is_some_and(|it| it.came.is_some()) => {
                 round.end_run(run, &NotDone::Moved(self.stored.revision()));
             }
-            // What a client gave here goes to the owner.
+            // Steps that a client gave here go to the owner.
             RequestVerdict::Back => {}
             RequestVerdict::Passed if is_numbered => round.end_step(step, NotDone::Passed),
             RequestVerdict::Crowded if is_numbered => round.end_step(step, NotDone::TooManyClients),
@@ -321,7 +324,7 @@ impl Shard {
         None
     }
 
-    /// Has the server decide, and where all are of this process whoever it forwards to.
+    /// Has the server decide; if all servers are in this process, also the server to which it forwards.
     fn decide_one(
         &mut self,
         round: &Round,
@@ -367,7 +370,8 @@ impl Shard {
         }
     }
 
-    /// The server, if it can decide now. One that hasn't read the shard, or lacks some of its log, is to read that.
+    /// Returns the server, if it can decide now. A server that hasn't read the shard, or lacks a part of its log, must
+    /// read that.
     pub(super) fn ready_core(
         &mut self,
         server: u16,
@@ -401,7 +405,7 @@ impl Shard {
         }
     }
 
-    /// What a refusal means: nobody executes now, or a server of another process does.
+    /// Returns the meaning of a refusal: either no server executes now, or a server of another process does.
     fn refused(&self) -> RequestVerdict {
         let owner = self.stored.record().and_then(|it| it.owner());
         match self.me().zip(owner) {
@@ -410,7 +414,7 @@ impl Shard {
         }
     }
 
-    /// The number of the first process whose clients aren't forgotten.
+    /// Returns the number of the first process whose clients must not be forgotten.
     fn lowest(&self) -> u64 {
         let own = self.own.as_ref();
         own.map_or(self.process, |it| it.lowest())

@@ -17,7 +17,7 @@ impl Shard {
             .any(|it| matches!(it, ReplicaState::Sent(..)))
     }
 
-    /// Sends what waits at the server.
+    /// Sends the transaction that waits at the server.
     pub(super) fn send(&mut self, server: u16, actions: &mut Vec<Action>) -> Result<(), u16> {
         let Some(ReplicaState::Ready(core, _)) = self.replicas.get_mut(&server) else {
             return Ok(());
@@ -49,7 +49,7 @@ impl Shard {
                 self.log.bytes = self.log.bytes.saturating_sub(self.log_before.bytes);
             }
         }
-        // What only names a base compares the head alone.
+        // A transaction that only names a base compares only the head.
         self.note_sent(payload != TransactionPayload::Base);
         let ticket = Ticket { server, number };
         actions.push(Action::Submit(ticket, self.transaction(sent)));
@@ -64,11 +64,11 @@ impl Shard {
         }
     }
 
-    /// The transaction of what a server sends.
+    /// Returns the transaction that a server sends.
     fn transaction(&self, sent: ServerTransaction) -> Transaction {
         let (record, head) = (keys::record(self.number), keys::head(self.number));
         let mut transaction = Transaction::new().compare(head.clone(), sent.logged);
-        // What only names a base compares the head alone.
+        // A transaction that only names a base compares only the head.
         if sent.number > 0 || sent.head.is_empty() {
             transaction = transaction.compare(record, sent.stood);
         }
@@ -78,14 +78,14 @@ impl Shard {
         if sent.number > 0 {
             transaction = transaction.put(keys::batch(self.number, sent.number), sent.batch);
         }
-        // A base makes room once it is named, and so do deletions once a base stands for them.
+        // A base makes room once it is named, and deletions do once a base replaces their batches.
         match sent.number == 0 || self.round.as_ref().is_some_and(Round::frees) {
             true => transaction.with_kept_room(),
             false => transaction,
         }
     }
 
-    /// Says what became of a transaction.
+    /// Processes the outcome of a transaction.
     pub(crate) fn on_outcome(
         &mut self,
         ticket: Ticket,
@@ -129,7 +129,7 @@ impl Shard {
         self.go_on(now, actions);
     }
 
-    /// Has the server go on from its transaction, which was sent then and made at this revision.
+    /// Makes the server go on from its transaction, which was sent then and made at this revision.
     fn on_sent_made(
         &mut self,
         ticket: Ticket,
@@ -139,7 +139,7 @@ impl Shard {
     ) {
         let server = ticket.server;
         if self.on_made(&mut core, revision).is_err() {
-            // It was made: a server that reads anew tells that.
+            // It was made. A server that reads again tells that.
             self.note_may_be_made(at, payload);
             return self.read_again(server);
         }
@@ -147,21 +147,20 @@ impl Shard {
             at.logged = revision;
             self.base_demand.has_freed |= self.round.as_ref().is_some_and(Round::frees);
             self.logged = self.logged.max(revision);
-            // Copies that come late compare what was there before.
+            // Copies that come late compare the earlier state.
             self.unknown_at = None;
         }
         self.lease_reads.note_held(at, sent_at);
         self.replicas.insert(server, ReplicaState::Ready(core, at));
         self.end_failed_base(server);
         if self.base == Some((server, BaseProgress::Named(ticket.number))) {
-            self.base_pause.end();
-            self.base = None;
+            self.end_base();
             self.sweeps += 1;
             actions.push(Action::Sweep(server));
         }
     }
 
-    /// Notes the answers of what was made, and returns how many they are.
+    /// Notes the answers of the requests that were made, and returns how many there are.
     pub(super) fn on_made(
         &mut self,
         core: &mut Core,
@@ -180,17 +179,17 @@ impl Shard {
         Ok(count)
     }
 
-    /// Has the server forget what it read. What it held is to be decided again.
+    /// Makes the server forget what it has read. Requests that it held must be decided again.
     pub(super) fn read_again(&mut self, server: u16) {
         self.begin_anew(server, ReplicaState::Unread(None));
     }
 
-    /// Has the server whose transaction wasn't made, or isn't known to be, read what it lacks of the log.
+    /// Makes the server read the batches that it lacks, because its transaction wasn't made, or isn't known to be made.
     fn lose(&mut self, server: u16, core: Core) {
         self.begin_anew(server, ReplicaState::lost(core));
     }
 
-    /// Has the server read what it lacks of the log, if it decides now. What it held is to be decided again.
+    /// Makes the server read the batches that it lacks, if it decides now. Requests that it held must be decided again.
     pub(super) fn fall_behind(&mut self, server: u16) {
         match self.replicas.remove(&server) {
             Some(ReplicaState::Ready(core, _)) => self.lose(server, core),
@@ -198,14 +197,16 @@ impl Shard {
         }
     }
 
-    /// Has the server read, from where this state says. What it held is to be decided again, and its base is forgotten.
+    /// Makes the server read, from the position in this state. Requests that it held must be decided again, and its
+    /// base is forgotten.
     fn begin_anew(&mut self, server: u16, state: ReplicaState) {
-        self.base = self.base.filter(|it| it.0 != server);
+        self.forget_base(|it| it == server);
         self.replicas.insert(server, state);
         self.round.iter_mut().for_each(|it| it.take_back(server));
     }
 
-    /// A batch that compared so may be made: what the server reads of the log tells whether the round with it is.
+    /// Notes that a batch with these compares may be made. The batches that the server reads tell whether its round was
+    /// made.
     fn note_may_be_made(&mut self, at: Revisions, payload: TransactionPayload) {
         let TransactionPayload::Batch(number) = payload else {
             return;
@@ -215,8 +216,8 @@ impl Shard {
         round.into_iter().for_each(|it| it.may_be_made = true);
     }
 
-    /// The store says that the transaction won't be made: nothing of the round is. Where it takes others, only what
-    /// was to be written ends so.
+    /// Handles the store's answer that the transaction won't be made: nothing of the round is. If the store takes other
+    /// transactions, only the writes end with this error.
     fn refused_by_store(&mut self, error: &WriteError, actions: &mut Vec<Action>) {
         let told = error.to_string();
         let why = match error {
@@ -244,7 +245,8 @@ impl Shard {
         }
     }
 
-    /// Has later rounds write less together, where several steps of this one did and nothing of it may be made.
+    /// Makes later rounds write less together, if several steps of this one wrote and nothing of it may be made.
+    /// Returns whether it did.
     fn may_halve(&mut self) -> bool {
         let round = self.round.as_ref().filter(|it| !it.may_be_made);
         let bytes = round.and_then(Round::bytes_of_several);
@@ -257,7 +259,7 @@ impl Shard {
         }
     }
 
-    /// Ends what was to be written of the round; all else begins anew, first of all.
+    /// Ends the writes of the round. Everything else begins again, before all other work.
     fn end_writes(&mut self, why: &NotDone, actions: &mut Vec<Action>) {
         let is_sent = self.is_sent();
         let ends = self.round.as_mut().filter(|_| !is_sent).is_some_and(|it| {
@@ -276,7 +278,7 @@ impl Shard {
     }
 }
 
-/// Says that the store has ended, if this error means that.
+/// Reports that the store has ended, if this error means that.
 fn note_ended(error: &WriteError, actions: &mut Vec<Action>) {
     if matches!(error, WriteError::Stopped | WriteError::Unreachable(_)) {
         actions.push(Action::StoreEnded(error.to_string()));

@@ -1,10 +1,10 @@
-//! Processes of one server each over one store, in one process: what goes from one to another goes by a call.
+//! Processes with one server each over one store, in one process. Messages between them are calls.
 use super::handing::{Handed, Handing};
 use super::{ask, Decide, Told};
 use durkenzo_driver::{
     Acks, Addresses, Begin, CommandFault, ControlCommand, Durable, DurableControl, Elsewhere,
-    MapReply, MapRequest, Member, Next, NotDone, Own, Reads, Refused, Tuning, Work, WorkOutcome,
-    WorkStep,
+    MapReply, MapRequest, Member, Next, NotDone, Own, Reads, Refused, ShardOptions, Work,
+    WorkOutcome, WorkStep,
 };
 use durkenzo_store::{
     Done, LeaseError, LeaseId, ReadError, Reading, Store, Transaction, Watch, Watcher, WriteError,
@@ -16,21 +16,21 @@ use std::sync::{Arc, Mutex, Weak};
 use std::thread;
 use std::time::{Duration, Instant};
 
-/// How long leases are: so long that a process loses none on a machine that is busy.
+/// The length of leases, so long that a process loses none on a busy machine.
 pub const LEASE: Duration = Duration::from_secs(60);
-/// How long something is waited for, on a machine that may be busy.
+/// How long a test waits for something, on a machine that may be busy.
 pub const PATIENCE: Duration = Duration::from_secs(60);
 
-/// What happens before a transaction that writes to a log.
+/// Called before a transaction that writes to a log.
 pub type Meanwhile = Arc<Mutex<Option<Box<dyn FnOnce() + Send>>>>;
 
-/// A process's way to the store, which can be cut, and whose watches can fall silent.
+/// A process's link to the store, which can be cut, and whose watches can fall silent.
 pub struct Line {
     pub meanwhile: Meanwhile,
     store: Arc<dyn Store>,
     pub is_cut: Arc<AtomicBool>,
     pub is_deaf: Arc<AtomicBool>,
-    /// How many transactions of shards went there.
+    /// How many transactions of shards were sent.
     pub sent: Arc<AtomicUsize>,
 }
 
@@ -147,7 +147,7 @@ type Message = (Elsewhere, Vec<WorkStep>);
 pub struct Node {
     pub server: u16,
     pub durable: Arc<Durable>,
-    /// What its line goes to.
+    /// The store behind its link.
     store: Arc<dyn Store>,
     pub meanwhile: Meanwhile,
     pub is_cut: Arc<AtomicBool>,
@@ -186,7 +186,7 @@ impl Work for Remote {
             return step.work.end(Err(why));
         }
         let Err(NotDone::Moved(revision)) = outcome else {
-            // The store's thread holds the sender no more once it is told: it would wait for itself to drop it.
+            // Once it is told, the store's thread must not hold the sender: it would wait for itself to drop it.
             return step.work.end(outcome);
         };
         match self.sender.upgrade() {
@@ -197,7 +197,7 @@ impl Work for Remote {
 }
 
 impl Net {
-    /// One whose processes answer reads so, and have leases of this length.
+    /// Makes a net whose processes answer reads like this, and have leases of this length.
     pub fn new(reads: Reads, lease: Duration) -> Net {
         let places = Mutex::default();
         Net {
@@ -207,7 +207,7 @@ impl Net {
         }
     }
 
-    /// Starts a process with this server; the store is reached as the function says.
+    /// Starts a process with this server. The function makes its link to the store.
     pub fn start(
         self: &Arc<Net>,
         store: &Arc<dyn Store>,
@@ -229,7 +229,7 @@ impl Net {
             elsewhere: Box::new(elsewhere),
             acks: Acks::AsRead,
         };
-        let durable = Durable::open_one(store, shards, self.tuning(), own, Box::new(|| {}));
+        let durable = Durable::open_one(store, shards, self.shard_options(), own, Box::new(|| {}));
         let durable = Arc::new(durable.expect("shards"));
         let place = (Arc::downgrade(&durable), is_cut.clone());
         self.places.lock().unwrap().insert(server, place);
@@ -246,7 +246,7 @@ impl Net {
         }
     }
 
-    /// The server of a process, which is there from now on.
+    /// Makes the server of a process join.
     fn member(&self, store: &Arc<dyn Store>, server: u16) -> Member {
         let addresses = Addresses {
             servers: format!("node-{server}"),
@@ -257,15 +257,15 @@ impl Net {
         member.expect("a member")
     }
 
-    fn tuning(&self) -> Tuning {
-        Tuning {
+    fn shard_options(&self) -> ShardOptions {
+        ShardOptions {
             wait: Duration::from_secs(20),
             most_batches: 40,
             reads: self.reads,
         }
     }
 
-    /// Carries what a process sends to others, until it ends.
+    /// Carries the messages of a process to others, until it ends.
     fn carry(&self, sent: &Receiver<Message>, sender: &Weak<Durable>) {
         for (elsewhere, steps) in sent {
             let place = self.places.lock().unwrap().get(&elsewhere.server).cloned();
@@ -298,12 +298,12 @@ impl Net {
         }
     }
 
-    /// Three processes over the store.
+    /// Starts three processes over the store.
     pub fn of_three(store: &Arc<dyn Store>, shards: u16) -> Vec<Node> {
         Net::default().start_three(store, shards)
     }
 
-    /// The same, of this net.
+    /// Does the same, in this net.
     pub fn start_three(self, store: &Arc<dyn Store>, shards: u16) -> Vec<Node> {
         let net = Arc::new(self);
         let start = |it| net.start(store, it, shards, |line| Arc::new(line));
@@ -316,33 +316,32 @@ impl Node {
         self.durable.member().expect("a member")
     }
 
-    /// Has the lease of a process that was killed end at once, as it ends by itself when nobody has kept it for its
-    /// length.
+    /// Ends the lease of a process that was killed at once. It would end by itself, because nobody keeps it.
     pub fn expire(&self) {
         let lease = self.member().lease().expect("a lease");
         self.store.revoke(lease).expect("it goes on");
     }
 
-    /// Has a process that was killed reach the store again, and be there under another lease if its own has ended, as its
-    /// thread does after a while.
+    /// Makes a process that was killed reach the store again. If its lease has ended, it joins under another one, as
+    /// its thread does after a while.
     pub fn revive(&self) {
         self.reach_again();
         until("its key is there", || self.member().lease().is_some());
     }
 
-    /// Has a process that was killed reach the store again. Its key may be another process's by now.
+    /// Makes a process that was killed reach the store again. By now its key may be another process's.
     pub fn reach_again(&self) {
         self.is_cut.store(false, Ordering::Release);
         self.member().keep_lease();
     }
 }
 
-/// Has the process be as one that was killed: it reaches nothing, and nobody reaches it.
+/// Makes the process like one that was killed: it reaches nothing, and nobody reaches it.
 pub fn kill(node: &Node) {
     node.is_cut.store(true, Ordering::Release);
 }
 
-/// Waits until this is so.
+/// Waits until this holds.
 pub fn until(what: &str, mut is_so: impl FnMut() -> bool) {
     let end = Instant::now() + PATIENCE;
     while !is_so() {
@@ -351,13 +350,13 @@ pub fn until(what: &str, mut is_so: impl FnMut() -> bool) {
     }
 }
 
-/// Has a server that isn't there any more be failed, as soon as it is seen to be gone.
+/// Makes the control fail a server that isn't there any more, as soon as that is seen.
 pub fn fail(control: &mut DurableControl, server: u16) {
     until("it is gone", || control.fallen().unwrap() == Some(server));
     control.command(ControlCommand::Fail(server)).unwrap();
 }
 
-/// Leads as soon as nobody else does.
+/// Makes the process lead as soon as nobody else does.
 pub fn campaign(node: &Node) -> DurableControl {
     let end = Instant::now() + PATIENCE;
     loop {
@@ -372,7 +371,7 @@ pub fn campaign(node: &Node) -> DurableControl {
     }
 }
 
-/// Makes the command once whoever it waits for has acked.
+/// Makes the command once the awaited servers have acked.
 pub fn soon(control: &mut DurableControl, command: ControlCommand) {
     let end = Instant::now() + Duration::from_secs(20);
     while let Err(refused) = control.command(command) {
@@ -382,7 +381,7 @@ pub fn soon(control: &mut DurableControl, command: ControlCommand) {
     }
 }
 
-/// Has each shard that nobody owns be owned in turn.
+/// Gives each shard without an owner one, in turn.
 pub fn assign(control: &mut DurableControl, shards: u16) {
     for shard in 0..shards {
         let _ = control.command(ControlCommand::Assign(shard, shard % 3 + 1));
@@ -403,7 +402,7 @@ pub fn settle(control: &mut DurableControl, shard: u16) {
     }
 }
 
-/// A change that appends a word to the list of a key, by what it reads there.
+/// Returns a change that appends a word to the list of a key that it reads.
 pub fn append(durable: &Durable, shard: u16, key: &[u8], word: &str) -> Told {
     let (at, word) = (key.to_vec(), word.to_owned());
     let decide = move |held: Vec<MapReply>| {

@@ -1,4 +1,4 @@
-//! A store that counts what is read, takes its time for it, and may lose what becomes of a batch.
+//! A store that counts readings, takes its time for them, and may lose the outcome of a batch.
 use super::handing::{Handed, Handing};
 use durkenzo_store::{Done, ReadError, Reading, Store, Transaction, WriteError};
 use std::sync::atomic::{AtomicBool, AtomicUsize, Ordering};
@@ -6,23 +6,23 @@ use std::sync::{Arc, Mutex};
 use std::thread;
 use std::time::Duration;
 
-/// What becomes of the next batch, if nobody is told.
+/// The fate of the next batch, whose outcome isn't told.
 #[derive(Clone, Copy, Debug, PartialEq, Eq)]
 pub enum Loss {
     Made,
     NotMade,
 }
 
-/// What was read, and what is to become of batches.
+/// The readings so far, and the fate of batches.
 #[derive(Default)]
 pub struct Counts {
-    /// How many parts of bases, and how many batches.
+    /// How many parts of bases, and how many batches, were read.
     pub parts: AtomicUsize,
     pub batches: AtomicUsize,
-    /// How often heads were.
+    /// How often heads were read.
     pub heads: AtomicUsize,
     loss: Mutex<Option<Loss>>,
-    /// Whether nothing is read for now.
+    /// Whether nothing can be read for now.
     pub is_down: AtomicBool,
 }
 
@@ -42,7 +42,7 @@ impl Counts {
         self.heads.load(Ordering::Acquire)
     }
 
-    /// Has nobody be told what became of the next batch.
+    /// Makes the outcome of the next batch be lost.
     pub fn lose(&self, loss: Loss) {
         *self.loss.lock().unwrap() = Some(loss);
     }
@@ -51,7 +51,7 @@ impl Counts {
 pub struct Counting {
     store: Arc<dyn Store>,
     counts: Arc<Counts>,
-    /// How long each page takes that is read.
+    /// How long the reading of each page takes.
     page: Duration,
 }
 

@@ -1,11 +1,11 @@
-//! What stores of tests have in common that hand calls on to another one.
+//! The common part of tests' stores that pass calls on to another store.
 use durkenzo_store::{
     CompactError, Done, LeaseError, LeaseId, ReadError, Reading, Store, Transaction, Watch, Watcher,
 };
 use std::ops::Deref;
 use std::time::Duration;
 
-/// A store that hands all calls on, but for those that it sees to itself.
+/// A store that passes all calls on, except for those that it handles itself.
 pub trait Handing: Send + Sync {
     fn store(&self) -> &dyn Store;
 
@@ -42,7 +42,7 @@ pub trait Handing: Send + Sync {
     }
 }
 
-/// The store that it is.
+/// The store made of it.
 pub struct Handed<H>(pub H);
 
 impl<H> Deref for Handed<H> {

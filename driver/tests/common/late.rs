@@ -1,4 +1,4 @@
-//! A store whose transactions come late, twice or never where it doesn't say what became of them.
+//! A store that makes a transaction late, twice or never if it doesn't tell its outcome.
 use super::cluster::Dice;
 use super::handing::{Handed, Handing};
 use durkenzo_store::{Done, ReadError, Reading, Store, Transaction, WriteError};
@@ -8,11 +8,11 @@ use std::time::Duration;
 
 /// Within how many milliseconds a copy comes.
 const LATEST: u64 = 12;
-/// For how many milliseconds at most what was read is on its way.
+/// The most milliseconds that a reading is on its way.
 const SLOWEST: u64 = 6;
 
-/// A store that says of each third transaction that writes to a log that what became of it isn't known. It then makes
-/// it later, now and later again, or never. What it reads may be old when it comes.
+/// A store that doesn't tell the outcome of each third transaction that writes to a log. It makes that transaction
+/// later, now and again later, or never. A reading may be old when it comes.
 pub struct Late {
     store: Arc<dyn Store>,
     dice: Mutex<Dice>,
@@ -30,7 +30,7 @@ impl Late {
         self.dice.lock().unwrap().below(bound)
     }
 
-    /// Makes a copy later. Where nothing compares any more, nothing comes of it.
+    /// Makes a copy later. If its compares fail then, nothing happens.
     fn send_late(&self, transaction: Transaction) {
         let (store, pause) = (self.store.clone(), self.below(LATEST));
         thread::spawn(move || {

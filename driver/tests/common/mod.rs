@@ -1,4 +1,4 @@
-//! What tests of the driver need: work that waits for its answer, and a store that doesn't tell all.
+//! Helpers for tests of the driver: work that waits for its answer, and a store that doesn't tell all outcomes.
 #![allow(dead_code)]
 pub mod cluster;
 pub mod counting;
@@ -7,8 +7,8 @@ pub mod late;
 pub mod withheld;
 
 use durkenzo_driver::{
-    Begin, ControlCommand, Durable, DurableControl, Key, MapReply, MapRequest, NotDone, Tuning,
-    Work, WorkStep,
+    Begin, ControlCommand, Durable, DurableControl, Key, MapReply, MapRequest, NotDone,
+    ShardOptions, Work, WorkStep,
 };
 use durkenzo_store::{Done, Store, Transaction, WriteError};
 use handing::{Handed, Handing};
@@ -19,7 +19,7 @@ use std::time::Duration;
 
 pub type Told = Result<Vec<MapReply>, NotDone>;
 
-/// What a change writes of what its keys hold.
+/// Returns a change's writes, from the values of its keys.
 pub type Decide = Box<dyn FnMut(Vec<MapReply>) -> Vec<MapRequest> + Send>;
 
 struct Asking {
@@ -47,14 +47,14 @@ impl Work for Asking {
     }
 }
 
-/// A step, and where what becomes of it is told.
+/// Returns a step, and the receiver of its outcome.
 pub fn step(begin: Begin, decide: Option<Decide>) -> (WorkStep, Receiver<Told>) {
     let (tell, told) = mpsc::channel();
     let work = Box::new(Asking { decide, tell });
     (WorkStep { begin, work }, told)
 }
 
-/// What becomes of work that is given alone.
+/// Returns the outcome of work that is submitted by itself.
 pub fn ask(durable: &Durable, shard: u16, begin: Begin, decide: Option<Decide>) -> Told {
     let (step, told) = step(begin, decide);
     durable.submit(shard, vec![step]);
@@ -70,27 +70,27 @@ pub fn add(durable: &Durable, shard: u16, key: &[u8], amount: i64) -> Told {
     write(durable, shard, vec![MapRequest::Add(key.into(), amount)])
 }
 
-/// What the key holds.
+/// Returns the value of the key.
 pub fn held(durable: &Durable, shard: u16, key: &[u8]) -> Told {
     ask(durable, shard, Begin::Read(vec![Key::from(key)]), None)
 }
 
-/// Shards of the store; work waits for longer than a machine that is busy takes.
+/// Opens shards of the store. Work waits longer than a busy machine takes.
 pub fn opened(store: &Arc<dyn Store>, shards: u16) -> Durable {
-    let tuning = Tuning {
+    let shard_options = ShardOptions {
         wait: Duration::from_secs(45),
         most_batches: 7,
-        ..Tuning::default()
+        ..ShardOptions::default()
     };
-    Durable::open(store.clone(), shards, tuning, Box::new(|| {})).expect("shards")
+    Durable::open(store.clone(), shards, shard_options, Box::new(|| {})).expect("shards")
 }
 
-/// A line of settings with so many shards, and two servers.
+/// Returns a line of settings with so many shards, and two servers.
 pub fn line(shards: u16) -> String {
     line_of(shards, 2)
 }
 
-/// A line of settings with so many shards and servers.
+/// Returns a line of settings with so many shards and servers.
 pub fn line_of(shards: u16, servers: u16) -> String {
     let bounds: Vec<_> = (0..shards)
         .map(|it| format!("\"{}\"", "x".repeat(it.into())))
@@ -107,21 +107,21 @@ pub fn line_of(shards: u16, servers: u16) -> String {
     )
 }
 
-/// The control of these shards, which server 1 owns where nobody did.
+/// Returns the control of these shards. Server 1 owns those that had no owner.
 pub fn led(durable: &Arc<Durable>) -> DurableControl {
     let shards = durable.shards();
     let mut control = DurableControl::lead(durable.clone(), &line(shards)).expect("a control");
     for shard in 0..shards {
-        // One that has an owner keeps it.
+        // A shard that has an owner keeps it.
         let _ = control.command(ControlCommand::Assign(shard, 1));
     }
     control
 }
 
-/// A store that often says of a transaction that what became of it isn't known, whether it was made or not.
+/// A store that often doesn't tell the outcome of a transaction, whether it was made or not.
 pub struct Uncertain<S> {
     store: S,
-    /// Each so many-th is such.
+    /// Every so many transactions, one is such.
     every: u64,
     count: AtomicU64,
 }
@@ -144,7 +144,7 @@ impl<S: Store> Handing for Uncertain<S> {
 
     fn submit(&self, transaction: Transaction, done: Done) {
         let count = self.count.fetch_add(1, Ordering::Relaxed);
-        // What a control is elected by, and the process begins with, is told.
+        // The outcomes of elections, and of the beginning of a process, are told.
         let is_batch = transaction
             .puts
             .iter()

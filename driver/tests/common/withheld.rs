@@ -1,12 +1,12 @@
-//! A store that withholds one transaction, and what is read after it, until somebody changes a record.
+//! A store that withholds one transaction, and the readings after it, until somebody changes a record.
 use super::handing::{Handed, Handing};
 use durkenzo_store::{Done, ReadError, Reading, Store, Transaction, WriteError};
 use std::sync::atomic::{AtomicBool, Ordering};
 use std::sync::{Arc, Condvar, Mutex};
 use std::time::Duration;
 
-/// A store that says of the next transaction to a log that what became of it isn't known, and makes it as late as it
-/// can be made: just before a record changes.
+/// A store that doesn't tell the outcome of the next transaction to a log, and makes it as late as possible: just
+/// before a record changes.
 pub struct Withheld {
     store: Arc<dyn Store>,
     /// Whether the next transaction to a log is withheld.
@@ -26,9 +26,9 @@ pub struct Blocked {
 enum Delay {
     #[default]
     None,
-    /// The next one waits.
+    /// The next reading waits.
     Next,
-    /// It waits now.
+    /// A reading waits now.
     Waits,
 }
 
@@ -38,7 +38,7 @@ impl Blocked {
         self.changed.notify_all();
     }
 
-    /// Waits until it stands otherwise.
+    /// Waits until the state is another one.
     fn wait_while(&self, is_so: impl Fn(Delay) -> bool) {
         let state = self.state.lock().unwrap();
         let patience = Duration::from_secs(60);
@@ -53,7 +53,7 @@ impl Blocked {
         self.wait_while(|it| it != Delay::Waits);
     }
 
-    /// Lets go what was read.
+    /// Releases the reading.
     pub fn release(&self) {
         self.set(Delay::None);
     }
@@ -69,7 +69,7 @@ impl Withheld {
         })
     }
 
-    /// The reading that comes late.
+    /// Returns the reading that comes late.
     pub fn reading(&self) -> Arc<Blocked> {
         self.reading.clone()
     }

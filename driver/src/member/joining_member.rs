@@ -10,45 +10,45 @@ use std::fmt;
 use std::sync::{Arc, Mutex};
 use std::time::{Duration, Instant};
 
-/// How much later than they should leases end.
+/// How much later than they should leases may end.
 const LATE: Duration = Duration::from_secs(2);
 
-/// A server that is to be there: it takes its key, once nobody has it.
-pub struct Joining {
+/// A server that is joining. It takes its key once nobody else has it.
+pub struct JoiningMember {
     inner: Arc<MemberInner>,
     lease: LeaseId,
-    /// When the lease was granted or kept last.
+    /// When the lease was last granted or kept.
     kept: Moment,
-    /// Until when it is waited that another process's key goes.
+    /// Until when it waits for another process's key to go.
     end: Instant,
     stage: Stage,
 }
 
-/// What is waited for.
+/// The present stage of joining.
 enum Stage {
-    /// What becomes of a write.
+    /// It waits for the outcome of a write.
     Write(PendingWrite),
-    /// The time of the next write.
+    /// It waits for the time of the next write.
     Pause(Instant),
 }
 
-/// What comes of a turn of a server that is to be there.
+/// The result of a turn of a server that is joining.
 pub enum JoinStep {
-    /// It is there.
+    /// The server is there.
     Joined(Member),
-    /// Nothing is to be done for so long, unless the store tells something.
-    Waits(Joining, Duration),
-    /// It isn't there, and won't be.
+    /// Nothing is due for so long, unless the store tells something.
+    Waits(JoiningMember, Duration),
+    /// The server isn't there, and won't be.
     Failed(JoinFault),
 }
 
-impl Joining {
-    /// Takes a lease, under which the key is to lie.
-    pub(super) fn new(inner: MemberInner) -> Result<Joining, JoinFault> {
+impl JoiningMember {
+    /// Takes the lease under which the key will lie.
+    pub(super) fn new(inner: MemberInner) -> Result<JoiningMember, JoinFault> {
         let kept = inner.lease_clock.now();
         let lease = inner.store.grant(inner.length)?;
         let now = inner.clock.now();
-        Ok(Joining {
+        Ok(JoiningMember {
             end: now + inner.length + LATE,
             inner: Arc::new(inner),
             lease,
@@ -57,7 +57,8 @@ impl Joining {
         })
     }
 
-    /// Does what is due. A server's thread does so again at once when the store has told what became of a write.
+    /// Does the work that is due. The server's thread calls it again at once when the store has told the outcome of a
+    /// write.
     pub fn turn(mut self) -> JoinStep {
         loop {
             let now = self.inner.clock.now();
@@ -103,7 +104,7 @@ impl Joining {
         Ok(None)
     }
 
-    /// Goes on by how the key lies: the server is there, or tries it again, and keeps its lease.
+    /// Goes on by the state of the key: the server is there, or tries again and keeps its lease.
     fn go_on(
         &mut self,
         judged: Result<Result<Lying, Taken>, WriteError>,
@@ -114,7 +115,7 @@ impl Joining {
                 let mut state = self.inner.state();
                 state.lease = Some(self.lease);
                 (state.written, state.joined) = (lying.revision, lying.created);
-                (state.kept, state.keep_due) = (self.kept, now + self.inner.keeping());
+                (state.kept, state.keep_due) = (self.kept, self.kept.after(self.inner.keeping()));
                 drop(state);
                 return self.joined().map(Some);
             }
@@ -123,7 +124,7 @@ impl Joining {
                 let _ = self.inner.store.revoke(self.lease);
                 return Err(JoinFault::Running(self.inner.server, taken.by));
             }
-            // Whether it was made is found when it is tried again.
+            // The next attempt finds out whether it was made.
             Ok(Err(_)) | Err(WriteError::Unknown(_)) => {}
             Err(error) => return Err(error.into()),
         }
@@ -133,7 +134,7 @@ impl Joining {
         Ok(None)
     }
 
-    /// The server, whose key is there.
+    /// Returns the server, whose key is there.
     fn joined(&self) -> Result<Member, JoinFault> {
         let was_away = self.inner.is_away()?;
         let prefixes = [keys::SERVERS, keys::LEADER, keys::LOWESTS, keys::ACKS];
@@ -151,9 +152,9 @@ impl Joining {
     }
 }
 
-impl fmt::Debug for Joining {
+impl fmt::Debug for JoiningMember {
     fn fmt(&self, f: &mut fmt::Formatter<'_>) -> fmt::Result {
-        f.debug_struct("Joining")
+        f.debug_struct("JoiningMember")
             .field("server", &self.inner.server)
             .finish_non_exhaustive()
     }
