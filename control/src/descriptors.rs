@@ -1,7 +1,7 @@
 //! How many files the system lets the process have open.
 use rustix::process::{getrlimit, setrlimit, Resource, Rlimit};
 
-/// Raises the process's soft limit of open files to its hard one, as Redis does. Returns how many there may be then.
+/// Raises the process's soft limit of open files to its hard one, as Redis does. Returns the new limit.
 pub fn raise_limit() -> usize {
     let Rlimit { current, maximum } = getrlimit(Resource::Nofile);
     let raised = Rlimit {
@@ -15,6 +15,6 @@ pub fn raise_limit() -> usize {
             current
         }
     };
-    // None is no limit.
+    // No value means no limit.
     current.map_or(usize::MAX, |it| usize::try_from(it).unwrap_or(usize::MAX))
 }

@@ -1,4 +1,4 @@
-//! Two processes of a service of its own, whose requests and answers only that service reads: it shouts texts.
+//! Two processes of a service, whose requests and answers only that service reads: it shouts texts.
 use durkenzo_control::links::{
     put_text, Admission, Destination, Fields, ForwardedCommand, ForwardedMessage, ForwardedRequest,
     Host, Identity, Links, PeerSession, Reason, ReceivedRequests, ReplySender, ReturnedRequests,
@@ -12,7 +12,7 @@ use std::sync::mpsc::{channel, Receiver, Sender};
 use std::sync::Arc;
 use std::time::{Duration, Instant};
 
-/// How long a request waits, and a lease is: longer than a machine that is busy stops a process.
+/// How long a request waits, and how long a lease is. It is longer than a busy machine stops a process.
 const WAIT: Duration = Duration::from_secs(10);
 const LEASE: Duration = Duration::from_secs(60);
 
@@ -100,7 +100,7 @@ impl Destination for TextDestination {
     }
 }
 
-/// A text that a client wants to be shouted, or a command, and where its end is told.
+/// A text that a client wants to be shouted, or a command, and the receiver of its end.
 struct Text(&'static str, Sender<String>);
 
 impl Text {
@@ -165,7 +165,7 @@ impl ForwardedCommand for Text {
     }
 }
 
-/// A process of the service: whatever comes back it tells the client.
+/// A process of the service. It tells the client each result.
 struct Shouter;
 
 impl Host for Shouter {
@@ -210,7 +210,7 @@ impl PeerSession for Shouting {
     }
 }
 
-/// The links of this server's process, which answers others.
+/// Returns the links of this server's process, which answers others.
 fn process(store: &Arc<dyn Store>, server: u16) -> Links<Shouter> {
     let listener = TcpListener::bind("127.0.0.1:0").unwrap();
     let addresses = Addresses {

@@ -6,18 +6,18 @@ use std::time::Duration;
 pub enum Advance {
     /// After this time.
     After(Duration),
-    /// After the pause that there is between the steps of a migration.
+    /// After the pause between the steps of a migration.
     Again,
     /// After a while.
     Later,
-    /// After a while. Whoever asked is answered now.
+    /// After a while. The client that asked is answered now.
     Told(ControlAnswer),
     /// The work is over.
     Done(ControlAnswer),
 }
 
 impl Advance {
-    /// At once, after others had their turn.
+    /// At once, after others have had their turn.
     pub const fn soon() -> Advance {
         Advance::After(Duration::ZERO)
     }

@@ -1,14 +1,14 @@
 use super::{Refusal, ReplyTo, Words};
 
-/// How many commands wait for the control at most.
+/// The most commands that wait for the control.
 pub const MOST_ASKED: usize = 4_096;
 
-/// A command of the control, and where its answer goes.
+/// A command of the control, and the address of its answer.
 #[derive(Debug)]
 pub struct Asked {
     /// The command.
     pub words: Words,
-    /// Where the answer goes.
+    /// The address of the answer.
     pub reply_to: Box<dyn ReplyTo>,
 }
 

@@ -7,21 +7,21 @@ use super::Refusal;
 use durkenzo_driver::{ControlCommand, Subject};
 use std::time::Duration;
 
-/// How often it is looked whether all have noticed how servers stand.
+/// How often it checks whether everybody has acted upon the states of servers.
 const LOOK: Duration = Duration::from_micros(100);
 
-/// A command that somebody asked for. It is tried again for a while if another thread has its shard, and all are to
-/// notice how its server stands then. Each call makes a step.
+/// A command that somebody asked for. If another thread has its shard, it is tried again for a while. After it was
+/// made, everybody must act upon its server's state. Each call makes a step.
 #[derive(Debug)]
 pub(super) struct AskedCommand {
     command: ControlCommand,
     patience: Patience,
-    /// All are to notice how the server stands.
+    /// The wait until everybody has acted upon the server's state.
     wait: Option<Box<dyn StateWait>>,
 }
 
 impl AskedCommand {
-    /// The command, which wasn't tried yet.
+    /// Returns the command, which wasn't tried yet.
     pub(super) fn new(command: ControlCommand) -> AskedCommand {
         AskedCommand {
             command,
@@ -47,11 +47,12 @@ impl AskedCommand {
         }
     }
 
-    /// Goes on from the command, which was made: a shard that it moves stays there. Returns what is to be waited for.
+    /// Goes on after the command was made: a shard that it moves stays there. Returns the wait that is necessary, if
+    /// any.
     fn made(&self, control: &mut Controller) -> Result<Option<Box<dyn StateWait>>, Refusal> {
         match self.command.subject() {
             Subject::Shard(shard) if self.command.taker().is_some() => {
-                control.forget_home(shard)?;
+                control.forget_homes_of([shard].into_iter())?;
                 Ok(None)
             }
             Subject::Shard(_) => Ok(None),
@@ -66,7 +67,7 @@ mod tests {
     use super::*;
     use durkenzo::Stand;
 
-    /// What becomes of a command whose shard is busy for so many tries, of which there is one each second.
+    /// Returns the result of a command whose shard is busy for so many tries. There is one try each second.
     fn tried(busy: u32) -> Result<ControlAnswer, Refusal> {
         let backend = PlainBackend::of(1, Stand::Vacant);
         backend.plain().busy = [(0, busy)].into();

@@ -6,40 +6,41 @@ use durkenzo_store::WriteError;
 use std::fmt;
 use thiserror::Error;
 
-/// What a control stands on: it makes commands, and proved code behind it says what comes next.
+/// The base of a control: it makes commands, and proved code behind it chooses the next ones.
 ///
 /// # Errors
 ///
-/// A question, and an intent, fail as [`BackendFault`] says: if there is no such shard or server, or the store doesn't
+/// Questions and intents fail as [`BackendFault`] says: if there is no such shard or server, or the store doesn't
 /// answer.
 pub trait Backend: Send {
-    /// Returns the number of servers: they are 1 to this one.
+    /// Returns the number of servers. They are numbered from 1 on.
     fn servers(&self) -> u16;
 
-    /// Returns the number of shards, from shard 0 on.
+    /// Returns the number of shards. They are numbered from 0 on.
     fn shards(&self) -> u16;
 
-    /// Returns whether what is under way outlives this process, so that whoever leads next goes on with it. If not, a
-    /// restart doesn't pause shards that fit on no other server, but is refused.
+    /// Returns whether work under way outlives this process, so that the next leader goes on with it. If it doesn't, a
+    /// restart doesn't pause shards that fit on no other server: it is refused.
     fn lasts(&self) -> bool;
 
-    /// Makes the command, or says why not. A command that another thread holds back for now may be made again.
+    /// Makes the command, or returns why it can't. If another thread holds a command back for now, the command may be
+    /// tried again.
     ///
     /// # Errors
     ///
-    /// As [`BackendFault`] says. Unless the store says nothing of it, nothing has changed.
+    /// As [`BackendFault`] says. If the error isn't about an unknown outcome in the store, nothing has changed.
     fn command(&mut self, command: ControlCommand) -> Result<(), BackendFault>;
 
-    /// Returns what comes next of the shard: its migration takes the next step.
+    /// Returns the next step of the shard's migration.
     fn next_of_shard(&mut self, shard: u16) -> Result<Next, BackendFault>;
 
-    /// Returns what comes next of the server's restart.
+    /// Returns the next step of the server's restart.
     fn next_of_server(&mut self, server: u16) -> Result<Next, BackendFault>;
 
-    /// Returns what comes next of the drain of the server, or for 0 of the vacant shards.
+    /// Returns the next step of the drain of the server, or of the vacant shards if `server` is 0.
     fn next_of_drain(&mut self, server: u16) -> Result<Next, BackendFault>;
 
-    /// Plans where the shards of the server go, or for 0 the vacant shards. Nothing is moved.
+    /// Plans the moves of the server's shards, or of the vacant shards if `server` is 0. Nothing is moved.
     fn plan(&mut self, server: u16) -> Result<Plan, BackendFault>;
 
     /// Returns the shard's record, if there is such a shard.
@@ -49,16 +50,26 @@ pub trait Backend: Send {
     fn state_of(&mut self, server: u16) -> Result<ServerState, BackendFault>;
 
     /// Returns whether the restart of the server is over if this process runs the server: the process began after the
-    /// one that was to end.
+    /// one that had to end.
     fn is_restarted_by(&mut self, _server: u16, _process: u64) -> Result<bool, BackendFault> {
         Ok(false)
     }
 
-    /// Has requests reach the server, or not, as its state says.
+    /// Returns the settings in force, as a line, and their number. It is called if there are several processes.
+    fn settings(&mut self) -> Result<(String, u64), BackendFault> {
+        Err(Refused::OtherSettings.into())
+    }
+
+    /// Puts the settings of this line in force. It is called if there are several processes.
+    fn resettle(&mut self, _line: &str) -> Result<(), BackendFault> {
+        Err(Refused::OtherSettings.into())
+    }
+
+    /// Sets whether requests reach the server, by its state.
     fn show_state(&mut self, server: u16, state: ServerState);
 
-    /// Begins to wait until all who send requests have acted upon the states that were shown, as this server's; none if
-    /// nobody has to be waited for. Each who waits has a wait of his own.
+    /// Begins to wait until everybody who sends requests has acted upon the states that were shown, such as this
+    /// server's. Returns nothing if there is nobody to wait for. Each caller has its own wait.
     fn wait_for_state(&mut self, _server: u16) -> Option<Box<dyn StateWait>> {
         None
     }
@@ -68,7 +79,7 @@ pub trait Backend: Send {
         Ok(Vec::new())
     }
 
-    /// Returns the first server to which requests go and that isn't there, if there is one.
+    /// Returns the first server to which requests go although it isn't there, if there is one.
     fn fallen(&mut self) -> Result<Option<u16>, BackendFault> {
         Ok(None)
     }
@@ -78,63 +89,62 @@ pub trait Backend: Send {
         Ok(Vec::new())
     }
 
-    /// Keeps the intents, if they are to outlive the process. If that fails none of them is kept, unless it isn't known
-    /// what became of it.
+    /// Keeps the intents, if they must outlive the process. If that fails, none of them is kept, unless the outcome
+    /// isn't known.
     fn intend(&mut self, _intents: &[Intent]) -> Result<(), BackendFault> {
         Ok(())
     }
 
-    /// Withdraws the intents: they are done, or nobody has them any more.
+    /// Withdraws the intents, because they are done, or nobody has them any more.
     fn withdraw(&mut self, _intents: &[Intent]) -> Result<(), BackendFault> {
         Ok(())
     }
 
-    /// Begins to write all shards into the file of this name.
+    /// Begins to write all shards into the file with this name.
     ///
     /// # Errors
     ///
-    /// A refusal if there are no such files, or the file can't be written.
+    /// If there are no such files here, or the file can't be written.
     fn dump(&mut self, _name: &[u8]) -> Result<Box<dyn FileWork>, Refusal> {
         Err(Refusal::not_durable("DUMP"))
     }
 
-    /// Begins to have all shards hold and stand as in the file of this name.
+    /// Begins to replace the content and the stands of all shards by those in the file with this name.
     ///
     /// # Errors
     ///
-    /// A refusal if there are no such files, or the file can't be read.
+    /// If there are no such files here, or the file can't be read.
     fn load(&mut self, _name: &[u8]) -> Result<Box<dyn FileWork>, Refusal> {
         Err(Refusal::not_durable("LOAD"))
     }
 
-    /// Goes on by what stands if a file took the place of what stood before. Returns whether one did since the last
-    /// call.
+    /// Switches to the present state if a file replaced the earlier one. Returns whether one did since the last call.
     fn renew(&mut self) -> bool {
         false
     }
 }
 
-/// A wait until all who send requests have acted upon the states that were shown before.
+/// A wait until everybody who sends requests has acted upon the states that were shown before.
 pub trait StateWait: fmt::Debug + Send {
     /// Returns whether it is over.
     ///
     /// # Errors
     ///
-    /// A refusal if one of them hasn't acted for long.
+    /// If one of them hasn't acted for too long.
     fn is_over(&self) -> Result<bool, Refusal>;
 }
 
-/// Work on a file, of which each call makes a step.
+/// Work on a file. Each call makes a step.
 pub trait FileWork: Send {
     /// Makes the next step.
     ///
     /// # Errors
     ///
-    /// A refusal that says why the work ends early.
+    /// The reason for which the work ends early.
     fn advance(&mut self) -> Result<Advance, Refusal>;
 }
 
-/// Why a backend doesn't do what it is asked for.
+/// Why a backend doesn't do a command.
 #[derive(Debug, Error)]
 pub enum BackendFault {
     /// The board doesn't make the change.
@@ -152,12 +162,13 @@ pub enum BackendFault {
 }
 
 impl BackendFault {
-    /// Returns whether the same command may be made at once when it is tried again: another thread has the shard.
+    /// Returns whether the same command may succeed at once when it is tried again, because another thread has the
+    /// shard.
     pub fn is_passing(&self) -> bool {
         matches!(self, BackendFault::Change(fault) if fault.is_passing())
     }
 
-    /// Returns whether it isn't known what became of it: it may be done all the same.
+    /// Returns whether the outcome isn't known: the command may have been done.
     pub fn is_unknown(&self) -> bool {
         let BackendFault::Refused(refused) = self else {
             return false;

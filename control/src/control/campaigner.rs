@@ -10,33 +10,33 @@ use std::sync::atomic::{AtomicBool, Ordering};
 use std::sync::Arc;
 use std::time::{Duration, Instant};
 
-/// How often a process that doesn't lead looks who does.
+/// How often a process that doesn't lead checks which process does.
 const TICK: Duration = Duration::from_millis(20);
-/// How long until it tries to lead again after it couldn't.
+/// How long after a failed attempt it tries to lead again.
 const PAUSE: Duration = Duration::from_millis(200);
 
-/// The control in one of several processes: it leads where no other one does, and else has the one that leads answer.
+/// The control in one of several processes. It leads if no other process does. Otherwise it lets the leader answer.
 pub struct Campaigner {
     host: Arc<dyn ControlHost>,
     durable: Arc<Durable>,
     peers: Arc<dyn OtherControls>,
     line: String,
     clock: Clock,
-    /// What leads, while this process does.
+    /// The leader's part, while this process leads.
     leading: Option<Leader>,
     /// Whether vacant shards get owners.
     assigns: bool,
-    /// When it tries to lead, or asks who leads, again.
+    /// When it tries to lead, or looks for the leader, again.
     again: Instant,
-    /// Commands that wait for somebody to lead.
+    /// Commands that wait for a leader.
     waiting: Waiting,
-    /// Whether this server was stopped before its process began, and is still to ask to be up.
+    /// Whether this server was stopped before its process began, and must still ask to be up.
     is_back: Arc<AtomicBool>,
 }
 
 impl Campaigner {
-    /// That of a process which shares the store that this line of settings describes; whoever leads gives vacant shards
-    /// owners, where that is wanted.
+    /// Makes the campaigner of a process that shares the store with this line of settings. If `assigns` is set, the
+    /// leader gives vacant shards owners.
     pub fn new(
         host: Arc<dyn ControlHost>,
         durable: Arc<Durable>,
@@ -59,7 +59,7 @@ impl Campaigner {
         }
     }
 
-    /// Takes the command, if there is one, and does what is due: it leads, or has the process that leads answer.
+    /// Takes the command, if there is one, and does the work that is due: it leads, or lets the leader answer.
     pub fn turn(&mut self, asked: Option<Asked>) {
         if self.leading.is_none() {
             self.leading = self.campaign();
@@ -70,7 +70,7 @@ impl Campaigner {
         }
     }
 
-    /// How long it is until the next turn, if somebody asks no sooner.
+    /// Returns how long it is until the next turn, if somebody asks no sooner.
     pub fn wait(&self) -> Duration {
         self.leading.as_ref().map_or(TICK, Leader::wait)
     }
@@ -80,16 +80,16 @@ impl Campaigner {
         self.waiting.is_empty() && self.leading.as_ref().is_none_or(Leader::is_idle)
     }
 
-    /// Ends, as nobody can ask any more. What others asked waits elsewhere.
+    /// Ends, because nobody can ask any more. Commands of other processes wait elsewhere.
     pub fn end(mut self) {
         self.leading.take().into_iter().for_each(Leader::leave);
-        let waiting = self.waiting.take().into_iter();
+        let waiting = self.waiting.close().into_iter();
         waiting.for_each(|it| self.pass_on(it, None));
     }
 
-    /// What leads, if this process does from now on.
+    /// Returns the leader's part, if this process leads from now on.
     fn campaign(&mut self) -> Option<Leader> {
-        // Where its own key lies, it may have been elected without having seen so.
+        // If its own key is there, it may have been elected without having seen that.
         let member = self.peers.member();
         let is_led = member.leader().is_some_and(|it| it != member.process());
         if is_led || self.host.is_stopping() || self.clock.now() < self.again {
@@ -111,7 +111,7 @@ impl Campaigner {
         Some(Leader::new(control, peers, self.assigns, is_back))
     }
 
-    /// Takes the command, and leads on, unless another process does.
+    /// Takes the command, and goes on leading, unless another process leads.
     fn lead(&mut self, mut leader: Leader, asked: Option<Asked>) {
         asked.into_iter().for_each(|it| self.waiting.hold(it));
         match leader.turn(&self.waiting) {
@@ -120,7 +120,7 @@ impl Campaigner {
         }
     }
 
-    /// Has the process that leads answer.
+    /// Lets the leader's process answer.
     fn follow(&mut self, asked: Option<Asked>) {
         match asked {
             Some(asked) if self.waiting.is_full() => asked.refuse(Refusal::crowded()),
@@ -134,8 +134,8 @@ impl Campaigner {
         }
     }
 
-    /// Asks the process that leads that this server be up, where it was stopped when its process began: until one
-    /// decides on it.
+    /// Asks the leader that this server be up, if it was stopped when its process began. It asks until a leader has
+    /// decided.
     fn ask_to_be_back(&mut self, leader: Option<u16>) {
         let own = self.peers.member().server();
         let is_due = self.is_back.load(Ordering::Acquire) && self.clock.now() >= self.again;
@@ -149,8 +149,8 @@ impl Campaigner {
         self.peers.ask_to_be_back(leader, Box::new(tell));
     }
 
-    /// Gives the command to the process that leads; where none does, or where that did nothing of it, it waits. What
-    /// came from another process goes no further: it is given back where this one can't lead.
+    /// Gives the command to the leader. If there is no leader, or the leader didn't do it, the command waits. A command
+    /// from another process goes no further: if this one can't lead, it is given back.
     fn pass_on(&self, held: HeldCommand, leader: Option<u16>) {
         let own = self.peers.member().server();
         let HeldCommand { until, asked } = held;
@@ -179,6 +179,13 @@ impl Campaigner {
             true => asked.reply_to.give_back(),
             false => asked.refuse(refusal),
         }
+    }
+}
+
+impl Drop for Campaigner {
+    fn drop(&mut self) {
+        // Links may still have commands that would come back here, and wait for ever.
+        drop(self.waiting.close());
     }
 }
 

@@ -3,42 +3,47 @@ use super::ReplyTo;
 use durkenzo_driver::{ControlCommand, ServerState};
 use std::time::Duration;
 
-/// The program around a control, which shows what the control does. Its calls don't wait.
+/// The program around a control, which shows the control's work. Its calls must not wait.
 pub trait ControlHost: Send + Sync {
     /// Returns whether the process ends.
     fn is_stopping(&self) -> bool;
 
-    /// Returns how long a step of a migration takes at least.
+    /// Returns the least time that a step of a migration takes.
     fn pace(&self) -> Duration;
 
     /// Notes how far the server's restart has come.
     fn note_state(&self, server: u16, state: ServerState);
 
-    /// Notes what is under way at the server; none if nothing is any more.
+    /// Notes the work under way at the server; nothing if there is none any more.
     fn note_progress(&self, server: u16, doing: Option<Doing>);
 
     /// Notes that the change of a shard was made.
     fn note_change(&self, command: ControlCommand);
 
-    /// Notes that what shards hold, and how they stand, was replaced by what a file says.
+    /// Notes that the content and the stands of shards were replaced by those of a file.
     fn note_load(&self);
 
-    /// Tells in a line how the shard stands, if there is such a shard.
+    /// Returns a line about the shard, if there is such a shard.
     fn shard_line(&self, shard: u16) -> Option<String>;
 
-    /// Tells how all shards stand, below the columns' names.
+    /// Returns a line about each shard, below the names of the columns.
     fn shard_lines(&self) -> Vec<String>;
 
-    /// Tells how all servers stand, below the columns' names.
+    /// Returns a line about each server, below the names of the columns.
     fn server_lines(&self) -> Vec<String>;
 
-    /// Tells how the program runs.
+    /// Returns lines about the program's configuration.
     fn settings_lines(&self) -> Vec<String>;
 
-    /// Tells where clients reach each shard, in a cluster of several processes.
+    /// Returns whether all processes adopt other settings as soon as these are in the store.
+    fn follows_settings(&self) -> bool {
+        false
+    }
+
+    /// Returns the address at which clients reach each shard, in a cluster of several processes.
     fn route_lines(&self) -> Vec<String>;
 
-    /// Makes a base of each shard of this process, so that room comes back, and answers that then. It is called if data
+    /// Makes a base of each shard of this process, so that room is returned, and then answers. It is called if data
     /// outlives the process.
     fn compact(&self, reply_to: Box<dyn ReplyTo>);
 }

@@ -1,4 +1,4 @@
-//! The threads that run controls. Only here does a control wait for who asks.
+//! The threads that run controls. Only here does a control wait for clients.
 use super::patience::Patience;
 use super::{Asked, Campaigner, Controller, Refusal};
 use durkenzo_driver::ControlCommand;
@@ -21,7 +21,7 @@ impl Controller {
         }
     }
 
-    /// Makes a command as the process ends, again for a while if another thread has the shard.
+    /// Makes a command while the process ends. If another thread has the shard, tries again for a while.
     pub(super) fn make_patiently(&mut self, command: ControlCommand) -> Result<(), Refusal> {
         let mut patience = Patience::default();
         loop {

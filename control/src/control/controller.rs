@@ -2,9 +2,11 @@ use super::advance::Advance;
 use super::answer::ControlAnswer;
 use super::asked_command::AskedCommand;
 use super::backend::{Backend, BackendFault};
+use super::change_log::log_change;
 use super::patience::PATIENCE;
 use super::planned_moves::PlannedMoves;
 use super::progress::{self, Doing};
+use super::shares::Shares;
 use super::task::{Task, TaskWork};
 use super::word_table::{self, Begun, ControlMode};
 use super::{Asked, ControlHost, OtherControls, Refusal, ReplyTo};
@@ -15,19 +17,19 @@ use std::fmt;
 use std::sync::Arc;
 use std::time::{Duration, Instant};
 
-/// How many pauses of another task's migration are waited for.
+/// How many pauses of another task's migration a task waits.
 const MOST_PAUSES: u32 = 8;
-/// After how long work goes on at the soonest that is to let others have their turn.
+/// The least time after which work goes on that lets others have their turn.
 const LEAST_WAIT: Duration = Duration::from_nanos(1);
-/// How often work that waits looks again.
+/// How often waiting work checks again.
 const TICK: Duration = Duration::from_millis(10);
-/// How long work goes on before whoever asks has his turn.
+/// How long work goes on before clients have their turn.
 pub const TURN: Duration = Duration::from_millis(50);
-/// How long work that nobody waits for waits after the store didn't make a command of it.
+/// How long work without a client waits after the store didn't make one of its commands.
 const STORE_PAUSE: Duration = Duration::from_millis(500);
 
-/// Does what `SM` asks for, wherever data lies. What it makes and what comes next, proved code behind its backend
-/// decides. What takes long is a task, and others are answered between its steps.
+/// Executes `SM` commands, wherever data lies. Proved code behind its backend decides which commands are made and which
+/// come next. Long work is a task, and clients are answered between its steps.
 pub struct Controller {
     pub(super) host: Arc<dyn ControlHost>,
     pub(super) backend: Box<dyn Backend>,
@@ -35,26 +37,31 @@ pub struct Controller {
     pub(super) tasks: Vec<Task>,
     /// The shards that come home, and their servers.
     pub(super) homes: BTreeMap<u16, u16>,
-    /// Those of which the store doesn't say whether it keeps the intent.
+    /// The shards about which the store doesn't say whether it keeps the intent.
     pub(super) unsure_homes: BTreeSet<u16>,
-    /// The servers that tasks restart, and how many tasks do.
+    /// The servers that tasks restart, and by how many tasks.
     pub(super) restarting: BTreeMap<u16, usize>,
-    /// The server of which a drain moves shards.
+    /// The server whose shards a drain is moving.
     draining: Option<u16>,
+    /// The servers that are drained for good, or wait for that. While a spread goes on, it also has those whose drains
+    /// have ended.
+    pub(super) drained: BTreeSet<u16>,
     /// The other processes, if this one leads several.
     pub(super) peers: Option<Arc<dyn OtherControls>>,
-    /// Whether another process leads, as far as a command told.
+    /// Whether another process leads, as far as a command's outcome has shown.
     pub(super) is_lost: bool,
-    /// Whether a server may have failed since a leader went on with the shards of those that had.
+    /// Whether a server may have failed since a leader went on with the shards of failed servers.
     pub(super) has_fallen: bool,
-    /// The servers of which a step may be made that nobody noted, as the store didn't say so.
+    /// The servers for which a step may have been made that nobody noted, because the store didn't tell its outcome.
     unnoted: BTreeSet<u16>,
-    /// The shards that migrations pause, as their owners have failed.
+    /// The shards that migrations paused because their owners had failed.
     pub(super) paused: BTreeSet<u16>,
+    /// How many shards servers have, while shards of failed servers go to others in one turn.
+    shares: Option<Shares>,
 }
 
 impl Controller {
-    /// The control of the servers of this backend, in this host, by this clock.
+    /// Makes the control of this backend's servers, in this host, with this clock.
     pub fn new(host: Arc<dyn ControlHost>, backend: Box<dyn Backend>, clock: Clock) -> Controller {
         Controller {
             host,
@@ -65,17 +72,19 @@ impl Controller {
             unsure_homes: BTreeSet::new(),
             restarting: BTreeMap::new(),
             draining: None,
+            drained: BTreeSet::new(),
             peers: None,
             is_lost: false,
             has_fallen: false,
             unnoted: BTreeSet::new(),
             paused: BTreeSet::new(),
+            shares: None,
         }
     }
 
-    /// Goes on where the process before this one was: its servers are up again, migrations and drains go on, and shards
-    /// come home. If it is asked for, each vacant shard gets an owner, in turn; a shard that doesn't fit there goes
-    /// where the proved plan has it go.
+    /// Goes on at the point at which the process before this one was: its servers are up again, migrations and drains
+    /// go on, and shards come home. If `assigns` is set, each vacant shard gets an owner, in turn. A shard that doesn't
+    /// fit there goes to the server that the proved plan chooses.
     ///
     /// # Errors
     ///
@@ -103,7 +112,7 @@ impl Controller {
         self.go_on_with_intents()
     }
 
-    /// Warns of each shard that nobody owns.
+    /// Warns of each shard without an owner.
     fn warn_of_vacant(&mut self) -> Result<(), Refusal> {
         for shard in 0..self.backend.shards() {
             if self.is_vacant(shard)? {
@@ -113,13 +122,13 @@ impl Controller {
         Ok(())
     }
 
-    /// Whether nobody owns the shard.
+    /// Returns whether the shard has no owner.
     pub(super) fn is_vacant(&mut self, shard: u16) -> Result<bool, Refusal> {
         let record = self.backend.record(shard)?;
         Ok(record.is_some_and(|it| it.owner().is_none()))
     }
 
-    /// Gives the shard this owner if it is vacant, and the server takes it.
+    /// Gives the shard this owner if it is vacant and the server takes it.
     pub(super) fn assign(&mut self, shard: u16, server: u16) -> Result<(), Refusal> {
         if !self.is_vacant(shard)? {
             return Ok(());
@@ -135,7 +144,7 @@ impl Controller {
         }
     }
 
-    /// Notes how the server stands, and whether requests reach it.
+    /// Notes the state of the server, and whether requests reach it.
     pub(super) fn note_state(&mut self, server: u16) -> Result<(), Refusal> {
         let state = self.backend.state_of(server)?;
         self.host.note_state(server, state);
@@ -143,7 +152,7 @@ impl Controller {
         Ok(())
     }
 
-    /// Makes a command, and notes what others are told of it.
+    /// Makes a command, and notes the change for others.
     pub(super) fn make(&mut self, command: ControlCommand) -> Result<(), Refusal> {
         let made = self.backend.command(command);
         let is_elsewhere =
@@ -152,7 +161,7 @@ impl Controller {
         match command.subject() {
             Subject::Server(server) => {
                 let made = made.map_err(|fault| Refusal::of_command(&fault, command, None));
-                // It may be made, whatever the store says of it.
+                // It may have been made, whatever the store says.
                 let is_doubtful = made.as_ref().is_err_and(Refusal::is_of_store);
                 if is_doubtful {
                     self.unnoted.insert(server);
@@ -166,22 +175,24 @@ impl Controller {
                 let line = || self.host.shard_line(shard);
                 made.map_err(|fault| Refusal::of_command(&fault, command, line()))?;
                 self.host.note_change(command);
+                // It is made, whether its record can be read now or not.
+                log_change(command, || self.backend.record(shard).ok().flatten());
                 Ok(())
             }
         }
     }
 
-    /// This moment.
+    /// Returns this moment.
     pub(super) fn now(&self) -> Instant {
         self.clock.now()
     }
 
-    /// When a task gives a shard up that another one has, whose migration pauses between its steps.
+    /// Returns when a task gives up a shard that another task has, whose migration pauses between its steps.
     pub(super) fn patience(&self) -> Instant {
         self.now() + PATIENCE + MOST_PAUSES * self.host.pace()
     }
 
-    /// Notes how servers stand of which a step may be made, as far as the store can be read.
+    /// Notes the states of servers for which a step may have been made, as far as the store can be read.
     fn note_steps(&mut self) {
         while let Some(server) = self.unnoted.first().copied() {
             if self.note_state(server).is_err() {
@@ -191,8 +202,8 @@ impl Controller {
         }
     }
 
-    /// Makes what comes next of work that is under way: later if a process that has just come is still to read what the
-    /// command takes for known, or if the process of its server isn't seen now.
+    /// Makes the next command of work under way. If a new process must first read something that the command assumes,
+    /// or if the process of its server isn't seen now, it is made later.
     pub(super) fn step(&mut self, command: ControlCommand) -> Result<Advance, Refusal> {
         match self.make(command) {
             Err(refusal) if refusal.is_for_now() || refusal.is_of_process() => Ok(Advance::Later),
@@ -200,19 +211,41 @@ impl Controller {
         }
     }
 
-    /// Tells what is under way at the server.
+    /// Moves a paused shard, whose owner has failed, to the server with the fewest shards of those that have some, if
+    /// that server takes it, and neither is nor was drained. Otherwise the shard goes to the server that the proved
+    /// control names, the first one that takes it.
+    pub(super) fn reassign(&mut self, shard: u16, named: u16) -> Result<Advance, Refusal> {
+        let mut shares = match self.shares.take() {
+            Some(shares) => shares,
+            None => Shares::of(self)?,
+        };
+        let mut to = shares.least_of_some().unwrap_or(named);
+        let mut stepped = self.step(ControlCommand::Reassign(shard, to));
+        if to != named && stepped.as_ref().is_err_and(|it| !it.is_of_store()) {
+            shares.remove(to);
+            to = named;
+            stepped = self.step(ControlCommand::Reassign(shard, to));
+        }
+        if matches!(stepped, Ok(Advance::Again)) {
+            shares.add(to);
+        }
+        self.shares = Some(shares);
+        stepped
+    }
+
+    /// Notes the work under way at the server.
     pub(super) fn tell(&self, server: u16, doing: Doing) {
         self.host.note_progress(server, Some(doing));
     }
 
-    /// The first server but this one that is away for a restart, or may go for one, and how it stands; if there is
-    /// none, the first one that has failed.
+    /// Returns the first server except this one that is away for a restart, or may go for one, and its state. If there
+    /// is none, returns the first one that has failed.
     pub(super) fn away(&mut self, but: u16) -> Result<Option<(u16, ServerState)>, Refusal> {
         let states = self.states()?;
         Ok(progress::away(&states, but))
     }
 
-    /// The servers that have failed.
+    /// Returns the servers that have failed.
     pub(super) fn failed(&mut self) -> Result<Vec<u16>, Refusal> {
         let states = self.states()?.into_iter();
         let failed = states.filter(|it| it.1 == ServerState::Failed);
@@ -226,13 +259,13 @@ impl Controller {
             .collect()
     }
 
-    /// Whether the server's process is there, if servers have one each.
+    /// Returns whether the server's process is there, if servers have one each.
     pub(super) fn is_there(&self, server: u16) -> bool {
         let peers = self.peers.as_ref();
         peers.is_none_or(|it| it.member().members().contains_key(&server))
     }
 
-    /// What the control is over, of which words depend.
+    /// Returns the mode of the control, on which the available words depend.
     pub(super) fn mode(&self) -> ControlMode {
         ControlMode {
             lasts: self.backend.lasts(),
@@ -240,13 +273,13 @@ impl Controller {
         }
     }
 
-    /// Whether the shard is at the server.
+    /// Returns whether the shard is at the server.
     pub(super) fn is_at(&mut self, shard: u16, server: u16) -> Result<bool, Refusal> {
         let record = self.backend.record(shard)?;
         Ok(record.is_some_and(|it| it.owner() == Some(server)))
     }
 
-    /// Has shards be executed again that were paused as their owners were to stop or had failed, and that are back.
+    /// Resumes shards that were paused because their owners were to stop or had failed, if the owners are back.
     pub(super) fn resume_left(&mut self) -> Result<(), Refusal> {
         for shard in self.backend.left_paused()? {
             self.make(ControlCommand::Resume(shard))?;
@@ -254,7 +287,7 @@ impl Controller {
         Ok(())
     }
 
-    /// Has shards be executed again that a migration paused, once their owners are back.
+    /// Resumes shards that a migration paused, once their owners are back.
     fn resume_paused(&mut self) {
         for shard in std::mem::take(&mut self.paused) {
             match self.is_still_paused(shard) {
@@ -266,7 +299,8 @@ impl Controller {
         }
     }
 
-    /// Whether the shard, which a migration paused, stays so for now. It is resumed if its owner is back.
+    /// Returns whether the shard, which a migration paused, must stay paused for now. If its owner is back, it is
+    /// resumed.
     fn is_still_paused(&mut self, shard: u16) -> Result<bool, Refusal> {
         let stand = self.backend.record(shard)?.map(|it| it.stand);
         let Some(Stand::Paused(owner)) = stand else {
@@ -278,7 +312,7 @@ impl Controller {
         self.make(ControlCommand::Resume(shard)).map(|()| false)
     }
 
-    /// Goes on by what stands if a file took the place of what stood before.
+    /// Switches to the present state if a file replaced the earlier one.
     pub(super) fn renew(&mut self) {
         if self.backend.renew() {
             self.homes.clear();
@@ -288,24 +322,25 @@ impl Controller {
         }
     }
 
-    /// Takes the command, if there is one, and does what is due.
+    /// Takes the command, if there is one, and does the work that is due.
     pub(super) fn turn(&mut self, asked: Option<Asked>) {
         asked.into_iter().for_each(|it| self.take(it));
         self.run_tasks();
     }
 
-    /// How long it is until the next turn, if somebody asks no sooner. None if there is nothing to do until then.
+    /// Returns how long it is until the next turn, if nobody asks sooner. Returns nothing if there is nothing to do
+    /// until then.
     pub(super) fn wait(&self) -> Option<Duration> {
         let is_idle = self.tasks.is_empty() && self.paused.is_empty();
         (!is_idle).then(|| self.wait_for_tasks().unwrap_or(TICK))
     }
 
-    /// How long a leader waits for who asks.
+    /// Returns how long a leader waits for clients.
     pub(super) fn wait_as_leader(&self) -> Duration {
         self.wait_for_tasks().unwrap_or(2 * TICK)
     }
 
-    /// How long it is until the next task is due, if there is one, or until it is looked again.
+    /// Returns how long it is until the next task is due, or until the next check, if there is anything to wait for.
     fn wait_for_tasks(&self) -> Option<Duration> {
         let now = self.now();
         let left = |it: Instant| it.saturating_duration_since(now).min(TICK);
@@ -316,7 +351,7 @@ impl Controller {
         waits.min()
     }
 
-    /// Answers all tasks that another process goes on with what is under way.
+    /// Answers all tasks that another process goes on with the work.
     pub(super) fn leave(&mut self) {
         for task in std::mem::take(&mut self.tasks) {
             let is_elsewhere = task.reply_to.as_ref().is_some_and(|it| it.asks_elsewhere());
@@ -328,7 +363,7 @@ impl Controller {
         }
     }
 
-    /// Answers the command, or begins work of it, if its client is still there.
+    /// Answers the command, or begins its work, if its client is still there.
     pub(super) fn take(&mut self, asked: Asked) {
         if !asked.reply_to.is_awaited() {
             return;
@@ -347,7 +382,7 @@ impl Controller {
         }
     }
 
-    /// Begins a command that somebody asked for, and mostly ends it.
+    /// Begins a command that somebody asked for. Mostly that also ends it.
     pub(super) fn make_asked(&mut self, command: ControlCommand) -> Result<Begun, Refusal> {
         let mut work = AskedCommand::new(command);
         match work.advance(self)? {
@@ -358,11 +393,11 @@ impl Controller {
         }
     }
 
-    /// Gives each vacant shard the owner of the proved plan.
+    /// Gives each vacant shard the owner in the proved plan.
     pub(super) fn place(&mut self) -> Result<ControlAnswer, Refusal> {
         let (mut planned, mut placed) = (PlannedMoves::of(0), Vec::new());
         while let Next::Command(command) = planned.next(self)? {
-            // No thread has a shard that is vacant.
+            // No thread has a vacant shard.
             match self.make(command) {
                 Err(_) if planned.forget() => continue,
                 made => made?,
@@ -374,11 +409,13 @@ impl Controller {
         Ok(ControlAnswer::of_moves(placed))
     }
 
-    /// Makes steps of work that is due, for a while: of what had no turn then first the next time.
+    /// Makes steps of due work, for a while. Tasks that had no turn come first the next time.
     pub(super) fn run_tasks(&mut self) {
         self.note_steps();
         self.resume_paused();
         let end = self.now() + TURN;
+        self.shares = None;
+        self.note_drained();
         let mut waiting = VecDeque::from(std::mem::take(&mut self.tasks));
         while let Some(task) = waiting.pop_front() {
             let now = self.now();
@@ -391,7 +428,7 @@ impl Controller {
                 continue;
             }
             match self.advanced(task, now) {
-                // One shard is served again before the next one's turn.
+                // One shard is served again before the next one has its turn.
                 Some(task) if task.is_due(now) && task.shard_going_on().is_some() => {
                     waiting.push_front(task);
                 }
@@ -400,9 +437,20 @@ impl Controller {
         }
         waiting.extend(self.tasks.drain(..));
         self.tasks = waiting.into();
+        // A spread that is asked for now counts a server whose drain has just ended.
+        self.note_drained();
     }
 
-    /// Makes a step of the task; gives it back if it isn't over.
+    /// Notes the servers that are drained for good.
+    fn note_drained(&mut self) {
+        if !self.tasks.iter().any(Task::spreads) {
+            self.drained.clear();
+        }
+        let drained = self.tasks.iter().filter_map(Task::drains);
+        self.drained.extend(drained);
+    }
+
+    /// Makes a step of the task. If it isn't over, gives it back.
     fn advanced(&mut self, mut task: Task, now: Instant) -> Option<Task> {
         if self.host.is_stopping() {
             self.stop(task);
@@ -430,19 +478,22 @@ impl Controller {
             }
             Err(refusal) => {
                 self.end(&task.work);
-                let left = task.work.left().filter(|_| refusal.is_of_store());
+                if refusal.is_of_store() {
+                    let due = Some(now + STORE_PAUSE);
+                    let left = task.work.left().into_iter();
+                    self.tasks.extend(left.map(|it| Task {
+                        due,
+                        ..Task::of(it)
+                    }));
+                }
                 answer(task.reply_to, Err(refusal));
-                let due = Some(now + STORE_PAUSE);
-                return left.map(|it| Task {
-                    due,
-                    ..Task::of(it)
-                });
+                return None;
             }
         }
         Some(task)
     }
 
-    /// Ends the task as the process ends. What outlives the process goes on at the next start from where it stands.
+    /// Ends the task because the process ends. Work that outlives the process goes on at the next start.
     fn stop(&mut self, task: Task) {
         if !self.backend.lasts() {
             if let Err(refusal) = task.work.give_up(self) {
@@ -452,7 +503,7 @@ impl Controller {
         answer(task.reply_to, Err(Refusal::stopping()));
     }
 
-    /// Ends what is told of the work.
+    /// Ends the notes about the work.
     fn end(&mut self, work: &TaskWork) {
         match (work, work.server()) {
             (_, None) => {}
@@ -461,8 +512,8 @@ impl Controller {
         }
     }
 
-    /// Whether the drain of the server moves shards now. One at a time does: each plan may have shards go to the server
-    /// of the other one, so they would go to and fro.
+    /// Returns whether the drain of the server is moving shards now. Only one drain at a time does: each plan may send
+    /// shards to the other drain's server, so they would go back and forth.
     pub(super) fn is_drained_now(&mut self, server: u16) -> bool {
         *self.draining.get_or_insert(server) == server
     }
@@ -473,7 +524,7 @@ impl Controller {
         self.host.note_progress(server, None);
     }
 
-    /// Ends what is told of the server's restart.
+    /// Ends the notes about the server's restart.
     pub(super) fn end_restart(&mut self, server: u16) {
         self.host.note_progress(server, None);
         let left = self.restarting.remove(&server).unwrap_or_default();
@@ -499,22 +550,9 @@ fn answer(reply_to: Option<Box<dyn ReplyTo>>, answer: Result<ControlAnswer, Refu
 
 #[cfg(test)]
 mod tests {
-    use super::super::plain_backend::{PlainBackend, Teller};
-    use super::super::Words;
+    use super::super::plain_backend::{asked, PlainBackend};
     use super::*;
     use durkenzo_driver::CommandFault;
-    use std::sync::mpsc::Receiver;
-
-    /// Has the control take this command in its turn.
-    fn asked<const N: usize>(
-        control: &mut Controller,
-        words: [&str; N],
-    ) -> Receiver<Result<ControlAnswer, Refusal>> {
-        let (reply_to, told) = Teller::pair();
-        let words = Words::of(words);
-        control.turn(Some(Asked { words, reply_to }));
-        told
-    }
 
     #[test]
     fn a_busy_command_holds_up_no_others() {
@@ -522,12 +560,12 @@ mod tests {
         backend.plain().busy = [(0, u32::MAX)].into();
         let mut control = backend.control();
         assert_eq!(control.wait(), None);
-        let busy = asked(&mut control, ["SM", "ASSIGN", "0", "1"]);
+        let busy = asked(&mut control, "SM ASSIGN 0 1");
         assert!(control.wait().is_some_and(|it| it <= TICK));
-        let other = asked(&mut control, ["SM", "ASSIGN", "1", "1"]);
+        let other = asked(&mut control, "SM ASSIGN 1 1");
         assert_eq!(other.try_recv(), Ok(Ok(ControlAnswer::Done)));
-        // A load isn't refused as something is under way: there are no dumps here.
-        let load = asked(&mut control, ["SM", "LOAD", "a"]);
+        // A load isn't refused because something is under way: there are no dumps here.
+        let load = asked(&mut control, "SM LOAD a");
         let wanted = Refusal::not_durable("LOAD");
         assert_eq!(load.try_recv(), Ok(Err(wanted)));
         assert!(busy.try_recv().is_err());
@@ -550,13 +588,13 @@ mod tests {
         assert!(matches!(control.step(stopped), Ok(Advance::Again)));
     }
 
-    /// Each would have all shards go to the other one's server.
+    /// Each would send all shards to the other one's server.
     #[test]
     fn a_drain_waits_for_another_one() {
         let backend = PlainBackend::of(4, Stand::Serving(1));
         let mut control = backend.control();
-        let first = asked(&mut control, ["SM", "DRAIN", "1"]);
-        let second = asked(&mut control, ["SM", "DRAIN", "2"]);
+        let first = asked(&mut control, "SM DRAIN 1");
+        let second = asked(&mut control, "SM DRAIN 2");
         for _ in 0..200 {
             backend.plain().passed += TICK;
             control.turn(None);

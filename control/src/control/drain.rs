@@ -3,6 +3,7 @@ use super::answer::ControlAnswer;
 use super::backend::BackendFault;
 use super::controller::Controller;
 use super::migration::Migration;
+use super::moves::{EndedMove, Moves};
 use super::planned_moves::PlannedMoves;
 use super::progress::{Doing, Share};
 use super::Refusal;
@@ -10,34 +11,36 @@ use durkenzo::Stand;
 use durkenzo_driver::{ControlCommand, Intent, Next};
 use std::time::{Duration, Instant};
 
-/// How long until moves that were refused are planned anew.
+/// How long until refused moves are planned again.
 const PAUSE: Duration = Duration::from_millis(10);
 
-/// The migrations of all shards of a server to where the proved plan has them go.
+/// The migrations of all shards of a server to the servers in the proved plan.
 #[derive(Debug)]
 pub(super) struct Drain {
     server: u16,
     /// Whether shards come home when the server is back.
     is_restart: bool,
-    /// Whether it is an intent, or may be one, so that whoever leads next goes on with it.
+    /// Whether it is an intent, or may be one, so that the next leader goes on with it.
     is_intended: bool,
-    /// Whether the backend has said that it keeps the intent, if it keeps any.
+    /// Whether the backend has confirmed that it keeps the intent, if it keeps any.
     has_intended: bool,
-    /// How many shards there are to move; none before it has begun.
+    /// How many shards must move; nothing before it has begun.
     of: Option<usize>,
     planned: PlannedMoves,
-    /// The migration that begins or is under way, and where it goes.
-    current: Option<(Migration, u16)>,
-    /// Which shards went where.
+    /// The migrations under way.
+    moves: Moves,
+    /// Whether no move is planned until one of those under way has ended, because there was none, or no room.
+    is_planned: bool,
+    /// The shards that moved, and their destinations.
     moved: Vec<(u16, u16)>,
-    /// Until when moves that were refused are planned anew.
+    /// Until when refused moves are planned again.
     end: Option<Instant>,
-    /// Until when it waits for the room that a migration under way takes.
-    room_end: Option<Instant>,
+    /// Until when it waits for others' migrations under way: for the room that they take, or for their shards.
+    others_end: Option<Instant>,
 }
 
 impl Drain {
-    /// The drain of the server, for a restart of it or for good.
+    /// Returns the drain of the server, for a restart of it or for good.
     pub(super) fn new(server: u16, is_restart: bool) -> Drain {
         Drain {
             server,
@@ -46,14 +49,15 @@ impl Drain {
             has_intended: false,
             of: None,
             planned: PlannedMoves::of(server),
-            current: None,
+            moves: Moves::default(),
+            is_planned: false,
             moved: Vec::new(),
             end: None,
-            room_end: None,
+            others_end: None,
         }
     }
 
-    /// A drain for good that has begun.
+    /// Returns a drain for good that has begun.
     pub(super) fn going_on(server: u16) -> Drain {
         Drain {
             is_intended: true,
@@ -62,22 +66,22 @@ impl Drain {
         }
     }
 
-    /// The server that is drained.
+    /// Returns the server that is drained.
     pub(super) fn server(&self) -> u16 {
         self.server
     }
 
-    /// The shard of which a migration is under way.
-    pub(super) fn shard_under_way(&self) -> Option<u16> {
-        self.current.as_ref().map(|it| it.0.shard())
+    /// Lets the control go on with the migrations under way, because somebody else decides whether the server leaves.
+    pub(super) fn hand_over(&mut self, control: &mut Controller) {
+        self.moves.hand_over(control);
     }
 
-    /// Whether whoever leads goes on with it.
+    /// Returns whether the next leader goes on with it.
     pub(super) fn is_intended(&self) -> bool {
         self.is_intended
     }
 
-    /// Makes the next step, and tells which shards went where at the end.
+    /// Makes the next step. At the end, tells the destinations of the shards.
     pub(super) fn advance(&mut self, control: &mut Controller) -> Result<Advance, Refusal> {
         let advanced = self.go_on(control);
         let is_over = match &advanced {
@@ -85,12 +89,15 @@ impl Drain {
             Ok(_) => false,
             Err(refusal) => !refusal.is_of_store(),
         };
+        if is_over {
+            self.moves.hand_over(control);
+        }
         if !(is_over && self.is_intended) {
             return advanced;
         }
         let withdrawn = control.backend.withdraw(&[Intent::Drain(self.server)]);
         match advanced {
-            // It is withdrawn the next time.
+            // The next step withdraws it.
             Ok(Advance::Done(done)) if withdrawn.is_err() => Ok(Advance::Told(done)),
             advanced => {
                 self.is_intended = false;
@@ -107,32 +114,50 @@ impl Drain {
             control.tell(self.server, Doing::Waiting(None));
             return Ok(Advance::Later);
         }
-        match self.step(control) {
-            Err(refusal) if !refusal.is_of_store() => match self.current.take() {
-                Some((migration, _)) => self.put_aside(migration.shard(), refusal),
-                // It is the plan that was refused, and no move.
-                None => Err(refusal),
-            },
-            stepped => stepped,
+        if let Some(ended) = self.moves.advance(control)? {
+            self.note(ended, control)?;
+        }
+        match self.moves.has_room(control) && !self.is_planned {
+            true => self.begin_next(control),
+            false => Ok(self.moves.wait(control)),
         }
     }
 
-    /// Goes on with other shards, as this one's move was refused; with a plan anew, if that may be why.
-    fn put_aside(&mut self, shard: u16, refusal: Refusal) -> Result<Advance, Refusal> {
+    /// Notes the outcome of a move. If it was refused, others go on; with a new plan, if an old plan may be the reason.
+    fn note(&mut self, ended: EndedMove, control: &mut Controller) -> Result<(), Refusal> {
+        self.is_planned = false;
+        let EndedMove { shard, to, outcome } = ended;
+        match outcome {
+            // If a shard stayed, the plan tells the next step.
+            Ok(()) if control.is_at(shard, to)? => {
+                self.moved.push((shard, to));
+                (self.end, self.others_end) = (None, None);
+                Ok(())
+            }
+            Ok(()) => Ok(()),
+            Err(refusal) => self.put_aside(shard, refusal),
+        }
+    }
+
+    fn put_aside(&mut self, shard: u16, refusal: Refusal) -> Result<(), Refusal> {
         if self.is_restart && refusal.is_for_good() {
             return Err(refusal);
         }
         if !self.planned.forget() {
             self.planned.put_aside(shard, refusal);
         }
-        Ok(Advance::soon())
+        Ok(())
     }
 
-    /// Returns how many shards the server is to lose. Refused if there is no such server, or if a shard fits nowhere
-    /// else and can't wait for the server's return.
+    /// Returns how many shards the server must lose. Fails if there is no such server, or if a shard fits on no other
+    /// server and can't wait for this one's return.
     fn begin(&mut self, control: &mut Controller) -> Result<usize, Refusal> {
         if !(1..=control.backend.servers()).contains(&self.server) {
             return Err(Refusal::unknown_server());
+        }
+        if !self.is_restart {
+            // No shard comes home to a server that is drained for good.
+            control.forget_homes(self.server)?;
         }
         if !control.backend.lasts() {
             let plan = control.backend.plan(self.server)?;
@@ -143,7 +168,7 @@ impl Drain {
         Ok(self.left(control)?.len())
     }
 
-    /// The shards that the server still executes alone.
+    /// Returns the shards that only this server executes still.
     fn left(&self, control: &mut Controller) -> Result<Vec<u16>, Refusal> {
         let mut left = Vec::new();
         for shard in 0..control.backend.shards() {
@@ -155,60 +180,73 @@ impl Drain {
         Ok(left)
     }
 
-    fn step(&mut self, control: &mut Controller) -> Result<Advance, Refusal> {
-        if let Some((migration, to)) = &mut self.current {
-            match migration.advance(control)? {
-                // Of a shard that stayed the plan tells what comes next.
-                Advance::Done(_) if control.is_at(migration.shard(), *to)? => {
-                    self.moved.push((migration.shard(), *to));
-                    (self.end, self.room_end) = (None, None);
-                }
-                Advance::Done(_) => {}
-                other => return Ok(other),
-            }
-            self.current = None;
+    /// Begins the next move of the plan.
+    fn begin_next(&mut self, control: &mut Controller) -> Result<Advance, Refusal> {
+        let next = self.planned.next(control)?;
+        let is_move = matches!(next, Next::Command(ControlCommand::PrepareAddShard(..)));
+        if !is_move && !self.moves.is_empty() {
+            // The migrations under way take room, and show which shards are left.
+            self.is_planned = true;
+            return Ok(self.moves.wait(control));
         }
-        match self.planned.next(control)? {
-            Next::Waits => return Ok(Advance::Later),
-            Next::Nothing => return self.ended(control),
+        match next {
+            Next::Waits => Ok(Advance::Later),
+            Next::Nothing if self.may_shards_come(control)? => Ok(Advance::After(PAUSE)),
+            Next::Nothing => self.ended(control),
             Next::Command(ControlCommand::Pause(shard)) if !control.backend.lasts() => {
-                return Err(Refusal::no_room(shard));
+                Err(Refusal::no_room(shard))
             }
             Next::Command(ControlCommand::Pause(_)) if self.may_room_come(control)? => {
-                return Ok(Advance::After(PAUSE));
+                Ok(Advance::After(PAUSE))
             }
             Next::Command(command) => {
                 self.intend(control, command)?;
-                if let later @ Advance::Later = self.make(control, command)? {
-                    return Ok(later);
-                }
+                let made = self.make(control, command)?;
+                self.tell(control);
+                Ok(made)
             }
         }
-        self.tell(control);
-        Ok(Advance::Again)
     }
 
-    /// Whether a migration is under way, which takes room at two servers until it ends. No shard is paused meanwhile
-    /// for want of room: it would wait for the server's return. The drain waits for the migration for a while.
+    /// Returns whether a migration is under way, which takes room at two servers until it ends. Meanwhile no shard is
+    /// paused for lack of room, because it would then wait for the server's return.
     fn may_room_come(&mut self, control: &mut Controller) -> Result<bool, Refusal> {
-        let mut is_moving = false;
-        for shard in 0..control.backend.shards() {
-            let stand = control.backend.record(shard)?.map(|it| it.stand);
-            is_moving |= match stand {
-                Some(Stand::Prepared { .. } | Stand::Forwarding { .. } | Stand::Taken { .. }) => {
-                    true
-                }
-                Some(Stand::Vacant | Stand::Serving(_) | Stand::Paused(_)) | None => false,
-            };
-        }
-        if !is_moving {
-            return Ok(false);
-        }
-        let end = *self.room_end.get_or_insert_with(|| control.patience());
-        Ok(control.now() < end)
+        self.waits_while(control, |stand| match stand {
+            Stand::Prepared { .. } | Stand::Forwarding { .. } | Stand::Taken { .. } => true,
+            Stand::Vacant | Stand::Serving(_) | Stand::Paused(_) => false,
+        })
     }
 
-    /// Nothing more is to be moved, but for what was refused.
+    /// Returns whether a shard is on its way to the server, because somebody, or a spread, sent it there before the
+    /// drain. A restart itself waits for such shards.
+    fn may_shards_come(&mut self, control: &mut Controller) -> Result<bool, Refusal> {
+        let (server, is_restart) = (self.server, self.is_restart);
+        self.waits_while(control, |stand| match stand {
+            Stand::Prepared { next: to, .. }
+            | Stand::Forwarding { next: to, .. }
+            | Stand::Taken { owner: to, .. } => to == server && !is_restart,
+            Stand::Vacant | Stand::Serving(_) | Stand::Paused(_) => false,
+        })
+    }
+
+    /// Returns whether a shard has a stand for whose end the drain waits. It waits only for a while: somebody may go on
+    /// with the shard by hand, or not at all.
+    fn waits_while(
+        &mut self,
+        control: &mut Controller,
+        is_awaited: impl Fn(Stand) -> bool,
+    ) -> Result<bool, Refusal> {
+        for shard in 0..control.backend.shards() {
+            let record = control.backend.record(shard)?;
+            if record.is_some_and(|it| is_awaited(it.stand)) {
+                let end = *self.others_end.get_or_insert_with(|| control.patience());
+                return Ok(control.now() < end);
+            }
+        }
+        Ok(false)
+    }
+
+    /// Ends the drain: except for refused shards, none is left to move.
     fn ended(&mut self, control: &mut Controller) -> Result<Advance, Refusal> {
         let left = self.left(control)?;
         if self.planned.refused().is_some() && !left.is_empty() {
@@ -218,10 +256,14 @@ impl Drain {
         if let Some(shard) = left.first().filter(|_| is_for_good) {
             return Err(Refusal::no_room(*shard));
         }
+        if control.peers.is_some() {
+            // Those that were under way at the same time ended in any order.
+            self.moved.sort_unstable();
+        }
         Ok(Advance::Done(ControlAnswer::of_moves(self.moved.drain(..))))
     }
 
-    /// Has moves that were refused be planned anew for a while, as another task may have their shards.
+    /// Plans refused moves again for a while, because another task may have their shards.
     fn try_again(&mut self, control: &Controller, left: &[u16]) -> Result<Advance, Refusal> {
         let end = *self.end.get_or_insert_with(|| control.patience());
         let refused = self
@@ -238,23 +280,34 @@ impl Drain {
         }
     }
 
-    /// Makes the command; goes on with the migration that it begins, also if the store doesn't say that it did.
+    /// Makes the command. Goes on with the migration that it begins, also if the store doesn't tell that it did.
     fn make(
         &mut self,
         control: &mut Controller,
         command: ControlCommand,
     ) -> Result<Advance, Refusal> {
-        if let ControlCommand::PrepareAddShard(shard, to) = command {
-            self.current = Some((Migration::going_on(shard), to));
-        }
         let stepped = control.step(command);
-        if matches!(stepped, Ok(Advance::Later)) {
-            self.current = None;
+        let ControlCommand::PrepareAddShard(shard, to) = command else {
+            return stepped;
+        };
+        match stepped {
+            Ok(Advance::Later) => return Ok(Advance::Later),
+            Err(refusal) if !refusal.is_of_store() => {
+                self.put_aside(shard, refusal)?;
+                return Ok(Advance::soon());
+            }
+            Ok(_) | Err(_) => {}
         }
-        stepped
+        let due = control.now() + control.host.pace();
+        self.moves.add(Migration::going_on(shard), to, Some(due));
+        stepped?;
+        Ok(match self.moves.has_room(control) {
+            true => Advance::soon(),
+            false => self.moves.wait(control),
+        })
     }
 
-    /// Keeps as an intent, before its command, what is to be gone on with.
+    /// Before its command, keeps the work as an intent, if the next leader must go on with it.
     fn intend(&mut self, control: &mut Controller, command: ControlCommand) -> Result<(), Refusal> {
         if self.is_restart {
             return match command {
@@ -267,7 +320,7 @@ impl Drain {
         if !self.has_intended {
             let intended = control.backend.intend(&[Intent::Drain(self.server)]);
             let may_lie = intended.as_ref().err().is_none_or(BackendFault::is_unknown);
-            // What an earlier try may have kept, a later one doesn't undo.
+            // If an earlier attempt may have kept it, a later one doesn't undo that.
             self.is_intended |= may_lie && control.backend.lasts();
             intended?;
             self.has_intended = true;
@@ -277,18 +330,15 @@ impl Drain {
 
     fn tell(&self, control: &Controller) {
         let done = self.moved.len();
-        let of = done + usize::from(self.current.is_some());
+        let of = done + self.moves.len();
         let of = of.max(self.of.unwrap_or_default());
         let doing = Doing::Draining(Share { done, of });
         control.tell(self.server, doing);
     }
 
-    /// Ends it where it is: one server has the shard that is under way alone.
+    /// Ends it as it is: each shard under way belongs to one server only.
     pub(super) fn give_up(&self, control: &mut Controller) -> Result<(), Refusal> {
-        match &self.current {
-            Some((migration, _)) => migration.give_up(control),
-            None => Ok(()),
-        }
+        self.moves.give_up(control)
     }
 }
 
@@ -298,12 +348,12 @@ mod tests {
     use super::*;
     use durkenzo_store::WriteError;
 
-    /// Drains server 1 to its end.
+    /// Drains server 1 to the end.
     fn drained(backend: &PlainBackend) -> Result<ControlAnswer, Refusal> {
         ended(backend, Drain::new(1, false))
     }
 
-    /// Has the drain go on to its end.
+    /// Runs the drain to its end.
     fn ended(backend: &PlainBackend, mut drain: Drain) -> Result<ControlAnswer, Refusal> {
         let mut control = backend.control();
         loop {
@@ -320,7 +370,7 @@ mod tests {
         let backend = PlainBackend::of(50, Stand::Serving(1));
         let told = drained(&backend).unwrap();
         assert_eq!(told, ControlAnswer::of_moves((0..50).map(|it| (it, 2))));
-        // Before it begins, for its moves, and to find that nothing is left.
+        // It plans before it begins, for its moves, and to find that nothing is left.
         assert!(backend.plain().plans <= 4, "{}", backend.plain().plans);
     }
 
@@ -354,10 +404,26 @@ mod tests {
         drain.advance(&mut control).unwrap();
         let begun = Stand::Prepared { owner: 1, next: 2 };
         assert_eq!(backend.plain().stands[0], begun);
-        // Without a migration there is nothing to wait for.
+        // Without a migration there is nothing for which to wait.
         (backend.plain().stands[0], backend.plain().is_full) = (Stand::Serving(2), true);
         ended(&backend, Drain::new(1, true)).unwrap();
         assert_eq!(backend.plain().stands[1], Stand::Paused(1));
+    }
+
+    #[test]
+    fn a_drain_waits_for_a_while_for_shards_on_their_way_to_its_server() {
+        let moving = Stand::Prepared { owner: 2, next: 1 };
+        let backend = PlainBackend::of(1, moving);
+        let mut drain = Drain::new(1, false);
+        let waits = drain.advance(&mut backend.control()).unwrap();
+        assert!(matches!(waits, Advance::After(_)), "{waits:?}");
+        backend.plain().stands[0] = Stand::Serving(1);
+        let told = ended(&backend, drain).unwrap();
+        assert_eq!(told, ControlAnswer::of_moves([(0, 2)]));
+        // Nobody goes on with it.
+        backend.plain().stands[0] = moving;
+        let told = drained(&backend).unwrap();
+        assert_eq!(told, ControlAnswer::of_moves([]));
     }
 
     #[test]
@@ -367,7 +433,7 @@ mod tests {
         let (mut control, mut drain) = (backend.control(), Drain::new(1, true));
         drain.advance(&mut control).unwrap();
         assert_eq!(backend.plain().stands[0], Stand::Paused(1));
-        // There is room later, and another task has the shard for a while.
+        // There is room later, and for a while another task has the shard.
         backend.plain().passed += Duration::from_secs(3_600);
         (backend.plain().is_full, backend.plain().busy) = (false, [(1, 5)].into());
         let told = ended(&backend, drain).unwrap();

@@ -1,20 +1,20 @@
-//! What the control of several processes does beside answering. It is the failure detector: a server whose key has gone
-//! with its lease has failed, and its shards go to others.
+//! The work of the leader among several processes, beside answering. It is the failure detector: a server whose key has
+//! gone with its lease has failed, and its shards go to others.
 use super::controller::{Controller, TURN};
 use super::held_command::{HeldCommand, Waiting};
 use super::task::Task;
 use super::{OtherControls, Refusal};
 use durkenzo_driver::{ControlCommand, Next, ServerState};
-use std::collections::BTreeSet;
+use std::collections::{BTreeMap, BTreeSet};
 use std::sync::atomic::{AtomicBool, Ordering};
 use std::sync::Arc;
 use std::time::{Duration, Instant};
 
-/// How often it is looked who is there.
+/// How often it checks which servers are there.
 const TICK: Duration = Duration::from_millis(50);
-/// How long it isn't looked again after that failed.
+/// The pause after a failed check.
 const PAUSE: Duration = Duration::from_millis(500);
-/// How long vacant shards wait for all servers before those that are there get them.
+/// How long vacant shards wait for all servers, before the servers that are there get them.
 pub const FIRST_WAIT: Duration = Duration::from_secs(10);
 
 /// The control of several processes, while this one leads.
@@ -25,8 +25,8 @@ pub(super) struct Leader {
 }
 
 impl Leader {
-    /// Has this control lead several processes. Vacant shards get owners, where that is wanted, once all servers are
-    /// there, or have been waited for. Where this process's server is back from a stop it is up then.
+    /// Makes this control lead several processes. If `assigns` is set, vacant shards get owners once all servers are
+    /// there, or have been awaited long enough. If this process's server is back from a stop, it is brought up then.
     pub(super) fn new(
         mut control: Controller,
         peers: Arc<dyn OtherControls>,
@@ -41,15 +41,15 @@ impl Leader {
         }
     }
 
-    /// How long it is until the next turn, if somebody asks no sooner.
+    /// Returns how long it is until the next turn, if somebody asks no sooner.
     pub(super) fn wait(&self) -> Duration {
         let now = self.control.now();
         let left = self.watch.due.saturating_duration_since(now);
         self.control.wait_as_leader().min(left)
     }
 
-    /// Takes what waits, and does what is due. Returns whether this process leads on. If it doesn't, what waits goes to
-    /// whoever leads then.
+    /// Takes waiting commands, and does the work that is due. Returns whether this process goes on leading. If it
+    /// doesn't, waiting commands go to the next leader.
     pub(super) fn turn(&mut self, waiting: &Waiting) -> bool {
         let control = &mut self.control;
         if control.host.is_stopping() {
@@ -66,20 +66,20 @@ impl Leader {
         true
     }
 
-    /// Answers all tasks: another process goes on with what is under way.
+    /// Answers all tasks: another process goes on with the work.
     pub(super) fn leave(mut self) {
         self.control.leave();
     }
 
-    /// Whether nothing is under way.
+    /// Returns whether nothing is under way.
     pub(super) fn is_idle(&self) -> bool {
         self.control.tasks.is_empty() && self.watch.has_begun
     }
 }
 
 impl Controller {
-    /// Takes what waits, once all that was under way before it is known: an intent that is read behind a command
-    /// would undo that. Before then what has waited in vain is refused.
+    /// Takes waiting commands, once all earlier work under way is known. Otherwise an intent that is read after a
+    /// command would undo that command. Before that, it refuses commands that have waited in vain.
     fn take_waiting(&mut self, waiting: &Waiting, has_begun: bool) {
         let now = self.now();
         for HeldCommand { until, asked } in waiting.take() {
@@ -92,17 +92,17 @@ impl Controller {
     }
 }
 
-/// How far a leader is with what it looks after.
+/// The progress of a leader's periodic work.
 struct LeaderWatch {
-    /// When it looks next.
+    /// When it checks next.
     due: Instant,
-    /// Whether it has looked at all that was under way when it began.
+    /// Whether it has looked at all work that was under way when it began.
     has_begun: bool,
-    /// Until when vacant shards wait for all servers; none where they have got owners.
+    /// Until when vacant shards wait for all servers; nothing once they have owners.
     assigns: Option<Instant>,
     /// Whether others know that this process leads.
     is_known: bool,
-    /// Whether this process's server is back from a stop, and not up yet.
+    /// Whether this process's server is back from a stop, and isn't up yet.
     is_back: Arc<AtomicBool>,
 }
 
@@ -117,14 +117,14 @@ impl LeaderWatch {
         }
     }
 
-    /// Whether another process leads, or this one's lease has ended.
+    /// Returns whether another process leads, or this one's lease has ended.
     fn is_led_elsewhere(&mut self, peers: &dyn OtherControls) -> bool {
         let leads = peers.member().leader() == Some(peers.member().process());
         self.is_known |= leads;
         self.is_known && !leads
     }
 
-    /// Looks, if it is time. It may be that another process led before this one saw that it was elected itself.
+    /// Makes a check, if it is due. Perhaps another process led before this one saw that it was elected itself.
     fn go_on(&mut self, control: &mut Controller) {
         if let Err(refusal) = self.look(control) {
             tracing::warn!(%refusal, "the control doesn't go on for now");
@@ -145,22 +145,23 @@ impl LeaderWatch {
         }
         self.have_own_back(control)?;
         have_back(control)?;
+        control.begin_to_come_home()?;
         if self.assigns.is_some() {
             self.assign(control)?;
         }
-        // While no shard has an owner, who isn't there may only not have come yet.
+        // While no shard has an owner, a server that isn't there may simply not have started yet.
         if self.assigns.is_none() || is_owned(control)? {
             self.have_fail(control)?;
         }
         control.resume_left()
     }
 
-    /// Has servers have failed that aren't there any more. Goes on with their shards, and with those of servers that
-    /// somebody had have failed: at the next look if the store doesn't let it now.
+    /// Declares servers failed that aren't there any more. Goes on with their shards, and with those of servers that
+    /// somebody declared failed. If the store doesn't allow it now, the next check does it.
     fn have_fail(&mut self, control: &mut Controller) -> Result<(), Refusal> {
         while let Some(server) = control.backend.fallen()? {
             match control.make(ControlCommand::Fail(server)) {
-                // It is back under a new lease: the next look reads anew who is there.
+                // It is back under a new lease. The next check reads again which servers are there.
                 Err(refusal) if refusal.is_still_there() => {
                     self.due = control.now() + PAUSE;
                     break;
@@ -169,15 +170,17 @@ impl LeaderWatch {
             }
         }
         if control.has_fallen {
+            control.have_fallen_come_home()?;
             go_on_with_shards(control)?;
             control.has_fallen = false;
         }
         Ok(())
     }
 
-    /// Has this process's server be up, where it was stopped before the process began.
+    /// Brings this process's server up, if it was stopped before the process began.
     fn have_own_back(&self, control: &mut Controller) -> Result<(), Refusal> {
         let own = control.peers.as_ref().map(|it| it.member().server());
+        let own = own.filter(|it| *it <= control.backend.servers());
         if let Some(own) = own.filter(|_| self.is_back.load(Ordering::Acquire)) {
             if control.backend.state_of(own)? == ServerState::Stopped {
                 control.make(ControlCommand::Back(own))?;
@@ -187,7 +190,7 @@ impl LeaderWatch {
         Ok(())
     }
 
-    /// Gives vacant shards owners for a while, if it is time.
+    /// Gives vacant shards owners for a while, if that is due.
     fn assign(&mut self, control: &mut Controller) -> Result<(), Refusal> {
         let live = live(control);
         let is_due = self.assigns.is_some_and(|it| it <= control.now());
@@ -214,7 +217,7 @@ impl LeaderWatch {
     }
 }
 
-/// Whether a shard has no owner.
+/// Returns whether a shard has no owner.
 fn has_vacant(control: &mut Controller) -> Result<bool, Refusal> {
     for shard in 0..control.backend.shards() {
         if control.is_vacant(shard)? {
@@ -224,7 +227,7 @@ fn has_vacant(control: &mut Controller) -> Result<bool, Refusal> {
     Ok(false)
 }
 
-/// Whether a shard has an owner.
+/// Returns whether a shard has an owner.
 fn is_owned(control: &mut Controller) -> Result<bool, Refusal> {
     for shard in 0..control.backend.shards() {
         if !control.is_vacant(shard)? {
@@ -234,14 +237,21 @@ fn is_owned(control: &mut Controller) -> Result<bool, Refusal> {
     Ok(false)
 }
 
-/// The servers that are there.
+/// Returns the servers that are there, except for those that were removed.
 fn live(control: &Controller) -> BTreeSet<u16> {
-    let peers = control.peers.as_ref();
-    let members = peers.map(|it| it.member().members());
-    members.iter().flat_map(|it| it.keys().copied()).collect()
+    processes(control).into_keys().collect()
 }
 
-/// Goes on where the process that led before was.
+/// Returns the numbers of the processes of these servers.
+fn processes(control: &Controller) -> BTreeMap<u16, u64> {
+    let (peers, servers) = (control.peers.as_ref(), control.backend.servers());
+    let members = peers.map(|it| it.member().members());
+    let live = members.iter().flat_map(|it| it.iter());
+    let known = live.filter(|it| *it.0 <= servers);
+    known.map(|it| (*it.0, it.1.process)).collect()
+}
+
+/// Goes on at the point at which the former leader was.
 fn begin(control: &mut Controller) -> Result<(), Refusal> {
     let known: BTreeSet<u16> = control.tasks.iter().filter_map(Task::restarts).collect();
     for server in 1..=control.backend.servers() {
@@ -252,11 +262,14 @@ fn begin(control: &mut Controller) -> Result<(), Refusal> {
             control.tasks.push(Task::restart(server));
         }
     }
+    // The former leader may have noted that a server failed, and nothing more.
+    control.note_homes()?;
+    control.have_fallen_come_home()?;
     go_on_with_shards(control)?;
     control.go_on_with_intents()
 }
 
-/// Goes on with shards of which something is under way, but for those with which it does already.
+/// Goes on with shards for which work is under way, unless it does so already.
 fn go_on_with_shards(control: &mut Controller) -> Result<(), Refusal> {
     let known: BTreeSet<u16> = control.tasks.iter().filter_map(Task::migrates).collect();
     for shard in 0..control.backend.shards() {
@@ -267,23 +280,22 @@ fn go_on_with_shards(control: &mut Controller) -> Result<(), Refusal> {
     Ok(())
 }
 
-/// Has servers be up again that are there: those that had failed, once all that they owned went elsewhere or can't, and
-/// those whose restart is over, as a later process runs them. If a state doesn't say which process was stopped, the
-/// server's process asks for it when it begins.
+/// Brings servers up that are there: those that had failed, once all their shards have gone to others or can't; and
+/// those whose restart is over, because a later process runs them. If a state doesn't say which process was stopped,
+/// the server's process asks for it when it begins.
 fn have_back(control: &mut Controller) -> Result<(), Refusal> {
-    let members = control.peers.as_ref().map(|it| it.member().members());
-    for (server, live) in members.iter().flat_map(|it| it.iter()) {
-        if control.backend.state_of(*server)? == ServerState::Failed {
-            have_one_back(control, *server)?;
+    for (server, process) in processes(control) {
+        if control.backend.state_of(server)? == ServerState::Failed {
+            have_one_back(control, server)?;
         }
-        if control.backend.is_restarted_by(*server, live.process)? {
-            control.make(ControlCommand::Back(*server))?;
+        if control.backend.is_restarted_by(server, process)? {
+            control.make(ControlCommand::Back(server))?;
         }
     }
     Ok(())
 }
 
-/// Has this server be up again, unless a shard of it still goes elsewhere. Those that fit on no other server are
+/// Brings this server up, unless one of its shards still goes to another server. Shards that fit on no other server are
 /// resumed then.
 fn have_one_back(control: &mut Controller, server: u16) -> Result<(), Refusal> {
     for shard in 0..control.backend.shards() {
@@ -306,8 +318,8 @@ mod tests {
     use durkenzo_driver::{Clock, Refused};
     use durkenzo_store::WriteError;
 
-    /// Two servers without shards, of which the second is always back as it is said to have failed; if another process
-    /// leads, it tells nothing.
+    /// Two servers without shards. The second one is always back when it is declared failed. If another process leads,
+    /// it tells nothing.
     struct Returning {
         is_led_elsewhere: bool,
     }
@@ -364,7 +376,7 @@ mod tests {
         }
     }
 
-    /// A control of these servers and what it looks after, at a moment that doesn't pass.
+    /// Returns a control of these servers and its leader's part, at a moment that stands still.
     fn begun(backend: Returning) -> (Controller, LeaderWatch, Instant) {
         let began = Clock::default().now();
         let clock = Clock::new(move || began);
@@ -438,7 +450,7 @@ mod tests {
         let is_led_elsewhere = false;
         let (mut control, mut watch, began) = begun(Returning { is_led_elsewhere });
         watch.have_fail(&mut control).unwrap();
-        // Who is there is read again at the next look, which comes no sooner.
+        // The next check reads again which servers are there. It comes no sooner.
         assert_eq!(watch.due, began + PAUSE);
         assert!(!control.has_fallen && !control.is_lost);
     }

@@ -6,24 +6,24 @@ use super::Refusal;
 use durkenzo::Stand;
 use durkenzo_driver::{ControlCommand, Next};
 
-/// A whole migration of a shard, of which each call makes a step.
+/// A whole migration of a shard. Each call makes a step.
 #[derive(Debug)]
 pub(super) struct Migration {
     shard: u16,
-    /// The server to which somebody has it go.
+    /// The server to which somebody moves it.
     to: Option<u16>,
-    /// Whether it has begun, so that whoever leads goes on with it.
+    /// Whether it has begun, so that the next leader goes on with it.
     has_begun: bool,
-    /// Whether it may have begun all the same, as the store didn't say so.
+    /// Whether it may have begun anyway, because the store didn't tell.
     is_doubtful: bool,
-    /// For how long the next step is tried again, while another thread has the shard.
+    /// For how long the next step is tried again while another thread has the shard.
     patience: Patience,
-    /// Why it is given up, once it is: its shard is to stay then.
+    /// Why it was given up, if it was. Then its shard must stay.
     given_up: Option<Refusal>,
 }
 
 impl Migration {
-    /// The migration of the shard to this server.
+    /// Returns the migration of the shard to this server.
     pub(super) fn new(shard: u16, server: u16) -> Migration {
         Migration {
             to: Some(server),
@@ -32,7 +32,7 @@ impl Migration {
         }
     }
 
-    /// A migration that has begun, or what else is under way of the shard.
+    /// Returns a migration that has begun, or other work under way for the shard.
     pub(super) fn going_on(shard: u16) -> Migration {
         Migration {
             shard,
@@ -44,17 +44,22 @@ impl Migration {
         }
     }
 
-    /// The shard.
+    /// Returns the shard.
     pub(super) fn shard(&self) -> u16 {
         self.shard
     }
 
-    /// Whether it has begun, so that whoever leads goes on with it.
+    /// Returns whether it has begun, so that the next leader goes on with it.
     pub(super) fn has_begun(&self) -> bool {
         self.has_begun
     }
 
-    /// Makes the next step. If another thread keeps it from one before the owner's change, the shard stays.
+    /// Returns whether it may have begun, as far as the store tells.
+    pub(super) fn may_have_begun(&self) -> bool {
+        self.has_begun || self.is_doubtful
+    }
+
+    /// Makes the next step. If another thread prevents a step before the change of owner, the shard stays.
     pub(super) fn advance(&mut self, control: &mut Controller) -> Result<Advance, Refusal> {
         if let Some(refusal) = self.given_up.clone() {
             return self.stay(refusal, control);
@@ -64,7 +69,7 @@ impl Migration {
                 if self.patience.lasts(control.now()) {
                     return Ok(Advance::soon());
                 }
-                // What is under way of the shard then is another's.
+                // Work under way for the shard is then another task's.
                 if !self.has_begun {
                     return Err(refusal);
                 }
@@ -78,7 +83,7 @@ impl Migration {
         }
     }
 
-    /// Has the shard stay, and then is refused for this reason.
+    /// Makes the shard stay, and then fails for this reason.
     fn stay(&mut self, why: Refusal, control: &mut Controller) -> Result<Advance, Refusal> {
         match self.cancel(control) {
             Err(refusal) if refusal.is_passing() && self.patience.lasts(control.now()) => {
@@ -95,6 +100,7 @@ impl Migration {
         match control.backend.next_of_shard(self.shard)? {
             Next::Nothing => self.end(control),
             Next::Waits => Ok(Advance::Later),
+            Next::Command(ControlCommand::Reassign(shard, named)) => control.reassign(shard, named),
             Next::Command(command) => {
                 if let ControlCommand::Pause(shard) = command {
                     control.paused.insert(shard);
@@ -116,7 +122,7 @@ impl Migration {
         Ok(Advance::Again)
     }
 
-    /// Nothing is under way any more: it is refused if the shard isn't at the server to which it was to go.
+    /// Ends the migration: nothing is under way any more. Fails if the shard isn't at its destination.
     fn end(&self, control: &mut Controller) -> Result<Advance, Refusal> {
         match self.to {
             Some(server) if !control.is_at(self.shard, server)? => {
@@ -126,7 +132,7 @@ impl Migration {
         }
     }
 
-    /// Has the shard's owner execute alone again, if the next owner doesn't own it yet.
+    /// Makes only the shard's owner execute again, if the next owner doesn't own it yet.
     fn cancel(&self, control: &mut Controller) -> Result<(), Refusal> {
         match self.stand(control)? {
             Some(Stand::Prepared { .. } | Stand::Forwarding { .. }) => {
@@ -137,7 +143,7 @@ impl Migration {
         }
     }
 
-    /// Ends it where it is: one server has the shard alone.
+    /// Ends it as it is: only one server has the shard.
     pub(super) fn give_up(&self, control: &mut Controller) -> Result<(), Refusal> {
         if !self.has_begun {
             return Ok(());

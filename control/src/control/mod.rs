@@ -1,8 +1,9 @@
-//! The control: who owns a shard, and which server is restarted. It has a thread of its own.
+//! The control: it moves shards and restarts servers, as proved code allows. It has its own thread.
 //!
 //! A [`Controller`] takes commands, [`Asked`], and answers each of them once. It stands on a [`Backend`]: a store, by
-//! [`StoreBackend`], or what else makes commands and has proved code say what comes next. Of several processes that
-//! share a store each has a [`Campaigner`]: it leads with a controller of its own, or has the one that leads answer.
+//! [`StoreBackend`], or anything else that makes commands and has proved code choose the next ones. If several
+//! processes share a store, each has a [`Campaigner`]: it leads with its own controller, or lets the leader's process
+//! answer.
 //!
 //! ```
 //! use durkenzo_control::control::{Asked, ControlAnswer, Refusal, ReplyTo, Words};
@@ -35,6 +36,7 @@ mod asked;
 mod asked_command;
 mod backend;
 mod campaigner;
+mod change_log;
 mod control_host;
 #[allow(clippy::disallowed_methods)]
 mod control_thread;
@@ -44,6 +46,7 @@ mod held_command;
 mod homes;
 mod leader;
 mod migration;
+mod moves;
 mod other_controls;
 mod patience;
 #[cfg(test)]
@@ -53,8 +56,10 @@ mod progress;
 mod refusal;
 mod refusal_names;
 mod reply_to;
+mod resized_settings;
 mod restart;
 mod rolling_restart;
+mod shares;
 mod spread;
 mod store_backend;
 mod task;

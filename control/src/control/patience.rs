@@ -10,7 +10,7 @@ pub(super) struct Patience {
 }
 
 impl Patience {
-    /// Returns whether a change that was refused now is to be tried again.
+    /// Returns whether a change that was refused now must be tried again.
     pub(super) fn lasts(&mut self, now: Instant) -> bool {
         now < *self.end.get_or_insert(now + PATIENCE)
     }

@@ -1,8 +1,8 @@
-//! What tests have a control stand on: plain records, by which no caps or rooms are judged.
+//! The backend of tests: plain records, without caps or capacities.
 use super::backend::{Backend, BackendFault};
 use super::controller::Controller;
 use super::progress::Doing;
-use super::{ControlAnswer, ControlHost, Refusal, ReplyTo};
+use super::{Asked, ControlAnswer, ControlHost, Refusal, ReplyTo, Words};
 use durkenzo::{ChangeFault, Move, Plan, Record, RestartFault, Stand};
 use durkenzo_driver::{Clock, ControlCommand, Intent, Next, Refused, ServerState, Subject};
 use durkenzo_store::WriteError;
@@ -11,13 +11,13 @@ use std::sync::mpsc::{channel, Receiver, Sender};
 use std::sync::{Arc, Mutex, MutexGuard};
 use std::time::{Duration, Instant};
 
-/// Two servers, of which each takes all shards of the other. What a test looks at or has go wrong, it shares.
+/// Two servers, each of which takes all shards of the other. A test shares the parts that it looks at or breaks.
 #[derive(Clone)]
 pub(super) struct PlainBackend(Arc<Mutex<Plain>>);
 
 pub(super) struct Plain {
     beginning: Instant,
-    /// How much time has passed, as a test has it.
+    /// How much time has passed, as the test sets it.
     pub(super) passed: Duration,
     pub(super) stands: Vec<Stand>,
     pub(super) lasts: bool,
@@ -25,22 +25,24 @@ pub(super) struct Plain {
     pub(super) is_full: bool,
     /// How often it planned.
     pub(super) plans: usize,
-    /// The shards of which no change begins.
+    /// The shards that no change can begin to move.
     pub(super) spent: BTreeSet<u16>,
-    /// Why the store doesn't say of the next intents that it keeps them.
+    /// Why the store doesn't confirm that it keeps the next intents.
     pub(super) unkept: VecDeque<WriteError>,
+    /// The intents that it keeps.
+    pub(super) intents: Vec<Intent>,
     /// Why the next command isn't made.
     pub(super) unmade: Option<Refused>,
     /// The shards that are busy, and for how many tries.
     pub(super) busy: BTreeMap<u16, u32>,
-    /// The server whose restart is approved, and waits until its shards are let go.
+    /// The server whose restart is approved, and waits until its shards are free.
     pub(super) approved: Option<u16>,
-    /// What a control that stands on it tells of servers.
+    /// The control's notes about servers.
     pub(super) doing: BTreeMap<u16, Doing>,
 }
 
 impl PlainBackend {
-    /// So many shards, which all stand so.
+    /// Makes a backend with so many shards, which all have this stand.
     pub(super) fn of(shards: usize, stand: Stand) -> PlainBackend {
         let plain = Plain {
             stands: vec![stand; shards],
@@ -51,6 +53,7 @@ impl PlainBackend {
             plans: 0,
             spent: BTreeSet::new(),
             unkept: VecDeque::new(),
+            intents: Vec::new(),
             unmade: None,
             busy: BTreeMap::new(),
             approved: None,
@@ -59,7 +62,7 @@ impl PlainBackend {
         PlainBackend(Arc::new(Mutex::new(plain)))
     }
 
-    /// A control that stands on it.
+    /// Returns a control that stands on it.
     pub(super) fn control(&self) -> Controller {
         let this = self.clone();
         let clock = Clock::new(move || this.plain().now());
@@ -69,7 +72,7 @@ impl PlainBackend {
         Controller::new(Arc::new(host), Box::new(self.clone()), clock)
     }
 
-    /// What tests look at.
+    /// Returns the part that tests look at.
     pub(super) fn plain(&self) -> MutexGuard<'_, Plain> {
         self.0.lock().unwrap()
     }
@@ -140,7 +143,7 @@ impl Plain {
     }
 }
 
-/// The server that takes shards of this one.
+/// Returns the server that takes shards of this one.
 fn other(server: u16) -> u16 {
     server % 2 + 1
 }
@@ -187,7 +190,7 @@ impl Backend for PlainBackend {
         Ok(match plan.moves.first() {
             None => Next::Nothing,
             Some(it) if self.plain().is_full => Next::Command(ControlCommand::Pause(it.shard)),
-            // As the proved control: what it would refuse, it waits with.
+            // As the proved control: if it would refuse, it waits.
             Some(it) if self.plain().lasts && self.plain().spent.contains(&it.shard) => Next::Waits,
             Some(it) if server == 0 => Next::Command(ControlCommand::Assign(it.shard, it.server)),
             Some(it) => Next::Command(ControlCommand::PrepareAddShard(it.shard, it.server)),
@@ -212,22 +215,35 @@ impl Backend for PlainBackend {
 
     fn show_state(&mut self, _server: u16, _state: ServerState) {}
 
-    fn intend(&mut self, _intents: &[Intent]) -> Result<(), BackendFault> {
-        match self.plain().unkept.pop_front() {
-            None => Ok(()),
+    fn intents(&mut self) -> Result<Vec<Intent>, BackendFault> {
+        Ok(self.plain().intents.clone())
+    }
+
+    fn intend(&mut self, intents: &[Intent]) -> Result<(), BackendFault> {
+        let mut plain = self.plain();
+        match plain.unkept.pop_front() {
+            None => {
+                plain.intents.extend(intents);
+                Ok(())
+            }
             Some(error) => Err(Refused::Write(error).into()),
         }
     }
+
+    fn withdraw(&mut self, intents: &[Intent]) -> Result<(), BackendFault> {
+        self.plain().intents.retain(|it| !intents.contains(it));
+        Ok(())
+    }
 }
 
-/// Somebody who asks, and is told the answer.
+/// A client that asks, and gets the answer.
 #[derive(Debug)]
 pub(super) struct Teller(Sender<Told>);
 
-type Told = Result<ControlAnswer, Refusal>;
+pub(super) type Told = Result<ControlAnswer, Refusal>;
 
 impl Teller {
-    /// Where an answer goes, and where it comes.
+    /// Returns an address for an answer, and its receiver.
     pub(super) fn pair() -> (Box<dyn ReplyTo>, Receiver<Told>) {
         let (tell, told) = channel();
         (Box::new(Teller(tell)), told)
@@ -244,10 +260,18 @@ impl ReplyTo for Teller {
     }
 }
 
-/// A host that shows nothing, and has no pace.
+/// Gives the command to the control in its turn.
+pub(super) fn asked(control: &mut Controller, line: &str) -> Receiver<Told> {
+    let (reply_to, told) = Teller::pair();
+    let words = Words::of(line.split(' '));
+    control.turn(Some(Asked { words, reply_to }));
+    told
+}
+
+/// A host that shows nothing, and has no pause between steps.
 #[derive(Default)]
 pub(super) struct QuietHost {
-    /// Where it notes what is under way at servers.
+    /// The place for its notes about work under way at servers.
     noting: Option<PlainBackend>,
 }
 

@@ -4,30 +4,30 @@ use std::collections::BTreeMap;
 use std::fmt;
 use std::sync::{Mutex, MutexGuard, PoisonError};
 
-/// What a restart, or a drain, of a server is about.
+/// The present step of a server's restart or drain.
 #[derive(Clone, Copy, Debug, PartialEq, Eq)]
 pub enum Doing {
-    /// It waits until the caps let the server go: for this one, which stands so, if one is away. A drain waits until
-    /// another one ends.
+    /// It waits until the caps let the server go. If a server is away, it waits for that one, with its state. A drain
+    /// waits until another one ends.
     Waiting(Option<(u16, ServerState)>),
     /// Shards of the server go to others.
     Draining(Share),
-    /// Other tasks are to end that have shards of the server, and its process is to ack those that are paused for it.
+    /// Other tasks that have shards of the server must end, and its process must ack those that are paused for it.
     LettingGo,
-    /// No thread is to have a pass of the server.
+    /// All threads must give back their passes of the server.
     Stopping,
-    /// Its process is to be ended, and begun again.
+    /// Its process must be ended, and started again.
     Ended,
     /// The server's shards come home.
     Returning(Share),
 }
 
-/// So many shards of all that are to go.
+/// So many shards of all that must move.
 #[derive(Clone, Copy, Debug, PartialEq, Eq)]
 pub struct Share {
-    /// How many went.
+    /// How many have moved.
     pub done: usize,
-    /// How many are to go.
+    /// How many must move.
     pub of: usize,
 }
 
@@ -53,24 +53,24 @@ impl fmt::Display for Doing {
     }
 }
 
-/// What is under way at which server, which the control alone changes.
+/// The work under way at each server. Only the control changes it.
 #[derive(Debug, Default)]
 pub struct Progress {
     rows: Mutex<BTreeMap<u16, Doing>>,
 }
 
 impl Progress {
-    /// Notes what is under way at the server.
+    /// Notes the work under way at the server.
     pub fn set(&self, server: u16, doing: Doing) {
         self.rows().insert(server, doing);
     }
 
-    /// Notes that nothing is.
+    /// Notes that there is none.
     pub fn clear(&self, server: u16) {
         self.rows().remove(&server);
     }
 
-    /// What is under way at the server, if anything.
+    /// Returns the work under way at the server, if there is any.
     pub fn of(&self, server: u16) -> Option<Doing> {
         self.rows().get(&server).copied()
     }
@@ -80,8 +80,8 @@ impl Progress {
     }
 }
 
-/// The first server but this one that is away for a restart, or may go for one, and how it stands; if there is none,
-/// the first one that has failed.
+/// Returns the first server except this one that is away for a restart, or may go for one, and its state. If there is
+/// none, returns the first one that has failed.
 pub(super) fn away(states: &[(u16, ServerState)], but: u16) -> Option<(u16, ServerState)> {
     let mut others = states.iter().copied().filter(|it| it.0 != but);
     let restarting = others.clone().find(|it| it.1.is_restarting());
@@ -101,7 +101,7 @@ mod tests {
         let told = Doing::Waiting(away(&states, 1)).to_string();
         assert_eq!(told, "waiting for server 2, failed");
         assert_eq!(away(&states, 2), None);
-        // It may go once this one is back, whoever has failed.
+        // It may go once this one is back, even if others have failed.
         states[2].1 = ServerState::Stopped;
         assert_eq!(away(&states, 1), Some((3, ServerState::Stopped)));
     }

@@ -6,20 +6,22 @@ use durkenzo_store::{ReadError, WriteError};
 use std::error::Error;
 use std::fmt;
 
-/// The name of what it may do later.
+/// The name of a refusal of a command that may succeed later.
 const NOT_NOW: &str = "NotNow";
-/// The name where another process leads, or none does.
+/// The name of a refusal because another process leads, or none does.
 const NOT_LEADER: &str = "NotLeader";
-/// The name where a server is there that is said to have failed.
+/// The name of a refusal because a server is there that was declared failed.
 const STILL_THERE: &str = "StillThere";
-/// The name where a server is to be up again whose process is still the one that was stopped.
+/// The name of a refusal because a server's process is still the one that was stopped.
 const STILL_STOPPED: &str = "StillStopped";
-/// The name where a shard has no generations left.
+/// The name of a refusal because a shard has no generations left.
 const SPENT: &str = "Spent";
-/// How many shards a refusal names.
+/// The name of a refusal because settings break a rule.
+const BAD_SETTINGS: &str = "BadSettings";
+/// The most shards that a refusal names.
 const MOST_NAMED: usize = 8;
 
-/// Why the control does nothing, and what to do.
+/// Why the control does nothing, and the advice.
 #[derive(Clone, Debug, PartialEq, Eq)]
 pub struct Refusal {
     /// The name, as in scripts.
@@ -29,7 +31,7 @@ pub struct Refusal {
 }
 
 impl Refusal {
-    /// One with this name, reason and advice.
+    /// Makes a refusal with this name, reason and advice.
     pub fn new(name: &str, reason: impl Into<String>, advice: impl Into<String>) -> Refusal {
         let (name, reason, advice) = (name.into(), reason.into(), advice.into());
         Refusal {
@@ -39,13 +41,13 @@ impl Refusal {
         }
     }
 
-    /// That there is no such word, or that what follows it isn't as it has to be, which is written so.
+    /// Returns the refusal that there is no such word, or that its arguments are wrong. `wanted` is the right form.
     pub fn usage(wanted: Option<&str>) -> Refusal {
         let advice = "SM HELP lists all words";
         let Some(wanted) = wanted else {
             return Refusal::new("UnknownWord", "SM has no such word", advice);
         };
-        // Shards, servers, clients and their requests are named by a letter.
+        // Shards, servers, clients and their requests have names of one letter.
         let numbers: Vec<&str> = wanted.split(' ').filter(|it| it.len() == 1).collect();
         let of = match numbers.is_empty() {
             true => String::new(),
@@ -54,7 +56,7 @@ impl Refusal {
         Refusal::new("BadLine", format!("it is written SM {wanted}{of}"), advice)
     }
 
-    /// That SM has no word, and refuses by no name, that is so.
+    /// Returns the refusal that SM has neither such a word nor such a name.
     pub fn no_meaning() -> Refusal {
         let reason = "SM has no such word, nor a name of its own that is so";
         Refusal::new(
@@ -64,13 +66,14 @@ impl Refusal {
         )
     }
 
-    /// That the word is there in this case alone.
+    /// Returns the refusal that the word exists only in this case.
     pub fn there_alone(word: &str, case: &str) -> Refusal {
         let reason = format!("SM {word} is there {case} alone");
         Refusal::new("NotThere", reason, "SM HELP lists all words")
     }
 
-    /// That servers which are processes aren't restarted all at once, as somebody is to begin each again.
+    /// Returns the refusal that servers in several processes aren't restarted all at once, because somebody must start
+    /// each process again.
     pub fn one_by_one() -> Refusal {
         let reason = "each process of a cluster is to be ended and begun again by hand";
         let advice = "SM RESTART a, and once that says that server a is stopped end its process and start it again; \
@@ -78,7 +81,7 @@ impl Refusal {
         Refusal::new("OneByOne", reason, advice)
     }
 
-    /// That there is no such server.
+    /// Returns the refusal that there is no such server.
     pub fn unknown_server() -> Refusal {
         Refusal::new(
             "UnknownServer",
@@ -87,7 +90,7 @@ impl Refusal {
         )
     }
 
-    /// That the shard isn't at the server to which it was to go.
+    /// Returns the refusal that the shard isn't at its destination.
     pub fn not_moved(shard: u16, server: u16) -> Refusal {
         let reason = format!(
             "shard {shard} isn't at server {server}: that one failed, or somebody had it stay, or go elsewhere"
@@ -96,19 +99,19 @@ impl Refusal {
         Refusal::new("NotMoved", reason, advice)
     }
 
-    /// That a shard fits no other server.
+    /// Returns the refusal that a shard fits on no other server.
     pub fn no_room(shard: u16) -> Refusal {
         let reason = format!("shard {shard} fits no other server");
         Refusal::new("NoCapacity", reason, "SM BACK a server that is away")
     }
 
-    /// That as many commands wait for the control as may.
+    /// Returns the refusal that too many commands wait for the control.
     pub fn crowded() -> Refusal {
         let reason = "as many commands wait for the control as may";
         Refusal::new("Crowded", reason, "try again")
     }
 
-    /// That something is under way that doesn't go with it.
+    /// Returns the refusal that other work is under way.
     pub fn under_way() -> Refusal {
         let reason = "a migration, a restart, a drain or a dump is under way";
         Refusal::new(
@@ -118,24 +121,24 @@ impl Refusal {
         )
     }
 
-    /// That no process leads.
+    /// Returns the refusal that no process leads.
     pub fn no_leader() -> Refusal {
         let reason = "no process of the cluster leads for now";
         Refusal::new(NOT_LEADER, reason, "try again")
     }
 
-    /// That another process leads from now on.
+    /// Returns the refusal that another process leads from now on.
     pub fn led_elsewhere() -> Refusal {
         let reason = "another process leads from now on, and goes on with what is under way";
         Refusal::new(NOT_LEADER, reason, "SM SERVERS tells how far it is")
     }
 
-    /// That the process ends.
+    /// Returns the refusal that the process ends.
     pub fn stopping() -> Refusal {
         Refusal::new("Stopping", "the process ends", "start it again")
     }
 
-    /// Why a shard isn't changed, with how the shard stands, if it is known.
+    /// Returns why a shard isn't changed, with its state, if it is known.
     fn of_change(fault: ChangeFault, stands: Option<&str>) -> Refusal {
         let stands = stands.map_or(String::new(), |it| format!("; {it}"));
         let name = name_of(&fault);
@@ -144,13 +147,13 @@ impl Refusal {
         Refusal::new(&name, format!("{fault}{stands}"), advice)
     }
 
-    /// That the word is there for data in memory alone.
+    /// Returns the refusal that the word exists only in memory mode.
     pub fn not_durable(word: &str) -> Refusal {
         let reason = format!("SM {word} isn't there where data outlives the process");
         Refusal::new("NotDurable", reason, "SM HELP lists all words")
     }
 
-    /// Why the command isn't made; if it is of a shard, with a line that tells how that stands.
+    /// Returns why the command isn't made. If it is about a shard, `stands` is a line with its state.
     pub(super) fn of_command(
         fault: &BackendFault,
         command: ControlCommand,
@@ -180,7 +183,7 @@ impl Refusal {
         }
     }
 
-    /// Why the proved control doesn't change a shard that stands so.
+    /// Returns why the proved control doesn't change a shard with this state.
     fn of_refused(refused: &Refused, stands: Option<&str>) -> Refusal {
         match refused {
             Refused::Judged(why) => match why.as_change() {
@@ -196,7 +199,7 @@ impl Refusal {
         }
     }
 
-    /// Why the proved control doesn't make a step of the server's restart.
+    /// Returns why the proved control doesn't make a step of the server's restart.
     fn of_refused_step(refused: &Refused, server: u16) -> Refusal {
         match refused {
             Refused::Judged(why) => match why.as_restart() {
@@ -211,7 +214,7 @@ impl Refusal {
         }
     }
 
-    /// That the store's control refuses for this reason what it may do later.
+    /// Returns the refusal for a reason of the store's control that may pass.
     fn for_now(why: CommandFault) -> Refusal {
         let (reason, advice) = match why {
             CommandFault::NotFollowed => (
@@ -231,13 +234,49 @@ impl Refusal {
         Refusal::new(NOT_NOW, reason, advice)
     }
 
-    /// Why the store doesn't let the control go on.
+    /// Returns the refusal that the settings in force can't be changed to so many servers.
+    pub(super) fn not_resized(servers: u16) -> Refusal {
+        let reason = match servers {
+            0 => "a cluster has at least one server",
+            _ => "the settings in force aren't read",
+        };
+        Refusal::new(BAD_SETTINGS, reason.to_owned(), "SM CONFIGURE tells them")
+    }
+
+    /// Returns the refusal that the processes can't adopt other settings than those with which they began.
+    pub(super) fn settings_stay() -> Refusal {
+        let reason = "its processes go by the settings with which they began".to_owned();
+        Refusal::new("NotThere", reason, "begin another one with other settings")
+    }
+
+    /// Returns the refusal that settings aren't text.
+    pub(super) fn not_text() -> Refusal {
+        let advice = "docs/SETTINGS.md tells the rule";
+        Refusal::new(
+            BAD_SETTINGS,
+            "settings are a line of JSON".to_owned(),
+            advice,
+        )
+    }
+
+    /// Returns why the store doesn't let the control go on.
     fn of_store(refused: &Refused) -> Refusal {
         let (name, advice) = match refused {
             Refused::Write(WriteError::Full(_)) => {
-                ("StoreFull", "make room, as by DEL and SM COMPACT")
+                ("StoreFull", "make room by SM COMPACT, and in a folder by DEL before")
             }
-            Refused::NotLeader | Refused::OtherSettings => (NOT_LEADER, "ask the other process"),
+            Refused::NotLeader => (NOT_LEADER, "ask the other process"),
+            Refused::OtherSettings => ("OtherSettings", "look at the log"),
+            Refused::BadSettings(_) => (BAD_SETTINGS, "docs/SETTINGS.md tells the rule"),
+            Refused::OtherShards | Refused::OtherCeiling => (
+                "OtherSettings",
+                "take the line that SM CONFIGURE tells, and change servers, capacities and caps in it",
+            ),
+            Refused::InUse(_) => ("InUse", "SM DRAIN it, and end its process: it has failed once its lease ends"),
+            Refused::Unkept => (
+                "Unkept",
+                "SM SHARDS and SM SERVERS tell how they stand; before a server goes, end its process",
+            ),
             Refused::StillThere(_) => (
                 STILL_THERE,
                 "SM RESTART it, or end its process: it has failed once its lease has ended",
@@ -250,52 +289,61 @@ impl Refusal {
         Refusal::new(name, refused.to_string(), advice)
     }
 
-    /// Whether it may be done later, as a process is still to read what is there already.
+    /// Returns whether it may succeed later, because a process must first read something that is there already.
     pub fn is_for_now(&self) -> bool {
         self.name == NOT_NOW
     }
 
-    /// Whether the server's process is the one that was stopped, or none was seen.
+    /// Returns whether the server's process is the one that was stopped, or none was seen.
     pub(super) fn is_of_process(&self) -> bool {
         self.name == STILL_STOPPED
     }
 
-    /// Whether another process leads, so that this one's control makes nothing more.
+    /// Returns whether another process leads, so that this one's control makes nothing more.
     pub(super) fn is_of_leader(&self) -> bool {
         self.name == NOT_LEADER
     }
 
-    /// Whether a server was said to have failed that is there.
+    /// Returns whether a server was declared failed although it is there.
     pub fn is_still_there(&self) -> bool {
         self.name == STILL_THERE
     }
 
-    /// Whether the command may be made at once when it is tried again: another thread has the shard, or was first.
+    /// Returns whether the command may succeed at once when it is tried again, because another thread has the shard, or
+    /// was first.
     pub fn is_passing(&self) -> bool {
         matches!(&*self.name, "Busy" | "Raced")
     }
 
-    /// Whether it may be made later, whatever the reason is.
+    /// Returns whether it may succeed later, whatever the reason is.
     pub(super) fn may_pass(&self) -> bool {
         self.is_of_store() || self.is_passing() || self.is_for_now()
     }
 
-    /// Whether the shard's change is refused whenever it is tried again.
+    /// Returns whether the shard's change would be refused each time.
     pub fn is_for_good(&self) -> bool {
         self.name == SPENT
     }
 
-    /// Whether the shard doesn't stand as the command needs it: another task may have it, or has moved it.
+    /// Returns whether the shard doesn't have the stand that the command needs. Another task may have the shard, or may
+    /// have moved it.
     pub fn is_of_phase(&self) -> bool {
         matches!(&*self.name, "WrongPhase" | "SameServer" | "NotMoved")
     }
 
-    /// Whether it is the store that doesn't let the control go on for now.
+    /// Returns whether the reason is the shard that moves, and surely not the server that was to get it, which may have
+    /// failed if the shard wasn't moved (`NotMoved`).
+    pub(super) fn is_of_shard(&self) -> bool {
+        let is_of_stand = matches!(&*self.name, "WrongPhase" | "SameServer");
+        is_of_stand || self.is_passing() || self.is_for_good()
+    }
+
+    /// Returns whether the store doesn't let the control go on for now.
     pub fn is_of_store(&self) -> bool {
         matches!(&*self.name, "StoreDown" | "StoreFull")
     }
 
-    /// The same of this shard's move, with the shards that are left at the server as its drain ends.
+    /// Returns the refusal of this shard's move, with the shards that are left at the server when its drain ends.
     pub(super) fn with_left(mut self, shard: u16, server: u16, left: &[u16]) -> Refusal {
         let are = match left.len() {
             1 => "shard is",
@@ -313,7 +361,7 @@ impl Refusal {
         self
     }
 
-    /// Why a step of the server's restart isn't made.
+    /// Returns why a step of the server's restart isn't made.
     pub fn of_restart(fault: RestartFault, server: u16) -> Refusal {
         let name = name_of(&fault);
         let advice = advice_on(&name, server);
@@ -321,8 +369,8 @@ impl Refusal {
         Refusal::new(&name, fault.to_string(), advice)
     }
 
-    /// The same, where a cap counts servers that have failed, with these, and with how they come back: by processes of
-    /// theirs, or within this one.
+    /// If a cap counts servers that have failed, adds these servers, and how they come back: with their processes, or
+    /// within this one.
     pub fn of_failed(mut self, failed: &[u16], are_processes: bool) -> Refusal {
         let is_of_caps = matches!(&*self.name, "GlobalCap" | "GroupCap" | "DomainCap");
         let (Some(first), true) = (failed.first(), is_of_caps) else {
@@ -370,7 +418,7 @@ impl From<PassFault> for Refusal {
     }
 }
 
-/// The name of a fault, without what was read.
+/// Returns the name of a fault, without the fields that follow it.
 fn name_of(fault: &impl fmt::Debug) -> String {
     let shown = format!("{fault:?}");
     shown.split('(').next().unwrap_or_default().to_owned()
@@ -427,7 +475,7 @@ mod tests {
         let earlier = Refused::Judged(CommandFault::EarlierProcess);
         assert_eq!(
             Refusal::of_refused_step(&earlier, 1).to_string(),
-            "REFUSED StillStopped: the server's process is the one that was stopped, or none was seen; \
+            "REFUSED StillStopped: the server's process is the one that was stopped, or isn't known; \
              try: end the server's process, and start it again"
         );
     }
@@ -456,7 +504,7 @@ mod tests {
         );
         assert_eq!(
             of(CommandFault::Busy).to_string(),
-            "REFUSED NotNow: the control refuses it for now: the record has an admission, or has changed: it is to be \
+            "REFUSED NotNow: the control refuses it for now: the record has an admission, or has changed: it must be \
              read again; try: try again"
         );
     }

@@ -1,5 +1,5 @@
-/// Each name by which the control refuses and scripts don't: when, and what to do. `./sm help` reads them here.
-pub const NAMES: [(&str, &str, &str); 28] = [
+/// Each name with which the control refuses and scripts don't: when, and the advice. `./sm help` reads them here.
+pub const NAMES: [(&str, &str, &str); 32] = [
     ("NotThere", "the word is there where data lies elsewhere", "SM HELP tells where it is"),
     ("NotDurable", "the word is there for data in memory alone", "SM HELP lists all words"),
     ("OneByOne", "processes of a cluster are ended and begun again by hand, one after another", "SM RESTART a"),
@@ -15,9 +15,18 @@ pub const NAMES: [(&str, &str, &str); 28] = [
       "SM RESTART a, or end its process"),
     ("StillStopped", "the process of the server is the one that was stopped, or none was seen",
       "end the process, and start it again"),
+    ("BadSettings", "the settings break a rule, which is named", "docs/SETTINGS.md tells the rule"),
+    ("OtherSettings", "the settings have other shards, or another ceiling, which stay, or those in the store aren't \
+      read", "change only servers, \
+      capacities, groups, domains and caps in the line that SM CONFIGURE tells"),
+    ("InUse", "the new settings leave out a server that has neither stopped nor failed",
+      "SM DRAIN it, and end its process"),
+    ("Unkept", "shards or servers stand beyond what the settings allow, or at a server that they don't have",
+      "move shards, or wait for the end of restarts, and try again"),
     ("ThreadBusy", "a thread hasn't noticed for 10 s how servers stand", "look at the log"),
     ("Stopping", "the process ends", "start it again"),
-    ("StoreFull", "the disk, or etcd, is full, and nothing has changed", "make room, as by DEL and SM COMPACT"),
+    ("StoreFull", "the disk, or etcd, is full, and nothing has changed",
+      "make room by SM COMPACT, and in a folder by DEL before"),
     ("NoBase", "SM COMPACT: shards got no base, as there was no room for it, or it wasn't written in time",
       "make room if the disk is full, and try again"),
     ("StoreDown", "the store isn't reached, or didn't say what became of it", "look at the log, and try again"),

@@ -4,33 +4,33 @@ use super::backend::StateWait;
 use super::controller::Controller;
 use super::drain::Drain;
 use super::migration::Migration;
+use super::moves::{EndedMove, Moves};
 use super::progress::{Doing, Share};
-use super::task::Task;
 use super::Refusal;
 use durkenzo_driver::{ControlCommand, Next, ServerState};
 use std::time::{Duration, Instant};
 
-/// How often it is looked whether threads have noticed how the server stands.
+/// How often it checks whether threads have acted upon the server's state.
 const LOOK: Duration = Duration::from_micros(100);
-/// How long until a shard that another task has is tried again.
+/// How long until it tries a shard again that another task has.
 const PAUSE: Duration = Duration::from_millis(5);
 
-/// A restart of a server, as the proved control lets it go on; then its shards come home. Each call makes a step.
+/// A restart of a server, as the proved control allows its steps. Then its shards come home. Each call makes a step.
 #[derive(Debug)]
 pub(super) struct Restart {
     server: u16,
     phase: Phase,
-    /// What it waits for in this phase: all are to notice how the server stands.
+    /// The wait of this phase: until everybody has acted upon the server's state.
     wait: Option<Box<dyn StateWait>>,
-    /// Whether somebody may wait for it: it ends then, rather than wait for servers that have failed.
+    /// Whether somebody may wait for it. Then it ends, rather than wait for servers that have failed.
     is_awaited: bool,
     drain: Drain,
-    /// Why it is given up, once it is.
+    /// Why it was given up, if it was.
     refused: Option<Refusal>,
-    /// The shards that are still to come home.
+    /// The shards that must still come home, and those on their way.
     left: Vec<u16>,
     home: Share,
-    current: Option<Migration>,
+    moves: Moves,
     /// Until when it waits for a shard that another task has.
     end: Option<Instant>,
 }
@@ -39,17 +39,17 @@ pub(super) struct Restart {
 enum Phase {
     Asks,
     Leaves,
-    /// It is stopped, and all within this process are to notice that.
+    /// It is stopped, and everybody in this process must act upon that.
     Stops,
-    /// It is to be up again.
+    /// It must be brought up again.
     Back,
-    /// Its process is to be another one, or all are to notice that it is up.
+    /// Another process must run it; or everybody must act upon its being up.
     Away,
     Returns,
 }
 
 impl Restart {
-    /// The restart of the server.
+    /// Returns the restart of the server.
     pub(super) fn new(server: u16) -> Restart {
         Restart {
             server,
@@ -60,12 +60,12 @@ impl Restart {
             refused: None,
             left: Vec::new(),
             home: Share { done: 0, of: 0 },
-            current: None,
+            moves: Moves::default(),
             end: None,
         }
     }
 
-    /// A restart that was asked for, of another process.
+    /// Returns a restart that was asked for, from another process.
     pub(super) fn going_on(server: u16) -> Restart {
         Restart {
             phase: Phase::Leaves,
@@ -74,7 +74,7 @@ impl Restart {
         }
     }
 
-    /// A restart of which shards still come home.
+    /// Returns a restart whose shards still come home.
     pub(super) fn returning(server: u16) -> Restart {
         Restart {
             phase: Phase::Away,
@@ -82,17 +82,17 @@ impl Restart {
         }
     }
 
-    /// The server.
+    /// Returns the server.
     pub(super) fn server(&self) -> u16 {
         self.server
     }
 
-    /// Whether it was asked for, so that whoever leads goes on with it.
+    /// Returns whether it was asked for, so that the next leader goes on with it.
     pub(super) fn has_begun(&self) -> bool {
         self.phase != Phase::Asks
     }
 
-    /// Makes the next step, and tells at the end what was done.
+    /// Makes the next step. At the end, tells the result.
     pub(super) fn advance(&mut self, control: &mut Controller) -> Result<Advance, Refusal> {
         match self.phase {
             Phase::Asks => self.ask(control),
@@ -104,7 +104,7 @@ impl Restart {
         }
     }
 
-    /// Goes on with this phase, in which it waits until all have noticed how the server stands.
+    /// Enters this phase, in which it waits until everybody has acted upon the server's state.
     fn enter(&mut self, phase: Phase, control: &mut Controller) {
         self.phase = phase;
         self.wait = control.backend.wait_for_state(self.server);
@@ -128,7 +128,8 @@ impl Restart {
         made.map(|()| Advance::soon())
     }
 
-    /// Whether a restart was asked for before, whoever led then: it goes on with that one, and tells where it stands.
+    /// Returns whether a restart was asked for before, under whichever leader. Then it goes on with that restart, and
+    /// tells its state.
     fn was_asked_for(&self, control: &mut Controller) -> Result<bool, Refusal> {
         Ok(match control.backend.state_of(self.server)? {
             ServerState::Asked | ServerState::Approved | ServerState::Stopped => true,
@@ -156,11 +157,10 @@ impl Restart {
                 }
                 Ok(Advance::soon())
             }
-            // Somebody else had it stop, or be up again.
+            // Somebody else stopped it, or brought it up.
             Next::Nothing => {
                 self.enter(Phase::Away, control);
-                let left = self.drain.shard_under_way().map(Task::going_on);
-                control.tasks.extend(left);
+                self.drain.hand_over(control);
                 let is_stopped = control.backend.state_of(self.server)? == ServerState::Stopped;
                 Ok(match is_stopped && control.peers.is_some() {
                     true => Advance::Told(stopped(self.server)),
@@ -176,8 +176,8 @@ impl Restart {
         }
     }
 
-    /// Waits for shards that other tasks have, and that name the server still, and for acks of those that are paused.
-    /// What doesn't outlive the process may have been begun by hand, and nobody goes on with it: then the restart is
+    /// Waits for shards that other tasks have and that still name the server, and for acks of the shards that are
+    /// paused. In memory mode somebody may have begun a change by hand with which nobody goes on: then the restart is
     /// given up after a while.
     fn await_shards(&mut self, control: &mut Controller) -> Result<Advance, Refusal> {
         control.tell(self.server, Doing::LettingGo);
@@ -201,7 +201,7 @@ impl Restart {
         Ok(control.backend.state_of(self.server)? == ServerState::Approved)
     }
 
-    /// Waits until the caps let the server go, as they may once others are back from their restarts.
+    /// Waits until the caps let the server go. They may once others are back from their restarts.
     fn wait(&mut self, control: &mut Controller) -> Result<Advance, Refusal> {
         if self.is_awaited && !self.do_others_restart(control)? {
             return self.refuse(control);
@@ -211,7 +211,7 @@ impl Restart {
         Ok(Advance::Later)
     }
 
-    /// Whether another server is away for a restart, or may go for one, that goes on.
+    /// Returns whether another server is away for a restart that goes on, or may go for one.
     fn do_others_restart(&self, control: &mut Controller) -> Result<bool, Refusal> {
         for server in 1..=control.backend.servers() {
             let goes_on = control.backend.lasts() || control.restarting.contains_key(&server);
@@ -225,7 +225,7 @@ impl Restart {
         Ok(false)
     }
 
-    /// Gives it up, as the proved control refuses it, and nobody's restart changes that.
+    /// Gives the restart up, because the proved control refuses it, and no other restart changes that.
     fn refuse(&mut self, control: &mut Controller) -> Result<Advance, Refusal> {
         let refusal = match control.make(ControlCommand::Approve(self.server)) {
             // The caps let it go by now.
@@ -238,7 +238,7 @@ impl Restart {
         Ok(self.give_up(refusal))
     }
 
-    /// Has the server be up again, and its shards come home, before the refusal is told.
+    /// Brings the server up again, and its shards home, before it tells the refusal.
     fn give_up(&mut self, refusal: Refusal) -> Advance {
         self.refused = Some(refusal);
         self.end = None;
@@ -246,7 +246,7 @@ impl Restart {
         Advance::soon()
     }
 
-    /// Waits until all within this process have noticed that the server is stopped.
+    /// Waits until everybody in this process has acted upon the server's stop.
     fn stop(&mut self, control: &mut Controller) -> Result<Advance, Refusal> {
         match self.is_wait_over() {
             Ok(true) => self.phase = Phase::Back,
@@ -259,7 +259,7 @@ impl Restart {
         Ok(Advance::soon())
     }
 
-    /// Has the server be up again. If it was stopped, nothing of it holds anything, and it begins with what it reads.
+    /// Brings the server up again. If it was stopped, nothing holds anything of it, and it begins with what it reads.
     fn come_back(&mut self, control: &mut Controller) -> Result<Advance, Refusal> {
         if control.backend.state_of(self.server)? != ServerState::Up {
             let made = control.make(ControlCommand::Back(self.server));
@@ -272,12 +272,12 @@ impl Restart {
         Ok(Advance::soon())
     }
 
-    /// Waits until the server is up again, as it is once another process runs it; if this one runs all, at once.
+    /// Waits until the server is up again: once another process runs it, or at once if this process runs all servers.
     fn await_process(&mut self, control: &mut Controller) -> Result<Advance, Refusal> {
         match self.is_wait_over() {
             Ok(true) => {}
             Ok(false) => return Ok(Advance::After(LOOK)),
-            // Its shards come home before it is told why the restart was given up.
+            // Its shards come home before it tells why the restart was given up.
             Err(refusal) => drop(self.refused.get_or_insert(refusal)),
         }
         let is_of_this = control.peers.is_none();
@@ -288,7 +288,7 @@ impl Restart {
         if let Some(advance) = self.unless_up(control)? {
             return Ok(advance);
         }
-        // What was paused for it goes on. Whoever is told of a fault goes on from here.
+        // Shards that were paused for it go on. After a fault, it goes on from here.
         control.resume_left()?;
         self.left = control.shards_of_home(self.server);
         self.home.of = self.left.len();
@@ -296,7 +296,7 @@ impl Restart {
         Ok(Advance::soon())
     }
 
-    /// How it goes on if the server isn't up. A restart that was given up is refused.
+    /// Returns how it goes on if the server isn't up. A restart that was given up is refused.
     fn unless_up(&mut self, control: &mut Controller) -> Result<Option<Advance>, Refusal> {
         match control.backend.state_of(self.server)? {
             ServerState::Up => return Ok(None),
@@ -306,8 +306,10 @@ impl Restart {
                 }
                 return Ok(Some(Advance::Later));
             }
+            // They come home once another process runs it.
+            ServerState::Failed if control.peers.is_some() => {}
             ServerState::Failed => control.forget_homes(self.server)?,
-            // A restart was asked for anew: at its end they come home.
+            // Another restart was asked for. At its end the shards come home.
             ServerState::Asked | ServerState::Approved => {}
         }
         match self.refused.take() {
@@ -317,52 +319,65 @@ impl Restart {
     }
 
     fn come_home(&mut self, control: &mut Controller) -> Result<Advance, Refusal> {
-        if let Some(migration) = &mut self.current {
-            let shard = migration.shard();
-            match migration.advance(control) {
-                Ok(Advance::Done(_)) => self.end = None,
-                Err(refusal) if refusal.is_of_phase() && self.may_try_again(control) => {
-                    self.current = None;
-                    return Ok(Advance::After(PAUSE));
-                }
-                // It went elsewhere meanwhile, and stays there.
-                Err(refusal) if !refusal.is_of_store() => {
-                    tracing::info!(%refusal, "a shard doesn't come home");
-                    self.left.retain(|it| *it != shard);
-                    self.end = None;
-                }
-                other => return other,
+        if let Some(ended) = self.moves.advance(control)? {
+            if let Some(pause) = self.note(ended, control) {
+                return Ok(pause);
             }
-            self.current = None;
+        }
+        let is_up = control.backend.state_of(self.server)? == ServerState::Up;
+        let may_begin = is_up && self.moves.has_room(control);
+        if !(may_begin || self.moves.is_empty()) {
+            return Ok(self.moves.wait(control));
         }
         if let Some(advance) = self.unless_up(control)? {
             return Ok(advance);
         }
-        if let Some(shard) = self.left.first() {
-            self.have_come(*shard, control)?;
-            return Ok(Advance::soon());
+        let next = self.left.iter().find(|it| !self.moves.has(**it));
+        match next.copied() {
+            Some(shard) => self.have_come(shard, control).map(|()| Advance::soon()),
+            None if !self.moves.is_empty() => Ok(self.moves.wait(control)),
+            None => {
+                control.forget_homes(self.server)?;
+                self.told()
+            }
         }
-        control.forget_homes(self.server)?;
-        self.told()
     }
 
-    /// Whether there is still time for a shard that another task has: as when the server to which the shard went is
-    /// drained itself.
+    /// Notes the outcome of a shard's move home. If it must be tried again, returns a pause.
+    fn note(&mut self, ended: EndedMove, control: &Controller) -> Option<Advance> {
+        match ended.outcome {
+            Ok(()) => {}
+            Err(refusal) if refusal.is_of_phase() && self.may_try_again(control) => {
+                return Some(Advance::After(PAUSE));
+            }
+            // It went to another server meanwhile, and stays there.
+            Err(refusal) => {
+                tracing::info!(%refusal, "a shard doesn't come home");
+                self.left.retain(|it| *it != ended.shard);
+            }
+        }
+        self.end = None;
+        None
+    }
+
+    /// Returns whether there is still time for a shard that another task has, for instance because the server to which
+    /// it went is drained itself.
     fn may_try_again(&mut self, control: &Controller) -> bool {
         let end = *self.end.get_or_insert_with(|| control.patience());
         control.now() < end
     }
 
-    /// Has the shard come home, once nothing else is under way of it.
+    /// Brings the shard home, once no other work is under way for it.
     fn have_come(&mut self, shard: u16, control: &mut Controller) -> Result<(), Refusal> {
         let is_due = matches!(control.backend.next_of_shard(shard)?, Next::Command(_));
         let record = control.backend.record(shard)?;
         if is_due || record.is_some_and(|it| it.other().is_some()) {
-            self.current = Some(Migration::going_on(shard));
+            self.moves
+                .add(Migration::going_on(shard), self.server, None);
             return Ok(());
         }
         if control.homes.get(&shard) != Some(&self.server) {
-            // Somebody had it move elsewhere for good.
+            // Somebody moved it elsewhere for good.
             self.left.retain(|it| *it != shard);
             self.home.of -= 1;
             return Ok(());
@@ -372,7 +387,8 @@ impl Restart {
             self.home.done += 1;
             return Ok(());
         }
-        self.current = Some(Migration::new(shard, self.server));
+        self.moves
+            .add(Migration::new(shard, self.server), self.server, None);
         control.tell(self.server, Doing::Returning(self.home));
         Ok(())
     }
@@ -390,16 +406,14 @@ impl Restart {
         Ok(Advance::Done(ControlAnswer::Line(told)))
     }
 
-    /// Ends it where it is, as the process ends: one server has the shard that is under way alone.
+    /// Ends it as it is, because the process ends: each shard under way belongs to one server only.
     pub(super) fn give_up_where_it_is(&self, control: &mut Controller) -> Result<(), Refusal> {
-        match &self.current {
-            Some(migration) => migration.give_up(control),
-            None => self.drain.give_up(control),
-        }
+        let home = self.moves.give_up(control);
+        home.and(self.drain.give_up(control))
     }
 }
 
-/// What is told of a server that is stopped, whose process is another one.
+/// Returns the answer about a server that is stopped and whose process is another one.
 fn stopped(server: u16) -> ControlAnswer {
     let told = format!("server {server} is stopped: end its process, and start it again");
     ControlAnswer::Line(told)

@@ -14,7 +14,7 @@ pub(super) struct Rolling {
 }
 
 impl Rolling {
-    /// The restarts of servers 1 to this one.
+    /// Returns the restarts of so many servers, from server 1 on.
     pub(super) fn new(servers: u16) -> Rolling {
         Rolling {
             next: 1,
@@ -24,17 +24,17 @@ impl Rolling {
         }
     }
 
-    /// The restart that it is at, if that has begun.
+    /// Returns the restart under way, if it has begun.
     pub(super) fn current(&self) -> Option<&Restart> {
         self.current.as_ref().filter(|it| it.has_begun())
     }
 
-    /// The same, with which whoever leads goes on.
+    /// Returns the same, with which the next leader goes on.
     pub(super) fn left(self) -> Option<Restart> {
         self.current.filter(Restart::has_begun)
     }
 
-    /// Makes the next step, and tells at the end what was done of each server.
+    /// Makes the next step. At the end, tells the result for each server.
     pub(super) fn advance(&mut self, control: &mut Controller) -> Result<Advance, Refusal> {
         if let Some(restart) = &mut self.current {
             match restart.advance(control)? {
@@ -45,7 +45,7 @@ impl Rolling {
                     control.end_restart(restart.server());
                     self.current = None;
                 }
-                // Whoever asked is told of all together.
+                // The client is told all results together.
                 Advance::Told(_) => return Ok(Advance::Later),
                 other => return Ok(other),
             }

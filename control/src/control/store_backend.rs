@@ -4,7 +4,7 @@ use durkenzo_driver::{ControlCommand, Durable, DurableControl, Intent, Next, Ser
 use std::fmt;
 use std::sync::Arc;
 
-/// A store that outlives the process, by the proved control over it.
+/// A store that outlives the process, with the proved control over it.
 pub struct StoreBackend {
     control: DurableControl,
     /// The shards of this process, if it has all servers.
@@ -12,13 +12,13 @@ pub struct StoreBackend {
 }
 
 impl StoreBackend {
-    /// A store whose servers are all of this process, which has these shards.
+    /// Returns a store whose servers are all in this process, which has these shards.
     pub fn alone(control: DurableControl, durable: Arc<Durable>) -> StoreBackend {
         let durable = Some(durable);
         StoreBackend { control, durable }
     }
 
-    /// A store of several processes. Each of them sees by itself which servers requests reach.
+    /// Returns a store of several processes. Each process sees itself whether requests reach a server.
     pub fn shared(control: DurableControl) -> StoreBackend {
         let durable = None;
         StoreBackend { control, durable }
@@ -68,6 +68,15 @@ impl Backend for StoreBackend {
 
     fn is_restarted_by(&mut self, server: u16, process: u64) -> Result<bool, BackendFault> {
         Ok(self.control.run_of(server)?.is_restarted_by(process))
+    }
+
+    fn settings(&mut self) -> Result<(String, u64), BackendFault> {
+        let (line, number) = self.control.settings()?;
+        Ok((line.to_owned(), number.0))
+    }
+
+    fn resettle(&mut self, line: &str) -> Result<(), BackendFault> {
+        Ok(self.control.resettle(line)?)
     }
 
     fn show_state(&mut self, server: u16, state: ServerState) {

@@ -14,14 +14,14 @@ use std::time::Instant;
 /// Work that goes on by itself.
 pub(super) struct Task {
     pub(super) work: TaskWork,
-    /// Who is answered at its end, if somebody asked.
+    /// The client that is answered at its end, if somebody asked.
     pub(super) reply_to: Option<Box<dyn ReplyTo>>,
     /// When it goes on; at once if no moment is set.
     pub(super) due: Option<Instant>,
 }
 
 impl Task {
-    /// The work, of which nobody is answered.
+    /// Returns the work, without a client to be answered.
     pub(super) fn of(work: TaskWork) -> Task {
         let (reply_to, due) = (None, None);
         Task {
@@ -36,32 +36,42 @@ impl Task {
         self.due.is_none_or(|it| it <= now)
     }
 
-    /// The migration, or what else is under way, of this shard.
+    /// Returns the migration of this shard, or other work under way for it.
     pub(super) fn going_on(shard: u16) -> Task {
         Task::of(TaskWork::Migration(Migration::going_on(shard)))
     }
 
-    /// The restart of this server, which was asked for already.
+    /// Returns the restart of this server, which was asked for already.
     pub(super) fn restart(server: u16) -> Task {
         Task::of(TaskWork::Restart(Restart::going_on(server)))
     }
 
-    /// The end of this server's restart: its shards come home.
+    /// Returns the end of this server's restart: its shards come home.
     pub(super) fn returning(server: u16) -> Task {
         Task::of(TaskWork::Restart(Restart::returning(server)))
     }
 
-    /// The drain of this server, which was asked for already.
+    /// Returns the drain of this server, which was asked for already.
     pub(super) fn drain(server: u16) -> Task {
         Task::of(TaskWork::Drain(Drain::going_on(server)))
     }
 
-    /// Returns whether it is one command, which somebody asked for.
+    /// Returns whether it is one command, for which somebody asked.
     pub(super) fn is_command(&self) -> bool {
         matches!(self.work, TaskWork::Command(_))
     }
 
-    /// The server that it drains for good.
+    /// Returns the spread of all shards, which was asked for already.
+    pub(super) fn spread() -> Task {
+        Task::of(TaskWork::Spread(Spread::going_on()))
+    }
+
+    /// Returns whether it evens out how many shards servers have.
+    pub(super) fn spreads(&self) -> bool {
+        matches!(self.work, TaskWork::Spread(_))
+    }
+
+    /// Returns the server that it drains for good.
     pub(super) fn drains(&self) -> Option<u16> {
         match &self.work {
             TaskWork::Drain(drain) => Some(drain.server()),
@@ -75,7 +85,7 @@ impl Task {
         }
     }
 
-    /// The server that it restarts.
+    /// Returns the server that it restarts.
     pub(super) fn restarts(&self) -> Option<u16> {
         match &self.work {
             TaskWork::Restart(restart) => Some(restart.server()),
@@ -89,7 +99,7 @@ impl Task {
         }
     }
 
-    /// The shard whose migration it is, once that has begun.
+    /// Returns the shard whose migration it is, once that has begun.
     pub(super) fn migrates(&self) -> Option<u16> {
         match &self.work {
             TaskWork::Migration(migration) => migration.has_begun().then(|| migration.shard()),
@@ -103,13 +113,13 @@ impl Task {
         }
     }
 
-    /// The shard with which it goes on, if nobody asked for that.
+    /// Returns the shard with which it goes on, if nobody asked for that.
     pub(super) fn shard_going_on(&self) -> Option<u16> {
         self.migrates().filter(|_| self.reply_to.is_none())
     }
 }
 
-/// What goes on by itself, a step at a time.
+/// Work that goes on by itself, a step at a time.
 pub(super) enum TaskWork {
     Migration(Migration),
     Drain(Drain),
@@ -129,7 +139,7 @@ impl TaskWork {
             TaskWork::Drain(drain) => drain.advance(control),
             TaskWork::Restart(restart) => {
                 match (restart.advance(control)?, control.backend.lasts()) {
-                    // So data in memory has always been answered.
+                    // In memory mode it has always been answered like this.
                     (Advance::Done(ControlAnswer::Line(line)), false) => {
                         Ok(Advance::Done(ControlAnswer::Lines(vec![line])))
                     }
@@ -141,7 +151,7 @@ impl TaskWork {
             TaskWork::Dump(dump) => dump.advance(),
             TaskWork::Load(load) => {
                 let advanced = load.advance();
-                // Of what stands by now all is told, also if the rest of the work fails.
+                // Everything that has changed by now is told, even if the rest of the work fails.
                 control.renew();
                 advanced
             }
@@ -149,7 +159,7 @@ impl TaskWork {
         }
     }
 
-    /// The server whose progress it tells, once it has begun.
+    /// Returns the server whose progress it notes, once it has begun.
     pub(super) fn server(&self) -> Option<u16> {
         match self {
             TaskWork::Drain(drain) => Some(drain.server()),
@@ -165,38 +175,37 @@ impl TaskWork {
         }
     }
 
-    /// Whether whoever leads goes on with it, also if nobody waits for it any more.
+    /// Returns whether the next leader goes on with it, even if nobody waits for it any more.
     pub(super) fn is_intended(&self) -> bool {
         match self {
             TaskWork::Migration(migration) => migration.has_begun(),
             TaskWork::Drain(drain) => drain.is_intended(),
             TaskWork::Restart(restart) => restart.has_begun(),
-            TaskWork::Rolling(_)
-            | TaskWork::Spread(_)
-            | TaskWork::Dump(_)
-            | TaskWork::Load(_)
-            | TaskWork::Command(_) => false,
+            TaskWork::Spread(spread) => spread.is_intended(),
+            TaskWork::Rolling(_) | TaskWork::Dump(_) | TaskWork::Load(_) | TaskWork::Command(_) => {
+                false
+            }
         }
     }
 
-    /// What goes on of it if the store ended it: a migration that it may have begun, and the restart that it was at.
-    pub(super) fn left(self) -> Option<TaskWork> {
+    /// Returns the work that goes on if the store ended it: migrations that it may have begun, and the restart under
+    /// way.
+    pub(super) fn left(self) -> Vec<TaskWork> {
+        let going_on = |shard| TaskWork::Migration(Migration::going_on(shard));
         match self {
-            TaskWork::Migration(it) => Some(TaskWork::Migration(Migration::going_on(it.shard()))),
-            TaskWork::Rolling(it) => it.left().map(TaskWork::Restart),
-            TaskWork::Spread(it) => {
-                let shard = it.migration()?.shard();
-                Some(TaskWork::Migration(Migration::going_on(shard)))
-            }
+            TaskWork::Migration(it) => vec![going_on(it.shard())],
+            TaskWork::Rolling(it) => it.left().map(TaskWork::Restart).into_iter().collect(),
+            TaskWork::Spread(it) => it.shards_under_way().map(going_on).collect(),
             TaskWork::Drain(_)
             | TaskWork::Restart(_)
             | TaskWork::Dump(_)
             | TaskWork::Load(_)
-            | TaskWork::Command(_) => None,
+            | TaskWork::Command(_) => Vec::new(),
         }
     }
 
-    /// Ends it where it is, as the process ends, and what is under way with it: one server has each shard alone.
+    /// Ends it as it is, because the process ends, with everything under way in it: each shard belongs to one server
+    /// only.
     pub(super) fn give_up(&self, control: &mut Controller) -> Result<(), Refusal> {
         match self {
             TaskWork::Migration(migration) => migration.give_up(control),
@@ -206,10 +215,7 @@ impl TaskWork {
                 Some(restart) => restart.give_up_where_it_is(control),
                 None => Ok(()),
             },
-            TaskWork::Spread(spread) => match spread.migration() {
-                Some(migration) => migration.give_up(control),
-                None => Ok(()),
-            },
+            TaskWork::Spread(spread) => spread.give_up(control),
             TaskWork::Dump(_) | TaskWork::Load(_) | TaskWork::Command(_) => Ok(()),
         }
     }

@@ -1,9 +1,10 @@
-//! The words behind `SM`: one row each says how it is written, what it does, and where it is there.
+//! The words behind `SM`. Each row has a word's form, its meaning and the modes in which it exists.
 use super::answer::ControlAnswer;
 use super::controller::Controller;
 use super::drain::Drain;
 use super::migration::Migration;
 use super::refusal_names::NAMES;
+use super::resized_settings::resized;
 use super::restart::Restart;
 use super::rolling_restart::Rolling;
 use super::spread::Spread;
@@ -11,11 +12,11 @@ use super::task::{Task, TaskWork};
 use super::{Asked, ControlHost, Refusal, ReplyTo, Words};
 use durkenzo_driver::ControlCommand;
 
-/// What becomes of a command.
+/// The result of a command's beginning.
 pub(super) enum Begun {
     /// It is answered.
     Answer(ControlAnswer),
-    /// It goes on by itself, and is answered then.
+    /// It goes on by itself, and is answered at its end.
     Work(Box<TaskWork>),
 }
 
@@ -36,54 +37,54 @@ type Begins = Result<Begun, Refusal>;
 /// A word behind `SM`, in one of its forms.
 #[derive(Clone, Copy)]
 pub(super) struct SmWord {
-    /// How it is written, with a letter for each number.
+    /// Its form, with a letter for each number.
     form: &'static str,
     help: &'static str,
     does: Does,
     there: There,
-    /// Whether every role may send it: it changes nothing, or is done as a client.
+    /// Whether every role may send it, because it changes nothing, or is executed for the client.
     is_of_all: bool,
 }
 
-/// What a word does, by what follows it.
+/// The operation of a word, by its arguments.
 #[derive(Clone, Copy)]
 enum Does {
-    /// Nothing follows.
+    /// It has no arguments.
     Bare(fn(&mut Controller) -> Begins),
-    /// A number does.
+    /// It has a number.
     Number(fn(&mut Controller, u16) -> Begins),
-    /// Two numbers do.
+    /// It has two numbers.
     Pair(fn(&mut Controller, u16, u16) -> Begins),
-    /// The name of a file does.
-    File(fn(&mut Controller, &[u8]) -> Begins),
-    /// A name may.
+    /// It has one word, of any bytes: the name of a file, or settings.
+    Word(fn(&mut Controller, &[u8]) -> Begins),
+    /// It may have a name.
     Name(fn(Option<&str>) -> Begins),
-    /// A shard or a server does, of which this command is made.
+    /// It has a shard or a server, from which this command is made.
     Makes(fn(u16) -> ControlCommand),
-    /// A shard and a server do, of which this command is made.
+    /// It has a shard and a server, from which this command is made.
     Changes(fn(u16, u16) -> ControlCommand),
-    /// Nothing follows, and each process answers by itself, whoever leads.
+    /// It has no arguments, and each process answers it itself, whoever leads.
     Here(fn(&dyn ControlHost, Box<dyn ReplyTo>)),
     /// It is done before it comes to the control.
     Before,
 }
 
-/// Where a word is there.
+/// The modes in which a word exists.
 #[derive(Clone, Copy)]
 enum There {
-    /// Everywhere.
+    /// In all modes.
     Everywhere,
-    /// Where data is in memory.
+    /// In memory mode.
     Memory,
-    /// Where data outlives the process.
+    /// If data outlives the process.
     Stores,
     /// In a cluster of several processes.
     Cluster,
-    /// Where one process runs all servers.
+    /// If one process runs all servers.
     OneProcess,
 }
 
-/// What a control is over, of which words depend.
+/// The mode of a control, on which the available words depend.
 #[derive(Clone, Copy)]
 pub(super) struct ControlMode {
     /// Whether data outlives the process.
@@ -114,17 +115,17 @@ impl SmWord {
         SmWord { there, ..self }
     }
 
-    /// The word itself.
+    /// Returns the word itself.
     fn name(&self) -> &'static str {
         self.form.split(' ').next().unwrap_or_default()
     }
 
-    /// Whether the command is of this word, in whatever case.
+    /// Returns whether the command is this word, in any case.
     fn names(&self, command: &Words) -> bool {
         command.is(1, self.name())
     }
 
-    /// Whether the command has what has to follow the word.
+    /// Returns whether the command has the arguments that the word takes.
     fn takes(&self, command: &Words) -> bool {
         match self.does {
             Does::Bare(_) | Does::Here(_) => command.len() == 2,
@@ -132,13 +133,13 @@ impl SmWord {
             Does::Pair(_) | Does::Changes(_) => {
                 command.len() == 4 && command.number(2).and(command.number(3)).is_some()
             }
-            Does::File(_) => command.len() == 3,
+            Does::Word(_) => command.len() == 3,
             Does::Name(_) => matches!(command.len(), 2 | 3),
             Does::Before => true,
         }
     }
 
-    /// Why the word isn't there, if it isn't.
+    /// Returns why the word doesn't exist in this mode, if it doesn't.
     fn refusal(&self, mode: ControlMode) -> Option<Refusal> {
         match (self.there, mode.lasts, mode.has_peers) {
             (There::Everywhere, ..)
@@ -155,7 +156,7 @@ impl SmWord {
         }
     }
 
-    /// Begins what the command asks for, which this word takes.
+    /// Begins the command, which must be in this word's form.
     fn begun(&self, control: &mut Controller, command: &Words) -> Begins {
         let number = |index| command.number(index).unwrap_or_default();
         match self.does {
@@ -164,7 +165,7 @@ impl SmWord {
             Does::Pair(begin) => begin(control, number(2), number(3)),
             Does::Makes(command) => control.make_asked(command(number(2))),
             Does::Changes(command) => control.make_asked(command(number(2), number(3))),
-            Does::File(begin) => begin(control, command.get(2)),
+            Does::Word(begin) => begin(control, command.get(2)),
             Does::Name(begin) => {
                 let name = String::from_utf8_lossy(command.get(2));
                 begin((command.len() > 2).then_some(&*name))
@@ -176,7 +177,7 @@ impl SmWord {
 
 /// All words.
 #[rustfmt::skip]
-const WORDS: [SmWord; 34] = [
+const WORDS: [SmWord; 37] = [
     SmWord::new("SHARDS", "how each shard stands, below the columns' names; other is its next or previous owner",
         Does::Bare(|it| Ok(ControlAnswer::Lines(it.host.shard_lines()).into()))).of_all(),
     SmWord::new("SERVERS", "how each server stands, below the columns' names: the shards that it owns, admissions, and \
@@ -185,12 +186,19 @@ const WORDS: [SmWord; 34] = [
         Does::Bare(|it| Ok(ControlAnswer::Lines(it.host.server_lines()).into()))).of_all(),
     SmWord::new("SETTINGS", "how the server runs",
         Does::Bare(|it| Ok(ControlAnswer::Lines(it.host.settings_lines()).into()))).of_all(),
+    SmWord::new("CONFIGURE", "with --etcd: the line of settings in force, and its number, which rises with each change",
+        Does::Bare(configuration)).only(There::Cluster),
+    SmWord::new("CONFIGURE LINE", "with --etcd: the line of settings LINE is in force from now on, for all processes: \
+        servers that come or go, capacities, groups, domains and caps; shards and their bounds stay",
+        Does::Word(configure)).only(There::Cluster),
+    SmWord::new("RESIZE n", "with --etcd: servers are 1 to n from now on; those that come are as the last one, and one \
+        that goes has stopped or failed, and has no shard", Does::Number(resize)).only(There::Cluster),
     SmWord::new("LOOK k", "how shard k stands", Does::Number(look)).of_all(),
     SmWord::new("KEY key", "the number of the key's shard", Does::Before).of_all(),
     SmWord::new("ASSIGN k a", "the vacant shard k gets the owner a", Does::Changes(ControlCommand::Assign)),
     SmWord::new("PREPARE_ADD k b", "a migration of shard k from its owner to server b begins",
         Does::Changes(ControlCommand::PrepareAddShard)),
-    SmWord::new("PREPARE_DROP k", "the owner stops executing, and forwards to b, which executes that alone",
+    SmWord::new("PREPARE_DROP k", "the owner stops executing, and forwards requests to b, which executes only these",
         Does::Makes(ControlCommand::PrepareDropShard)),
     SmWord::new("ADD k", "b becomes the owner; the previous one still forwards", Does::Makes(ControlCommand::AddShard)),
     SmWord::new("DROP k", "the migration ends", Does::Makes(ControlCommand::DropShard)),
@@ -222,9 +230,9 @@ const WORDS: [SmWord; 34] = [
         Does::Bare(|it| Ok(TaskWork::Rolling(Rolling::new(it.backend.servers())).into()))).only(There::OneProcess),
     SmWord::new("DUMP FILE", "writes all shards, with their stands and generations, into the file in --folder, in \
         place of an earlier dump of the name",
-        Does::File(|it, name| Ok(TaskWork::Dump(it.backend.dump(name)?).into()))).only(There::Memory),
+        Does::Word(|it, name| Ok(TaskWork::Dump(it.backend.dump(name)?).into()))).only(There::Memory),
     SmWord::new("LOAD FILE", "has all shards hold and stand as in that file, in place of what they hold now",
-        Does::File(load)).only(There::Memory),
+        Does::Word(load)).only(There::Memory),
     SmWord::new("ROUTES", "with --etcd: the latest record's revision, and for each shard its owner, and where clients \
         reach that",
         Does::Here(|host, reply_to| reply_to.send(Ok(ControlAnswer::Lines(host.route_lines())))))
@@ -239,13 +247,15 @@ const WORDS: [SmWord; 34] = [
         Does::Name(help)).of_all(),
 ];
 
-/// Returns whether every role may send commands of this word: they change nothing, or are done as a client.
+/// Returns whether every role may send commands with this word, in each of its forms, because they change nothing, or
+/// are executed for the client.
 pub fn is_of_all(word: &[u8]) -> bool {
-    let is_so = |it: &SmWord| it.name().as_bytes().eq_ignore_ascii_case(word);
-    WORDS.iter().any(|it| it.is_of_all && is_so(it))
+    let is_so = |it: &&SmWord| it.name().as_bytes().eq_ignore_ascii_case(word);
+    let mut forms = WORDS.iter().filter(is_so).peekable();
+    forms.peek().is_some() && forms.all(|it| it.is_of_all)
 }
 
-/// Begins what the command asks for, or refuses it.
+/// Begins the command, or refuses it.
 pub(super) fn begun(control: &mut Controller, command: &Words) -> Begins {
     let rows = || WORDS.iter().filter(|it| it.names(command));
     let Some(word) = rows().find(|it| it.takes(command)) else {
@@ -257,7 +267,7 @@ pub(super) fn begun(control: &mut Controller, command: &Words) -> Begins {
     }
 }
 
-/// Answers the command if each process does so by itself; else it is given back.
+/// Answers the command if each process answers it itself. Otherwise gives it back.
 pub(super) fn answered_here(
     host: &dyn ControlHost,
     mode: ControlMode,
@@ -270,7 +280,7 @@ pub(super) fn answered_here(
         Does::Bare(_)
         | Does::Number(_)
         | Does::Pair(_)
-        | Does::File(_)
+        | Does::Word(_)
         | Does::Name(_)
         | Does::Makes(_)
         | Does::Changes(_)
@@ -290,8 +300,28 @@ fn look(control: &mut Controller, shard: u16) -> Begins {
     }
 }
 
+fn configuration(control: &mut Controller) -> Begins {
+    let (line, number) = control.backend.settings()?;
+    Ok(ControlAnswer::Lines(vec![line, format!("number {number}")]).into())
+}
+
+fn configure(control: &mut Controller, line: &[u8]) -> Begins {
+    if !control.host.follows_settings() {
+        return Err(Refusal::settings_stay());
+    }
+    let line = std::str::from_utf8(line).map_err(|_| Refusal::not_text())?;
+    control.resettle(line)?;
+    Ok(ControlAnswer::Done.into())
+}
+
+fn resize(control: &mut Controller, servers: u16) -> Begins {
+    let (line, _) = control.backend.settings()?;
+    let line = resized(&line, servers).ok_or_else(|| Refusal::not_resized(servers))?;
+    configure(control, line.as_bytes())
+}
+
 fn migrate(control: &mut Controller, shard: u16, server: u16) -> Begins {
-    control.forget_home(shard)?;
+    control.forget_homes_of([shard].into_iter())?;
     Ok(TaskWork::Migration(Migration::new(shard, server)).into())
 }
 
@@ -302,7 +332,7 @@ fn plan_of(control: &mut Controller, server: u16) -> Begins {
     }
 }
 
-/// Where the proved plan has the vacant shards go, or those of this server. Nothing is moved.
+/// Returns the destinations in the proved plan, of the vacant shards or of this server's shards. Nothing is moved.
 fn plan(control: &mut Controller, server: u16) -> Begins {
     let plan = control.backend.plan(server)?;
     let moves = plan.moves.iter();
@@ -313,7 +343,7 @@ fn plan(control: &mut Controller, server: u16) -> Begins {
     Ok(ControlAnswer::Line(format!("plan{moves} left{left}")).into())
 }
 
-/// Begins to load a dump, if nothing else is under way but commands that are tried again.
+/// Begins to load a dump, if no other work is under way except commands that are tried again.
 fn load(control: &mut Controller, name: &[u8]) -> Begins {
     match control.tasks.iter().all(Task::is_command) {
         true => Ok(TaskWork::Load(control.backend.load(name)?).into()),
@@ -321,7 +351,7 @@ fn load(control: &mut Controller, name: &[u8]) -> Begins {
     }
 }
 
-/// All words, or what the word or the name means.
+/// Returns all words, or the meaning of the word or the name.
 fn help(name: Option<&str>) -> Begins {
     let Some(name) = name else {
         let lines = WORDS
@@ -335,7 +365,7 @@ fn help(name: Option<&str>) -> Begins {
     }
 }
 
-/// What the word means, in each of its forms, or the name of a refusal; none if it is neither.
+/// Returns the meanings of the word, in each of its forms, or of the name of a refusal; nothing if it is neither.
 fn meanings(asked: &str) -> Vec<String> {
     let is_asked = |it: &str| it.eq_ignore_ascii_case(asked);
     let words = WORDS.iter().filter(|it| is_asked(it.name()));
@@ -357,6 +387,12 @@ mod tests {
                     record yet; try: try again; if that server is gone, SM FAIL a";
         assert_eq!(meanings("notnow"), [told]);
         assert!(meanings("LOO").is_empty());
+    }
+
+    #[test]
+    fn a_word_is_of_all_roles_only_if_each_of_its_forms_is() {
+        assert!(is_of_all(b"shards") && is_of_all(b"LOOK"));
+        assert!(!is_of_all(b"MIGRATE") && !is_of_all(b"CONFIGURE") && !is_of_all(b"no word"));
     }
 
     #[test]

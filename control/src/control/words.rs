@@ -1,6 +1,6 @@
 use std::slice::Iter;
 
-/// The words of a command, from SM on, which may be any bytes.
+/// The words of a command, from SM on. They may be any bytes.
 #[derive(Clone, Debug, PartialEq, Eq)]
 pub struct Words(Box<[Box<[u8]>]>);
 
@@ -20,12 +20,12 @@ impl Words {
         self.0.is_empty()
     }
 
-    /// Returns the word at this place, from 0, which is SM; an empty one past the last.
+    /// Returns the word at this place. Place 0 is SM; past the last one the word is empty.
     pub fn get(&self, index: usize) -> &[u8] {
         self.0.get(index).map_or(&[], |it| it)
     }
 
-    /// Returns whether the word at this place is this one, in whatever case.
+    /// Returns whether the word at this place is this one, in any case.
     pub fn is(&self, index: usize, word: &str) -> bool {
         index < self.len() && self.get(index).eq_ignore_ascii_case(word.as_bytes())
     }
@@ -35,10 +35,10 @@ impl Words {
         self.0.iter()
     }
 
-    /// Returns the shard or the server at this place, if the word there is one's number.
+    /// Returns the shard or the server at this place, if the word there is a number.
     pub(super) fn number(&self, index: usize) -> Option<u16> {
         let digits = self.get(index);
-        // A number is written in one way.
+        // A number has only one valid form.
         let is_plain =
             digits == b"0" || digits.first().is_some_and(|it| (b'1'..=b'9').contains(it));
         let text = std::str::from_utf8(digits).ok().filter(|_| is_plain)?;

@@ -1,20 +1,20 @@
 use super::Identity;
 
-/// What a process says to whoever has another secret, or none.
+/// The answer to a process with another secret, or with none.
 pub const OTHER_SECRET: &str = "its secret is another one";
-/// What a process says to whoever is of another cluster.
+/// The answer to a process of another cluster.
 pub const OTHER_SETTINGS: &str = "its settings are other ones";
-/// The server that a client says it runs or wants: none.
+/// A client sends this number for the server that it runs or wants, because it runs none.
 pub const NO_SERVER: u16 = 0;
 /// The checksum of settings that a client doesn't know yet.
 pub const UNKNOWN_SETTINGS: u64 = 0;
 
-/// Who may connect to a process, of those that know its secret.
+/// Which of the processes that know the secret may connect.
 #[derive(Clone, Copy, Debug, PartialEq, Eq)]
 pub enum Admission {
-    /// Only other processes of its cluster. Each says which server it wants.
+    /// Only other processes of the cluster. Each says which server it wants.
     Processes,
-    /// Clients too, which run no server. Who connects may want any server, and may not know the settings yet.
+    /// Clients too, which run no server. They may want any server, and may not know the settings yet.
     Clients,
 }
 
@@ -28,7 +28,7 @@ impl Admission {
         (own.settings != other.settings && !may_differ).then(|| OTHER_SETTINGS.to_owned())
     }
 
-    /// Returns why a process isn't the one that is wanted, if it isn't.
+    /// Returns why a process isn't the wanted one, if it isn't.
     pub(super) fn not_wanted(self, found: Identity, wanted: u16) -> Option<String> {
         let (server, is_any) = (found.server, wanted == NO_SERVER);
         let may_differ = self == Admission::Clients && is_any;

@@ -1,5 +1,5 @@
-/// Ends a connection, so that whoever reads or writes it notices.
+/// Ends a connection, so that its readers and writers notice.
 pub trait Closer: Send + Sync {
-    /// Ends the connection both ways. It doesn't wait, and may be called again.
+    /// Ends the connection in both directions. It must not wait, and may be called again.
     fn end(&self);
 }

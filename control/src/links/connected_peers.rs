@@ -5,11 +5,11 @@ use durkenzo_driver::Members;
 use std::sync::{Arc, Mutex, Weak};
 use std::time::{Duration, Instant};
 
-/// How long a process may be gone from the servers that are there before its connection ends where nothing is under way
-/// on it: one that stops has ended it by itself by then.
+/// How long a process may be missing from the servers that are there before its connection ends, if nothing is under
+/// way on it. A process that stops has ended the connection itself by then.
 const GONE: Duration = Duration::from_secs(10);
 
-/// The processes that connected and were welcomed.
+/// The processes that have connected and were welcomed.
 #[derive(Default)]
 pub(super) struct ConnectedPeers(Mutex<Vec<ConnectedPeer>>);
 
@@ -22,7 +22,7 @@ struct ConnectedPeer {
 }
 
 impl ConnectedPeer {
-    /// Whether its connection is of no use any more, as its server is gone, or is another process since then.
+    /// Returns whether its connection is useless by now, because its server is gone, or has another process since.
     fn is_over(&mut self, now: Instant, members: &Members) -> bool {
         let member = members.get(&self.identity.server);
         if member.is_some_and(|it| it.process <= self.identity.process) {
@@ -33,7 +33,7 @@ impl ConnectedPeer {
         gone + GONE <= now && !self.is_answered()
     }
 
-    /// Whether something is under way that it asked for.
+    /// Returns whether a request of it is under way.
     fn is_answered(&self) -> bool {
         self.outbox.upgrade().is_some_and(|it| it.is_answering())
     }
@@ -44,8 +44,8 @@ impl ConnectedPeer {
 }
 
 impl ConnectedPeers {
-    /// Notes one more, and forgets those that ended. As a process has one connection to another one at a time, those
-    /// that its server had before have ended for it, and end here.
+    /// Notes one more, and forgets those that ended. A process has only one connection to another one at a time. So its
+    /// server's earlier connections have ended on its side, and end here, too.
     pub(super) fn note(&self, identity: Identity, closer: &Arc<dyn Closer>, outbox: &Arc<Outbox>) {
         let mut peers = locked(&self.0);
         peers.retain(|it| it.closer.strong_count() > 0);
@@ -70,7 +70,7 @@ impl ConnectedPeers {
         over.for_each(|it| it.end());
     }
 
-    /// Whether something is under way that another process asked for.
+    /// Returns whether a request of another process is under way.
     pub(super) fn is_answering(&self) -> bool {
         locked(&self.0).iter().any(ConnectedPeer::is_answered)
     }
@@ -120,7 +120,7 @@ mod tests {
         }
     }
 
-    /// Each of these servers, with the number of its process.
+    /// Returns these servers, each with the number of its process.
     fn members<const N: usize>(processes: [(u16, u64); N]) -> Members {
         let live = |process| Live {
             process,
@@ -137,7 +137,7 @@ mod tests {
         let connection = |server, process| Connection::of(&peers, server, process);
         let (first, other, later) = (connection(1, 5), connection(2, 4), connection(3, 9));
         let again = connection(1, 5);
-        // One that was stopped goes on after another one took its place.
+        // The process was stopped, and goes on after another one has taken its place.
         let stale = connection(3, 8);
         assert!(first.is_ended() && again.goes_on() && other.goes_on());
         assert!(later.goes_on() && stale.goes_on());
@@ -154,7 +154,7 @@ mod tests {
             [(1, 5), (2, 6), (3, 7), (4, 8)].map(|it| Connection::of(&peers, it.0, it.1));
         assert!(connections[3].outbox.begin(1));
         let now = moment(0);
-        // The third is another process, and what is seen of the second lags behind.
+        // The third server has another process, and the view of the second one is out of date.
         let seen = members([(2, 4), (3, 9)]);
         peers.tick(now, &seen);
         peers.tick(now + GONE / 2, &seen);

@@ -1,4 +1,4 @@
-//! Connections of links whose bytes a program moves by itself, with no thread and no socket: so links can be simulated.
+//! Connections of links whose bytes a program moves itself, without a thread or a socket. So links can be simulated.
 use super::connection_slot::ConnectionSlot;
 use super::handshake::{Greeter, Heard, Welcomer};
 use super::inbound::{InboundReader, InboundState, InboundWriter};
@@ -13,10 +13,10 @@ use std::io::{self, ErrorKind, Read, Write};
 use std::sync::Arc;
 use std::time::Instant;
 
-/// How much of a greeting is read at once.
+/// How many bytes of a greeting are read at once.
 const ROOM: usize = 512;
 
-/// A connection that a link needs, and that is to be made or has failed.
+/// A connection that a link needs. The caller must report that it was made, or that it failed.
 pub struct Dial<H: Host> {
     link: Arc<Link<H>>,
     inner: Arc<LinksInner<H>>,
@@ -35,7 +35,7 @@ impl<H: Host> Dial<H> {
         }
     }
 
-    /// Returns where the server's process is reached.
+    /// Returns the address of the server's process.
     ///
     /// # Errors
     ///
@@ -44,50 +44,51 @@ impl<H: Host> Dial<H> {
         self.inner.address_of(self.link.server)
     }
 
-    /// Returns the connection, which greets first. This ends it.
+    /// Returns the connection, which begins with a greeting. This closer ends it.
     pub fn made(self, closer: Arc<dyn Closer>) -> Connection<H> {
         let Dial {
             link,
             inner,
             version,
         } = self;
-        let (greeter, hello) = Greeter::new(&inner.terms, link.server, version);
+        let (greeter, hello) = Greeter::new(&inner.terms(), link.server, version);
         let said = WriteBuffer::of(hello);
         Connection::new(inner, closer, said, Stage::Greeting(link, greeter))
     }
 
-    /// Notes that the process wasn't reached, and why.
+    /// Notes that the process couldn't be reached, and why.
     pub fn failed(self, why: &io::Error) {
         self.link.note_unreached(why, &self.inner);
     }
 }
 
-/// One side of a connection between two processes, as a machine of bytes: it is told what comes, and tells what goes.
+/// One side of a connection between two processes, as a state machine on bytes: the caller gives it the bytes that
+/// came, and takes the bytes to send.
 ///
-/// Whoever moves its bytes ends it by [`Connection::end`] after any error but `WouldBlock`.
+/// After any error except `WouldBlock`, the caller must end the connection with [`Connection::end`].
 pub struct Connection<H: Host> {
     inner: Arc<LinksInner<H>>,
     closer: Arc<dyn Closer>,
-    /// What is said before anything else is sent.
+    /// The bytes to send before anything else.
     said: WriteBuffer,
     stage: Stage<H>,
-    /// When both sides have to know each other, or the other side has to have taken something.
+    /// When both sides must know each other, or when the other side must have taken some bytes.
     deadline: Option<Instant>,
 }
 
 enum Stage<H: Host> {
-    /// The process is greeted.
+    /// This side greets the process.
     Greeting(Arc<Link<H>>, Greeter),
-    /// The process is asked.
+    /// This side sends requests.
     Asking(Arc<Link<H>>, OutboundReader<H>, OutboundWriter<H>),
-    /// Whoever connected is to greet.
+    /// The other side must greet.
     Welcoming {
         welcomer: Welcomer,
         _handshake: PendingHandshake,
     },
-    /// The process is answered.
+    /// This side answers the process.
     Answering(InboundReader<H>, InboundWriter),
-    /// Whoever connected is told why the connection ends, at most.
+    /// At most, the other side is told why the connection ends.
     Rejected(io::Error),
 }
 
@@ -108,7 +109,7 @@ impl<H: Host> Connection<H> {
         }
     }
 
-    /// The connection of whoever connected, which this ends, if there is room for it.
+    /// Returns the connection of a process that connected, if there is room for it. This closer ends the connection.
     pub(super) fn accepted(
         inner: Arc<LinksInner<H>>,
         closer: Arc<dyn Closer>,
@@ -126,11 +127,11 @@ impl<H: Host> Connection<H> {
         ))
     }
 
-    /// Reads once, unless it is held up, and takes what came.
+    /// Reads once, unless it is held up, and processes the bytes.
     ///
     /// # Errors
     ///
-    /// If the other side has ended the connection or sends what it mustn't, and the reader's errors.
+    /// If the other side has ended the connection or sends something invalid; and the reader's errors.
     pub fn read(&mut self, reader: &mut dyn Read) -> io::Result<()> {
         match &mut self.stage {
             Stage::Greeting(link, greeter) => {
@@ -151,7 +152,7 @@ impl<H: Host> Connection<H> {
                 let mut room = [0; ROOM];
                 let (count, inner) = (some(reader.read(&mut room)?)?, &self.inner);
                 let slot = || ConnectionSlot::take(inner);
-                let heard = welcomer.receive(&room[..count], &inner.terms, slot);
+                let heard = welcomer.receive(&room[..count], &inner.terms(), slot);
                 self.welcome(heard)
             }
             Stage::Answering(inbound, _) => match inbound.read(reader)? {
@@ -180,11 +181,11 @@ impl<H: Host> Connection<H> {
         Ok(())
     }
 
-    /// Writes what there is to write.
+    /// Writes the bytes that are ready.
     ///
     /// # Errors
     ///
-    /// The writer's, and why whoever connected is rejected, once that was told. After `WouldBlock` the rest may be
+    /// The writer's errors; and why the other side is rejected, once it was told. After `WouldBlock` the rest may be
     /// written later.
     pub fn write(&mut self, writer: &mut dyn Write) -> io::Result<()> {
         let mut counted = CountedWriter { writer, count: 0 };
@@ -228,7 +229,7 @@ impl<H: Host> Connection<H> {
         self.deadline
     }
 
-    /// Looks at the time.
+    /// Checks the time.
     ///
     /// # Errors
     ///
@@ -240,7 +241,7 @@ impl<H: Host> Connection<H> {
         }
     }
 
-    /// Notes that it has ended, and why: what the other side was asked is lost, or was never sent.
+    /// Notes that the connection has ended, and why. Its requests are lost, or were never sent.
     pub fn end(self, error: &io::Error) {
         let why = error.to_string();
         match self.stage {
@@ -256,7 +257,7 @@ impl<H: Host> Connection<H> {
     }
 }
 
-/// The number of bytes that came, of which none is the end.
+/// Returns the number of bytes that came. If it is 0, the connection has ended.
 fn some(count: usize) -> io::Result<usize> {
     match count {
         0 => Err(ErrorKind::UnexpectedEof.into()),
@@ -264,7 +265,7 @@ fn some(count: usize) -> io::Result<usize> {
     }
 }
 
-/// Counts what is written.
+/// A writer that counts bytes.
 struct CountedWriter<'a> {
     writer: &'a mut dyn Write,
     count: usize,
@@ -303,7 +304,7 @@ mod tests {
     use std::sync::atomic::{AtomicU64, Ordering};
     use std::sync::mpsc::Receiver;
 
-    /// The bytes of one direction, of which so many are on their way at most.
+    /// The bytes of one direction. At most so many are on their way.
     #[derive(Default)]
     struct TestPipe(Vec<u8>);
 
@@ -336,7 +337,7 @@ mod tests {
         }
     }
 
-    /// The processes of servers 1 and 2, a connection of the first one to the second one, and the time.
+    /// The processes of servers 1 and 2, a connection from the first one to the second one, and the time.
     struct Pair {
         time: Arc<AtomicU64>,
         first: Links<TestHost>,
@@ -361,7 +362,7 @@ mod tests {
             }
         }
 
-        /// Has the first process ask the second one these. Returns where their ends are told.
+        /// Makes the first process send these requests to the second one. Returns the receiver of their ends.
         fn asked(&self, names: &[&'static str]) -> Receiver<String> {
             let (requests, told) = TestRequest::each(names);
             let destination = TestDestination(moment(self.time.load(Ordering::Relaxed)));
@@ -380,7 +381,7 @@ mod tests {
             self.called = self.second.accept(called);
         }
 
-        /// Moves all bytes, each seven at a time. Returns how either side ended, if it did.
+        /// Moves all bytes, seven at a time. Returns how either side ended, if it did.
         fn move_all(&mut self) -> [io::Result<()>; 2] {
             let Pair {
                 caller: Some(caller),
@@ -491,7 +492,7 @@ mod tests {
         let caller = pair.caller.as_mut().unwrap();
         let stalled = caller.write(&mut pair.pipes[0]).unwrap_err();
         assert_eq!(stalled.kind(), ErrorKind::WouldBlock);
-        // It took some of it, and the time begins anew.
+        // It took some of it, and the time begins again.
         assert_eq!(caller.wakes(), Some(moment(7_000)));
         pair.time.store(6_999, Ordering::Relaxed);
         assert!(caller.tick().is_ok());

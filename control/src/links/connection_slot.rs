@@ -3,11 +3,11 @@ use super::Host;
 use std::sync::atomic::Ordering;
 use std::sync::Arc;
 
-/// How many connections of processes there may be: for each server of the cluster, and besides.
+/// The most connections of processes: so many for each server of the cluster, and some more.
 const MOST_OF_A_SERVER: usize = 4;
 const MOST_BESIDES: usize = 16;
 
-/// One of the connections that processes may have to this one. The slot counts it while it lasts.
+/// One of the connections that processes may have to this one. The slot counts for as long as it exists.
 pub(super) struct ConnectionSlot<H: Host>(Arc<LinksInner<H>>);
 
 impl<H: Host> ConnectionSlot<H> {

@@ -1,17 +1,17 @@
 use durkenzo_driver::Came;
 use std::time::Instant;
 
-/// The server that executes a shard, and how requests come there.
+/// The server that executes a shard, and the way in which requests get there.
 pub trait Destination: Clone + Send + 'static {
-    /// The shard.
+    /// Returns the shard.
     fn shard(&self) -> u16;
 
-    /// The server.
+    /// Returns the server.
     fn server(&self) -> u16;
 
-    /// How requests come there.
+    /// Returns how requests get there.
     fn came(&self) -> Came;
 
-    /// Since when the requests wait.
+    /// Returns since when the requests wait.
     fn since(&self) -> Instant;
 }

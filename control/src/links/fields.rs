@@ -1,9 +1,9 @@
-//! Numbers and bytes of a frame, one after another, the greatest byte first.
+//! Numbers and bytes of a frame, one after another, in big-endian order.
 use super::{WireFault, MAX_REASON};
 
 /// Reads the fields of a frame, one after another.
 ///
-/// Each call fails by [`WireFault::TooShort`] if the frame ends before its field does.
+/// Each call fails with [`WireFault::TooShort`] if the frame ends before its field does.
 #[derive(Clone, Copy, Debug)]
 pub struct Fields<'a>(&'a [u8]);
 
@@ -13,12 +13,12 @@ impl<'a> Fields<'a> {
         Fields(bytes)
     }
 
-    /// Takes all that is left.
+    /// Takes all remaining bytes.
     pub fn rest(&mut self) -> &'a [u8] {
         std::mem::take(&mut self.0)
     }
 
-    /// The next bytes, so many.
+    /// Returns the next so many bytes.
     pub fn take(&mut self, count: usize) -> Result<&'a [u8], WireFault> {
         let (taken, rest) = self.0.split_at_checked(count).ok_or(WireFault::TooShort)?;
         self.0 = rest;
@@ -30,12 +30,12 @@ impl<'a> Fields<'a> {
         taken.try_into().map_err(|_| WireFault::TooShort)
     }
 
-    /// The next byte.
+    /// Returns the next byte.
     pub fn byte(&mut self) -> Result<u8, WireFault> {
         self.array().map(u8::from_be_bytes)
     }
 
-    /// The next byte, which says yes or no by 1 or 0. Another one is [`WireFault::Flag`].
+    /// Returns the next byte as a flag: 1 for yes or 0 for no. Any other byte is [`WireFault::Flag`].
     pub fn flag(&mut self) -> Result<bool, WireFault> {
         match self.byte()? {
             0 => Ok(false),
@@ -44,22 +44,22 @@ impl<'a> Fields<'a> {
         }
     }
 
-    /// The next number of two bytes.
+    /// Returns the next number of two bytes.
     pub fn short(&mut self) -> Result<u16, WireFault> {
         self.array().map(u16::from_be_bytes)
     }
 
-    /// The next number of four bytes.
+    /// Returns the next number of four bytes.
     pub fn word(&mut self) -> Result<u32, WireFault> {
         self.array().map(u32::from_be_bytes)
     }
 
-    /// The next number of eight bytes.
+    /// Returns the next number of eight bytes.
     pub fn long(&mut self) -> Result<u64, WireFault> {
         self.array().map(u64::from_be_bytes)
     }
 
-    /// The next bytes behind their length. A length above this one is [`WireFault::TooLong`].
+    /// Returns the next bytes, which follow their length. A greater length than `most` is [`WireFault::TooLong`].
     pub fn bytes(&mut self, most: usize) -> Result<&'a [u8], WireFault> {
         let length = self.word()? as usize;
         match length <= most {
@@ -68,12 +68,12 @@ impl<'a> Fields<'a> {
         }
     }
 
-    /// Takes all that is left as a text. Bytes that aren't UTF-8 are [`WireFault::Text`].
+    /// Takes all remaining bytes as a text. If they aren't UTF-8, fails with [`WireFault::Text`].
     pub fn text(&mut self) -> Result<String, WireFault> {
         String::from_utf8(self.rest().to_vec()).map_err(|_| WireFault::Text)
     }
 
-    /// Ends the frame. Bytes that are left are [`WireFault::TooMuch`].
+    /// Ends the frame. If bytes are left, fails with [`WireFault::TooMuch`].
     pub fn end(self) -> Result<(), WireFault> {
         match self.0.is_empty() {
             true => Ok(()),
@@ -82,7 +82,7 @@ impl<'a> Fields<'a> {
     }
 }
 
-/// Writes a text that ends a frame. A text of more than [`MAX_REASON`] bytes is cut.
+/// Writes a text that ends a frame. A text with more than [`MAX_REASON`] bytes is cut.
 pub fn put_text(out: &mut Vec<u8>, text: &str) {
     let mut end = text.len().min(MAX_REASON);
     while !text.is_char_boundary(end) {
@@ -93,7 +93,7 @@ pub fn put_text(out: &mut Vec<u8>, text: &str) {
 
 /// Writes bytes behind their length.
 pub(super) fn put_bytes(out: &mut Vec<u8>, bytes: &[u8]) {
-    // What is longer than a frame may be is refused before it is written.
+    // Bytes that are longer than a frame may be are refused before they are written.
     out.extend((bytes.len() as u32).to_be_bytes());
     out.extend_from_slice(bytes);
 }

@@ -6,33 +6,33 @@ use super::{
 use durkenzo_store::Revision;
 use std::time::{Duration, Instant};
 
-/// How many bytes a frame of requests has beside them, at most, and how many each request has besides.
+/// The most bytes of a frame of requests besides the requests, and how many each request has besides its own.
 const FRAME_HEAD: usize = 64;
 const REQUEST_HEAD: usize = 4;
 
-/// Requests of one client that one other process executes, in their order, until each has its outcome.
+/// Requests of one client that another process executes, in their order, until each has its outcome.
 pub(super) struct ForwardedBatch<H: Host> {
     destination: H::Destination,
     requests: Vec<PendingRequest<H::Request>>,
-    /// Each as it is sent, until it is.
+    /// Each request as it is sent, until then.
     messages: Vec<ForwardedMessage>,
     /// How many have no outcome yet.
     left: usize,
-    /// The greatest revision of those by which a request moved on.
+    /// The greatest revision of the records by which requests moved on.
     moved: Revision,
 }
 
-/// How far a request is.
+/// The progress of a request.
 enum PendingRequest<R> {
-    /// The other process is asked.
+    /// It was sent to the other process.
     Asked(R),
-    /// The other process did nothing of it, and this process looks again who executes it.
+    /// The other process didn't do it, and this process looks again which one executes it.
     Returned(R),
     Done,
 }
 
 impl<R> PendingRequest<R> {
-    /// The request, if it has no outcome.
+    /// Returns the request, if it has no outcome.
     fn left(self) -> Option<R> {
         match self {
             PendingRequest::Asked(it) | PendingRequest::Returned(it) => Some(it),
@@ -42,7 +42,7 @@ impl<R> PendingRequest<R> {
 }
 
 impl<H: Host> ForwardedBatch<H> {
-    /// Makes one of these requests. All go in one frame, so that none overtakes another.
+    /// Makes a batch of these requests. All go in one frame, so that none overtakes another.
     pub(super) fn new(destination: H::Destination, requests: Vec<H::Request>) -> ForwardedBatch<H> {
         ForwardedBatch {
             destination,
@@ -53,19 +53,19 @@ impl<H: Host> ForwardedBatch<H> {
         }
     }
 
-    /// How many bytes its frame has at most.
+    /// Returns the most bytes that its frame has.
     pub(super) fn size(&self) -> usize {
         let sizes = self.messages.iter().map(|it| it.bytes.len() + REQUEST_HEAD);
         FRAME_HEAD + sizes.sum::<usize>()
     }
 
-    /// Whether it goes into one frame.
+    /// Returns whether it fits into one frame.
     pub(super) fn fits(&self) -> bool {
         RequestBatch::fits(self.messages.iter().map(|it| it.bytes.len()))
     }
 
-    /// Takes out the requests that a process with this version of the table of commands doesn't know, before any was
-    /// sent. The others keep their order.
+    /// Takes out the requests that a process with this version of the table of commands doesn't know. None must have
+    /// been sent yet. The others keep their order.
     pub(super) fn take_unknown(&mut self, table: u16) -> Vec<H::Request> {
         if self.messages.iter().all(|it| it.table <= table) {
             return Vec::new();
@@ -79,7 +79,7 @@ impl<H: Host> ForwardedBatch<H> {
         unknown.collect()
     }
 
-    /// Drops the requests for which nobody waits, before any was sent. Returns whether some are left.
+    /// Drops the requests for which nobody waits. None must have been sent yet. Returns whether some are left.
     pub(super) fn keep_awaited(&mut self) -> bool {
         let is_awaited = |it: &PendingRequest<H::Request>| match it {
             PendingRequest::Asked(request) => request.is_awaited(),
@@ -94,7 +94,8 @@ impl<H: Host> ForwardedBatch<H> {
         self.left > 0
     }
 
-    /// Writes its frame with this number at this moment, and gives up the requests' bytes: it is written once.
+    /// Writes its frame with this number at this moment, and frees the requests' bytes, because the frame is written
+    /// only once.
     pub(super) fn write(&mut self, number: u64, now: Instant, out: &mut Vec<u8>) {
         let messages = std::mem::take(&mut self.messages);
         let waited = now.saturating_duration_since(self.since()).as_millis();
@@ -108,17 +109,17 @@ impl<H: Host> ForwardedBatch<H> {
         Frame::<H::Reason>::Requests(batch).write(number, out);
     }
 
-    /// Since when these wait.
+    /// Returns since when these wait.
     pub(super) fn since(&self) -> Instant {
         self.destination.since()
     }
 
-    /// Whether these have waited for so long.
+    /// Returns whether these have waited for so long.
     pub(super) fn has_waited(&self, wait: Duration, now: Instant) -> bool {
         self.since() + wait <= now
     }
 
-    /// Takes the outcome of the request at this place. A second outcome of a request, or one of none, changes nothing.
+    /// Takes the outcome of the request at this place. A second outcome, or one for no request, changes nothing.
     pub(super) fn take_outcome(&mut self, place: u16, outcome: RequestOutcome<'_, H::Reason>) {
         let Some(place) = self.requests.get_mut(usize::from(place)) else {
             return;
@@ -140,12 +141,12 @@ impl<H: Host> ForwardedBatch<H> {
         }
     }
 
-    /// Whether each request has its outcome.
+    /// Returns whether each request has its outcome.
     pub(super) fn is_over(&self) -> bool {
         self.left == 0
     }
 
-    /// Notes that the outcomes which are left won't come: what may have been done isn't asked again, unless that
+    /// Notes that the remaining outcomes won't come. A request that may have been done isn't sent again, unless it
     /// changes nothing.
     pub(super) fn lose(&mut self, why: &str) {
         self.left = 0;
@@ -159,7 +160,7 @@ impl<H: Host> ForwardedBatch<H> {
         }
     }
 
-    /// Returns the requests that have no outcome, if there are any.
+    /// Returns the requests without an outcome, if there are any.
     pub(super) fn returned(self) -> Option<ReturnedRequests<H>> {
         let requests = self.requests.into_iter().filter_map(PendingRequest::left);
         let requests: Vec<_> = requests.collect();
@@ -179,7 +180,7 @@ mod tests {
 
     type Batch = ForwardedBatch<TestHost>;
 
-    /// A request that may be done twice and one that may not, and where the ends of both are told.
+    /// Returns a request that may be done twice and one that may not, and the receiver of their ends.
     fn forwarded() -> (Batch, Receiver<String>) {
         let (requests, told) = TestRequest::each(&["read", "write", "change", "again"]);
         (Batch::new(TestDestination(moment(0)), requests), told)
@@ -212,7 +213,7 @@ mod tests {
         let moved = |it| RequestOutcome::NotDone(TestReason::Moved(Revision(it)));
         batch.take_outcome(2, moved(7));
         batch.take_outcome(1, RequestOutcome::Answer(b"+OK"));
-        // What has its outcome, or isn't there, gets no other one.
+        // A request that has its outcome, or doesn't exist, gets no other one.
         batch.take_outcome(1, moved(8));
         batch.take_outcome(2, RequestOutcome::Answer(b"+OK"));
         batch.take_outcome(9, moved(9));

@@ -1,4 +1,4 @@
-//! What processes send each other behind their greetings: frames, each with its length, a number that its answers
+//! The messages between processes behind their greetings: frames, each with its length, a number that its answers
 //! repeat, and its kind.
 use super::{Fields, Reason, RequestBatch, RequestOutcome, WireFault};
 
@@ -8,15 +8,15 @@ pub const MAX_FRAME: usize = 12 << 20;
 pub const MAX_REQUESTS: usize = 1_024;
 /// The most bytes of one request.
 pub const MAX_REQUEST: usize = 4 << 20;
-/// How many bytes stand before what a frame holds: its length, its number and its kind.
+/// How many bytes precede a frame's content: its length, its number and its kind.
 const HEAD: usize = 13;
 
-/// A frame, which lends the bytes that hosts read.
+/// A frame. It borrows the bytes that hosts read.
 #[derive(Clone, Debug, PartialEq, Eq)]
 pub enum Frame<'a, R> {
     /// Requests of one client, in their order.
     Requests(RequestBatch<'a>),
-    /// What became of the request at this place of the frame with this number.
+    /// The outcome of the request at this place of the frame with this number.
     Outcome(u16, RequestOutcome<'a, R>),
     /// A command for the control.
     Command(&'a [u8]),
@@ -47,11 +47,12 @@ impl<'a, R: Reason> Frame<'a, R> {
         out[start..start + 4].copy_from_slice(&(length as u32).to_be_bytes());
     }
 
-    /// Reads the frame with which the input begins, if it is whole. Returns its number, itself and where it ends.
+    /// Reads the frame with which the input begins, if it is complete. Returns its number, the frame, and where it
+    /// ends.
     ///
     /// # Errors
     ///
-    /// If no frame is so, whatever follows.
+    /// If the input can't be the beginning of a frame.
     pub fn read(input: &'a [u8]) -> Result<Option<(u64, Frame<'a, R>, usize)>, WireFault> {
         let Some(length) = input.first_chunk().map(|it| u32::from_be_bytes(*it)) else {
             return Ok(None);

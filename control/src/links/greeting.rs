@@ -1,30 +1,30 @@
-//! How a connection between two processes begins: who calls greets, and who is called welcomes or refuses.
+//! The beginning of a connection between two processes: the caller greets, and the other side welcomes or refuses it.
 use super::fields::put_bytes;
 use super::{Fields, Identity, WireFault};
 
-/// What the first byte of a connection, and of an answer to it, begins.
+/// The first bytes of a connection, and of an answer to it.
 const MAGIC: &[u8; 4] = b"SMP\0";
-/// The version of what is sent.
+/// The version of the protocol.
 pub const VERSION: u8 = 2;
-/// The first version, which processes of 0.1.0 speak: its greetings tell no table of commands.
+/// The first version, which processes of 0.1.0 speak. Its greetings have no version of the table of commands.
 pub(super) const FIRST_VERSION: u8 = 1;
 /// The most bytes of the secret.
 pub const MAX_SECRET: usize = 256;
-/// The most bytes of why a process is refused.
+/// The most bytes of a refusal's reason.
 const MAX_REASON: usize = 1 << 10;
-/// How many bytes stand before what a greeting holds.
+/// How many bytes precede a greeting's content.
 const HEAD: usize = MAGIC.len() + 5;
 /// The most bytes behind them.
 const MAX_REST: usize = 2 * MAX_REASON;
 
-/// What a connection begins with.
+/// The first message of either side of a connection.
 #[derive(Clone, Debug, PartialEq, Eq)]
 pub enum Greeting {
-    /// Of who calls: who it is, which server it wants, and the secret that it knows.
+    /// From the caller: its identity, the server that it wants, and the secret that it knows.
     Hello(Identity, u16, Vec<u8>),
-    /// Of who is called: who it is.
+    /// From the other side: its identity.
     Welcome(Identity),
-    /// Of who is called: why it takes nothing.
+    /// From the other side: why it refuses the caller.
     Refusal(String),
 }
 
@@ -56,11 +56,12 @@ impl Greeting {
         out[start..start + 4].copy_from_slice(&(length as u32).to_be_bytes());
     }
 
-    /// Reads that with which the input begins, if it is whole; returns itself, its version and where it ends.
+    /// Reads the greeting with which the input begins, if it is complete. Returns the greeting, its version, and where
+    /// it ends.
     ///
     /// # Errors
     ///
-    /// Where no greeting is so, whatever follows.
+    /// If the input can't be the beginning of a greeting.
     pub fn read(input: &[u8]) -> Result<Option<(Greeting, u8, usize)>, WireFault> {
         let known = input.iter().zip(MAGIC).all(|(it, magic)| it == magic);
         if !known {

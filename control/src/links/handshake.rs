@@ -1,4 +1,4 @@
-//! How two processes make themselves known to each other, as bytes that come and go.
+//! The handshake of two processes, as bytes that come and go.
 use super::greeting::VERSION;
 use super::{Admission, Greeting, Identity, Secret, Terms, WireFault, OTHER_SECRET};
 use std::fmt;
@@ -7,11 +7,11 @@ use std::io;
 /// No greeting is longer.
 const MOST: usize = 8 << 10;
 
-/// The side of a handshake that connects: it greets, and learns who answers.
+/// The caller's side of a handshake: it greets, and learns who answers.
 pub struct Greeter {
-    /// Who this process is.
+    /// The identity of this process.
     own: Identity,
-    /// The server that the other process is to run.
+    /// The server that the other process must run.
     server: u16,
     admits: Admission,
     version: u8,
@@ -19,7 +19,7 @@ pub struct Greeter {
 }
 
 impl Greeter {
-    /// Greets the process that was reached, which is to run this server, in this version. Returns the greeter and the
+    /// Greets the process that was reached, in this version. It must run this server. Returns the greeter, and the
     /// bytes to send.
     pub fn new(terms: &Terms, server: u16, version: u8) -> (Greeter, Vec<u8>) {
         let secret = terms.secret.as_ref().map_or(&[][..], Secret::reveal);
@@ -34,11 +34,11 @@ impl Greeter {
         (greeter, written(&hello, version))
     }
 
-    /// Takes bytes that came. Returns who answers, once that is known.
+    /// Processes bytes that came. Returns the identity of the other side, once it is known.
     ///
     /// # Errors
     ///
-    /// If the process isn't who it is to be, or refuses. One that speaks an older version refuses by
+    /// If the process isn't the wanted one, or refuses. A process that speaks an older version refuses with
     /// [`WireFault::Older`].
     pub fn receive(&mut self, bytes: &[u8]) -> io::Result<Option<Identity>> {
         let Some((greeting, spoken)) = self.input.receive(bytes)? else {
@@ -69,7 +69,7 @@ impl fmt::Debug for Greeter {
     }
 }
 
-/// Returns the version that the greeted process speaks, if that is an older one.
+/// Returns the version that the greeted process speaks, if it is an older one.
 pub(super) fn older(error: &io::Error) -> Option<u8> {
     match error.get_ref()?.downcast_ref() {
         Some(WireFault::Older(version)) => Some(*version),
@@ -77,29 +77,30 @@ pub(super) fn older(error: &io::Error) -> Option<u8> {
     }
 }
 
-/// The side of a handshake that is connected to: it hears who connects, and welcomes or refuses it.
+/// The other side of a handshake: it learns who connects, and welcomes or refuses it.
 #[derive(Default)]
 pub(super) struct Welcomer(GreetingInput);
 
-/// Who was heard.
+/// The result of a greeting.
 pub(super) enum Heard<T> {
-    /// Nobody so far: more bytes have to come.
+    /// No greeting so far: more bytes must come.
     Nobody,
     /// A process that may stay, its place, and the bytes that welcome it.
     Welcome(Identity, T, Vec<u8>),
-    /// Somebody who may not: what is sent, if anything is, and why the connection ends.
+    /// A process that may not stay: the bytes to send, if there are any, and why the connection ends.
     Rejected(Option<Vec<u8>>, io::Error),
 }
 
 impl Welcomer {
-    /// Takes bytes that came. Whoever has greeted is welcomed if there is a place, and otherwise told why not.
+    /// Processes bytes that came. If the caller has greeted and there is a place, welcomes it; otherwise tells it why
+    /// not.
     pub(super) fn receive<T>(
         &mut self,
         bytes: &[u8],
         terms: &Terms,
         place: impl FnOnce() -> Option<T>,
     ) -> Heard<T> {
-        // Whoever calls is answered in the version that it speaks.
+        // The caller is answered in the version that it speaks.
         let mut version = VERSION;
         let found = self.heard(bytes, terms, &mut version).and_then(|it| {
             let Some(identity) = it else {
@@ -121,7 +122,7 @@ impl Welcomer {
         }
     }
 
-    /// Returns who has greeted, if it may be welcomed. Notes which version it speaks.
+    /// Returns the process that has greeted, if it may be welcomed. Notes the version that it speaks.
     fn heard(
         &mut self,
         bytes: &[u8],
@@ -148,7 +149,7 @@ impl Welcomer {
     }
 }
 
-/// Who isn't welcomed: what it is told, and why its connection ends.
+/// A process that isn't welcomed: the answer to it, and why its connection ends.
 struct RejectedPeer {
     why: Option<String>,
     error: io::Error,
@@ -166,7 +167,7 @@ impl RejectedPeer {
 }
 
 impl From<io::Error> for RejectedPeer {
-    /// One of another version is told so; who speaks otherwise is told nothing.
+    /// A process with another version is told so. If the bytes aren't a greeting, nothing is answered.
     fn from(error: io::Error) -> RejectedPeer {
         let fault = error.get_ref().and_then(|it| it.downcast_ref());
         let is_version = matches!(fault, Some(WireFault::Version(_)));
@@ -181,12 +182,12 @@ fn written(greeting: &Greeting, version: u8) -> Vec<u8> {
     bytes
 }
 
-/// The bytes of a greeting that came so far. Nothing follows a greeting before it is answered.
+/// The bytes of a greeting that came so far. No bytes may follow a greeting before it is answered.
 #[derive(Default)]
 struct GreetingInput(Vec<u8>);
 
 impl GreetingInput {
-    /// Takes bytes that came. Returns the greeting and its version, once it is whole.
+    /// Processes bytes that came. Returns the greeting and its version, once it is complete.
     fn receive(&mut self, bytes: &[u8]) -> io::Result<Option<(Greeting, u8)>> {
         self.0.extend_from_slice(bytes);
         match Greeting::read(&self.0).map_err(io::Error::other)? {
@@ -204,12 +205,12 @@ mod tests {
     use super::*;
     use std::io::ErrorKind;
 
-    /// Who is heard in these bytes, by a process with this secret that has a place or none.
+    /// Returns the result of these bytes, for a process with this secret that has a place or none.
     fn heard(known: &str, bytes: &[u8], place: Option<()>) -> Heard<()> {
         Welcomer::default().receive(bytes, &terms(known), || place)
     }
 
-    /// What is sent to whoever is rejected, and why.
+    /// Returns the answer to a process that is rejected, and why.
     fn rejected(heard: Heard<()>) -> (Option<Vec<u8>>, String) {
         match heard {
             Heard::Rejected(told, error) => (told, error.to_string()),

@@ -1,19 +1,19 @@
 use super::greeting::FIRST_VERSION;
 use super::{Fields, WireFault};
 
-/// The version of the table of commands that a process has which tells none.
+/// The version of the table of commands of a process that doesn't tell one.
 pub const FIRST_TABLE: u16 = 1;
 
-/// Who a process is.
+/// The identity of a process.
 #[derive(Clone, Copy, Debug, PartialEq, Eq)]
 pub struct Identity {
     /// The server that it runs.
     pub server: u16,
     /// The checksum of its settings.
     pub settings: u64,
-    /// Its number: of two processes of one server the later one has the greater.
+    /// Its number. Of two processes with the same server, the later one has the greater number.
     pub process: u64,
-    /// The version of its host's table of commands. A process is sent only requests of this version and of earlier
+    /// The version of its host's table of commands. A process is only sent requests of this version and of earlier
     /// ones.
     pub table: u16,
 }
@@ -43,7 +43,7 @@ impl Identity {
     }
 }
 
-/// Returns a sum of the settings, by which processes of other settings are told apart.
+/// Returns a checksum of the settings, which distinguishes processes with different settings.
 pub fn checksum(settings: &[u8]) -> u64 {
     settings.iter().fold(0xcbf2_9ce4_8422_2325, |sum, byte| {
         (sum ^ u64::from(*byte)).wrapping_mul(0x0100_0000_01b3)

@@ -1,4 +1,4 @@
-//! The side of a connection that answers: what it takes, and what it sends.
+//! The answering side of a connection: it receives requests, and sends answers.
 use super::connection_slot::ConnectionSlot;
 use super::frame::Frame;
 use super::links_inner::LinksInner;
@@ -12,7 +12,7 @@ use std::sync::atomic::Ordering;
 use std::sync::Arc;
 use std::time::{Duration, Instant};
 
-/// Takes what a process that connected asks for.
+/// Receives the requests of a process that has connected.
 pub(super) struct InboundReader<H: Host> {
     inner: Arc<LinksInner<H>>,
     session: H::Session,
@@ -21,20 +21,20 @@ pub(super) struct InboundReader<H: Host> {
     _slot: ConnectionSlot<H>,
 }
 
-/// What a reader came to.
+/// The state of a reader after a read.
 #[derive(Clone, Copy, Debug, PartialEq, Eq)]
 pub(super) enum InboundState {
     /// It reads on.
     Reads,
-    /// It reads on once something was answered.
+    /// It goes on reading once an answer was sent.
     HeldUp,
-    /// It has read all, or nobody is there to be answered.
+    /// It has read everything, or nobody is there to be answered.
     Over,
 }
 
 impl<H: Host> InboundReader<H> {
-    /// Answers the process that connected and was welcomed, in this slot, whose connection this ends. Returns what
-    /// reads its requests, and what sends it the answers.
+    /// Makes the two halves that answer a process which has connected and was welcomed, in this slot. This closer ends
+    /// the connection. Returns the reader of its requests, and the writer of its answers.
     ///
     /// # Errors
     ///
@@ -60,16 +60,16 @@ impl<H: Host> InboundReader<H> {
         Ok((reader, InboundWriter::new(outbox)))
     }
 
-    /// Returns what it is answered.
+    /// Returns the outbox of its answers.
     pub(super) fn outbox(&self) -> &Arc<Outbox> {
         &self.outbox
     }
 
-    /// Reads once, unless it is held up, and takes the requests that came.
+    /// Reads once, unless it is held up, and processes the requests that came.
     ///
     /// # Errors
     ///
-    /// If a frame is wrong, and the reader's errors.
+    /// If a frame is malformed; and the reader's errors.
     pub(super) fn read(&mut self, reader: &mut dyn Read) -> io::Result<InboundState> {
         match self.take_frames().map_err(io::Error::other)? {
             InboundState::Reads => {}
@@ -81,7 +81,7 @@ impl<H: Host> InboundReader<H> {
         }
     }
 
-    /// Takes the whole frames that came, as far as there is room.
+    /// Processes the complete frames that came, as far as there is room.
     fn take_frames(&mut self) -> Result<InboundState, WireFault> {
         loop {
             if self.outbox.is_held_up() {
@@ -98,7 +98,7 @@ impl<H: Host> InboundReader<H> {
             let is_there = match frame {
                 Frame::Requests(batch) => asking.execute(&mut self.session, batch),
                 Frame::Command(bytes) => asking.ask_control(&mut self.session, bytes)?,
-                // It answers where it is to ask.
+                // This side receives no outcomes, because it sends no requests.
                 Frame::Outcome(..) => return Err(WireFault::Kind(2)),
             };
             if !is_there {
@@ -108,7 +108,7 @@ impl<H: Host> InboundReader<H> {
     }
 }
 
-/// What the frame with this number asks for.
+/// The request in the frame with this number.
 struct Asking<'a, H: Host> {
     inner: &'a LinksInner<H>,
     outbox: &'a Arc<Outbox>,
@@ -116,7 +116,7 @@ struct Asking<'a, H: Host> {
 }
 
 impl<H: Host> Asking<'_, H> {
-    /// Has the host execute requests. Returns whether there is still somebody to answer.
+    /// Makes the host execute requests. Returns whether there is still somebody to answer.
     fn execute(&self, session: &mut H::Session, batch: RequestBatch<'_>) -> bool {
         let (count, inner) = (batch.requests.len(), self.inner);
         let is_there = self.outbox.begin(count);
@@ -127,8 +127,9 @@ impl<H: Host> Asking<'_, H> {
         let requests: Vec<_> = batch.requests.into_iter().zip(senders).collect();
         let reason = match inner.is_stopping() {
             true => Some(H::Reason::stopped()),
-            false => (batch.server != inner.terms.identity.server)
-                .then(|| H::Reason::moved(came.revision)),
+            false => {
+                (batch.server != inner.member.server()).then(|| H::Reason::moved(came.revision))
+            }
         };
         match reason {
             Some(reason) => requests
@@ -144,7 +145,7 @@ impl<H: Host> Asking<'_, H> {
         is_there
     }
 
-    /// Has the host's control carry out a command. Returns whether there is still somebody to answer.
+    /// Makes the host's control execute a command. Returns whether there is still somebody to answer.
     fn ask_control(&self, session: &mut H::Session, command: &[u8]) -> Result<bool, WireFault> {
         let is_there = self.outbox.begin(1);
         session.ask_control(command, self.sender(0))?;
@@ -156,13 +157,14 @@ impl<H: Host> Asking<'_, H> {
     }
 }
 
-/// The moment so many milliseconds before this one. A machine that has just begun has no moment so long ago.
+/// Returns the moment so many milliseconds before this one. If the machine has just started, there may be no such
+/// moment.
 fn since(waited: u32, now: Instant) -> Instant {
     let waited = Duration::from_millis(waited.into());
     now.checked_sub(waited).unwrap_or(now)
 }
 
-/// Sends a process that connected the answers.
+/// Sends the answers to a process that has connected.
 pub(super) struct InboundWriter {
     outbox: Arc<Outbox>,
     buffer: WriteBuffer,
@@ -180,16 +182,16 @@ impl InboundWriter {
         &self.outbox
     }
 
-    /// Whether something is to be sent.
+    /// Returns whether there is something to send.
     pub(super) fn has_more(&self) -> bool {
         !self.buffer.is_written() || self.outbox.has_answers()
     }
 
-    /// Sends what there is to send.
+    /// Sends the bytes that are ready.
     ///
     /// # Errors
     ///
-    /// The writer's, by which it took nothing more. After `WouldBlock` the rest may be sent later.
+    /// The writer's errors; then it took nothing more. After `WouldBlock` the rest may be sent later.
     pub(super) fn write(&mut self, writer: &mut dyn Write) -> io::Result<()> {
         loop {
             if self.buffer.is_written() {

@@ -1,21 +1,21 @@
-//! How a link finds out that the other machine is gone without a word, as by a loss of power.
+//! How a link finds out that the other machine is gone without a word, for instance because it lost power.
 use std::time::Duration;
 
-/// What the system of a process does so that a connection ends once the other machine is gone.
+/// The system's settings by which a connection ends once the other machine is gone.
 #[derive(Clone, Copy, Debug, PartialEq, Eq)]
 pub struct KeepAlive {
-    /// After how long without a byte the other machine is asked whether it is there.
+    /// After this long without a byte, the other machine is asked whether it is there.
     pub idle: Duration,
     /// How long until it is asked again.
     pub again: Duration,
     /// How often it is asked in vain.
     pub asked: u32,
-    /// How long the other machine may take to say that it has what was sent.
+    /// How long the other machine may take to acknowledge bytes.
     pub silent: Duration,
 }
 
-/// How the system keeps the connections of links. A machine that is there answers by itself, however long its process
-/// takes: so no slow shard ends a connection.
+/// How the system keeps the connections of links. The system of a machine that is there answers, however long its
+/// process takes. So no slow shard ends a connection.
 pub const KEEP_ALIVE: KeepAlive = KeepAlive {
     idle: Duration::from_secs(5),
     again: Duration::from_secs(2),

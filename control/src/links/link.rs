@@ -11,41 +11,43 @@ use std::io;
 use std::sync::{Arc, Condvar, Mutex, MutexGuard, PoisonError};
 use std::time::{Duration, Instant};
 
-/// How much may wait to be sent to a process, and how much it may be asked at once.
+/// The most bytes that may wait to be sent to a process, and that may be asked of it at the same time.
 const MOST_BYTES: usize = 64 << 20;
 const MOST_ASKED: usize = 1 << 16;
-/// How long a connection goes on to a server that isn't there any more, as it may end by itself and answer first.
+/// How long a connection goes on to a server that isn't there any more. Its process may end the connection itself, and
+/// answer before that.
 const LAST: Duration = Duration::from_millis(500);
-/// How long a process that wasn't reached isn't tried again, at first and at last.
+/// How long a process that couldn't be reached isn't tried again, at first and at most.
 const FIRST_PAUSE: Duration = Duration::from_millis(20);
 const LAST_PAUSE: Duration = Duration::from_millis(500);
 
-/// The link to the process of one server: what that is asked, and the connection by which it is. The connection is made
-/// where it is needed, and again after it broke, or another process has the server.
+/// The link to the process of one server: its requests, and its connection. The connection is made when it is needed.
+/// It is made again after it broke, or after another process got the server.
 ///
-/// A link waits for nothing. Whoever has its bytes sent is woken when there is something to do.
+/// A link doesn't wait. Whoever sends its bytes is woken when there is something to do.
 pub(super) struct Link<H: Host> {
     pub(super) server: u16,
     state: Mutex<LinkState<H>>,
-    /// There is something to do.
+    /// Notified when there is something to do.
     pub(super) woken: Condvar,
 }
 
 pub(super) struct LinkState<H: Host> {
-    /// What isn't sent.
+    /// The messages that weren't sent yet.
     queue: VecDeque<Queued<H>>,
     bytes: usize,
-    /// What was sent, or is being sent, and has no outcome, in the order of its numbers.
+    /// The messages that were sent, or are being sent, and have no outcome, in the order of their numbers.
     asked: BTreeMap<u64, OutboundMessage<H>>,
     last: u64,
-    /// What ends the connection, where there is one, and the number of the process to which it is.
+    /// The closer of the connection, if there is one, and the number of the process at its other end.
     closer: Option<Arc<dyn Closer>>,
     process: u64,
     /// The version of that process' table of commands.
     table: u16,
-    /// Why the server wasn't reached when that was tried last, if it wasn't.
+    /// Why the server couldn't be reached at the last attempt, if it couldn't.
     unreached: Option<String>,
-    /// Until when it isn't tried again, how long that is after the next try in vain, and in which version it is tried.
+    /// Until when it isn't tried again, how long the pause after the next failed attempt is, and the version of the
+    /// next attempt.
     paused_until: Option<Instant>,
     pause: Duration,
     version: u8,
@@ -64,12 +66,12 @@ struct Queued<H: Host> {
     outgoing: OutboundMessage<H>,
 }
 
-/// What a link needs next.
+/// The next need of a link.
 #[derive(Clone, Copy, Debug, PartialEq, Eq)]
 pub(super) enum LinkNeed {
     /// A connection to its server's process.
     Connection,
-    /// Nothing before this moment, or before it is asked something.
+    /// Nothing before this moment, or before there is a request for it.
     Nothing(Option<Instant>),
     /// Nothing any more.
     End,
@@ -98,7 +100,7 @@ impl<H: Host> Default for LinkState<H> {
 }
 
 impl<H: Host> LinkState<H> {
-    /// Returns what the link needs.
+    /// Returns the need of the link.
     pub(super) fn need(&self, now: Instant) -> LinkNeed {
         let paused_until = self.paused_until.filter(|it| *it > now);
         match (self.is_over, paused_until) {
@@ -109,17 +111,17 @@ impl<H: Host> LinkState<H> {
         }
     }
 
-    /// Whether the connection has nothing to send, and goes on.
+    /// Returns whether the connection has nothing to send, and goes on.
     pub(super) fn is_idle(&self) -> bool {
         self.queue.is_empty() && self.goes_on()
     }
 
-    /// Whether the connection goes on.
+    /// Returns whether the connection goes on.
     pub(super) fn goes_on(&self) -> bool {
         !self.is_over && !self.is_broken
     }
 
-    /// Ends the connection at once where a later process has the server, and after a while where none has it.
+    /// Ends the connection at once if the server has a later process, and after a while if it has none.
     fn follow(&mut self, now: Instant, process: Option<u64>) {
         let gone = *self.gone.get_or_insert(now);
         if process.is_some() {
@@ -131,7 +133,7 @@ impl<H: Host> LinkState<H> {
         }
     }
 
-    /// Takes what has waited for too long to be sent: nobody was asked that.
+    /// Takes the messages that have waited too long to be sent. No process has seen them.
     fn take_due(&mut self, now: Instant) -> Vec<OutboundMessage<H>> {
         if !self.queue.iter().any(|it| it.outgoing.is_due(now)) {
             return Vec::new();
@@ -143,7 +145,7 @@ impl<H: Host> LinkState<H> {
         due.into_iter().map(|it| it.outgoing).collect()
     }
 
-    /// Takes what was sent and isn't answered in time.
+    /// Takes the messages that were sent and aren't answered in time.
     fn take_late(&mut self, now: Instant) -> Vec<OutboundMessage<H>> {
         let asked = self.asked.iter();
         let late = asked.filter(|it| it.1.is_late(now)).map(|it| *it.0);
@@ -153,12 +155,12 @@ impl<H: Host> LinkState<H> {
     }
 }
 
-/// What a link gives up, as it took too long.
+/// The messages that a link gives up, because they took too long.
 pub(super) struct GivenUp<H: Host> {
-    /// What wasn't sent, and why.
+    /// The messages that weren't sent, and why.
     pub(super) unsent: Vec<OutboundMessage<H>>,
     pub(super) why: String,
-    /// What was sent, and isn't answered.
+    /// The messages that were sent, and aren't answered.
     pub(super) unanswered: Vec<OutboundMessage<H>>,
 }
 
@@ -172,21 +174,21 @@ impl<H: Host> Link<H> {
         }
     }
 
-    /// Whether something waits to be sent.
+    /// Returns whether something waits to be sent.
     pub(super) fn has_more(&self) -> bool {
         !self.state().queue.is_empty()
     }
 
-    /// Whether its process is reached.
+    /// Returns whether its process can be reached.
     pub(super) fn is_connected(&self) -> bool {
         self.state().closer.is_some()
     }
 
-    /// Asks the server's process.
+    /// Sends a message to the server's process.
     ///
     /// # Errors
     ///
-    /// What was to be sent, and why it isn't, if too much waits or it is too large.
+    /// The message, and why it isn't sent: too many bytes wait, or it is too large.
     pub(super) fn ask(&self, outgoing: OutboundMessage<H>) -> Result<(), Box<NotSent<H>>> {
         let mut state = self.state();
         if state.is_over {
@@ -216,8 +218,8 @@ impl<H: Host> Link<H> {
         Ok(())
     }
 
-    /// Ends the connection where the server hasn't been there for a while, or is another process, by the number of the
-    /// one that is there. Returns what wasn't sent or answered in time, which is asked no more.
+    /// Ends the connection if the server hasn't been there for a while, or has another process. `process` is the number
+    /// of the one that is there. Returns the messages that weren't sent or answered in time, which are given up.
     pub(super) fn tick(&self, now: Instant, process: Option<u64>) -> GivenUp<H> {
         let mut state = self.state();
         state.follow(now, process);
@@ -234,7 +236,7 @@ impl<H: Host> Link<H> {
         }
     }
 
-    /// Ends the connection: what was sent isn't told.
+    /// Ends the connection. The outcomes of sent messages aren't told.
     pub(super) fn cut(&self) {
         self.state().closer.iter().for_each(|it| it.end());
     }
@@ -259,7 +261,7 @@ impl<H: Host> Link<H> {
         state.version
     }
 
-    /// Notes that the process is reached, and which one it is, by a connection that this ends.
+    /// Notes that the process was reached, and its identity. This closer ends the connection.
     pub(super) fn note_reached(&self, identity: Identity, closer: Arc<dyn Closer>) {
         let mut state = self.state();
         state.closer = Some(closer);
@@ -271,8 +273,8 @@ impl<H: Host> Link<H> {
         state.version = VERSION;
     }
 
-    /// Notes that no connection came to be, and why. One that speaks an older version is greeted in that at once. Else
-    /// what waits is given back, and the process isn't tried again for a while.
+    /// Notes that no connection could be made, and why. If the process speaks an older version, it is greeted in that
+    /// version at once. Otherwise waiting messages are given back, and the process isn't tried again for a while.
     pub(super) fn note_unreached(&self, error: &io::Error, inner: &LinksInner<H>) {
         let (mut state, now) = (self.state(), inner.now());
         state.is_begun = false;
@@ -291,7 +293,7 @@ impl<H: Host> Link<H> {
         self.give_back_all(&why, inner);
     }
 
-    /// Adds the frames to be sent next. Returns the requests that aren't sent, because the process doesn't know them.
+    /// Adds the frames to send next. Returns the requests that aren't sent, because the process doesn't know them.
     pub(super) fn take_frames(&self, now: Instant, buffer: &mut WriteBuffer) -> Vec<H::Request> {
         let (mut state, mut unknown) = (self.state(), Vec::new());
         if !state.goes_on() {
@@ -301,7 +303,7 @@ impl<H: Host> Link<H> {
             let (number, mut outgoing) = (queued.number, queued.outgoing);
             state.bytes -= queued.size;
             unknown.extend(outgoing.take_unknown(state.table));
-            // Their clients may have left while the process wasn't reached.
+            // Their clients may have left while the process couldn't be reached.
             if !outgoing.keep_awaited() {
                 continue;
             }
@@ -314,7 +316,7 @@ impl<H: Host> Link<H> {
         unknown
     }
 
-    /// Takes the whole frames that came.
+    /// Processes the complete frames that came.
     ///
     /// # Errors
     ///
@@ -328,7 +330,7 @@ impl<H: Host> Link<H> {
             let Frame::Outcome(place, outcome) = frame else {
                 return Err(io::Error::other("it asks where it is to answer"));
             };
-            // What was given up meanwhile is asked by nobody.
+            // Nobody waits for messages that were given up meanwhile.
             let Some(outgoing) = self.state().asked.remove(&number) else {
                 continue;
             };
@@ -340,7 +342,7 @@ impl<H: Host> Link<H> {
         Ok(())
     }
 
-    /// The connection broke: nothing of what was sent will be told.
+    /// Notes that the connection broke: no outcome of a sent message will come.
     pub(super) fn lose_all(&self, why: &str, inner: &LinksInner<H>) {
         let mut state = self.state();
         state.is_broken = true;
@@ -354,12 +356,12 @@ impl<H: Host> Link<H> {
         }
     }
 
-    /// The connection is over, and another one may be made.
+    /// Notes that the connection is over, and another one may be made.
     pub(super) fn end_connection(&self) {
         self.state().is_begun = false;
     }
 
-    /// What has these numbers wasn't sent.
+    /// Gives back the messages with these numbers, because they weren't sent.
     pub(super) fn give_back(&self, numbers: &[u64], why: &str, inner: &LinksInner<H>) {
         let mut state = self.state();
         let unsent = numbers.iter().filter_map(|it| state.asked.remove(it));
@@ -369,7 +371,7 @@ impl<H: Host> Link<H> {
         batches.for_each(|it| inner.go_on(it, Some(why)));
     }
 
-    /// Nothing that waits was sent.
+    /// Gives back all waiting messages, because they weren't sent.
     pub(super) fn give_back_all(&self, why: &str, inner: &LinksInner<H>) {
         let mut state = self.state();
         state.bytes = 0;
@@ -380,7 +382,7 @@ impl<H: Host> Link<H> {
     }
 }
 
-/// What isn't sent, and why.
+/// A message that isn't sent, and why.
 pub(super) struct NotSent<H: Host> {
     pub(super) outgoing: OutboundMessage<H>,
     pub(super) why: String,
@@ -404,12 +406,12 @@ mod tests {
 
     const WAIT: Duration = Duration::from_secs(1);
 
-    /// A link that has no thread.
+    /// Returns a link without a thread.
     fn idle() -> Link<TestHost> {
         Link::new(2)
     }
 
-    /// Has the link send a command. Returns where its end is told.
+    /// Makes the link send a command. Returns the receiver of its end.
     fn asked(link: &Link<TestHost>) -> Receiver<String> {
         let (command, told) = TestCommand::new();
         let command = OutboundMessage::command(command, moment(0));
@@ -417,7 +419,7 @@ mod tests {
         told
     }
 
-    /// Has the link send requests, each in a frame of its own.
+    /// Makes the link send requests, each in its own frame.
     fn forwarded(link: &Link<TestHost>, requests: Vec<TestRequest>) {
         for request in requests {
             let batch = ForwardedBatch::new(TestDestination(moment(0)), vec![request]);
@@ -426,7 +428,7 @@ mod tests {
         }
     }
 
-    /// The numbers of the frames that are sent next, and the requests that aren't sent.
+    /// Returns the numbers of the frames that are sent next, and the requests that aren't sent.
     fn sent(link: &Link<TestHost>) -> (Vec<u64>, Vec<TestRequest>) {
         let mut buffer = WriteBuffer::default();
         let unknown = link.take_frames(moment(0), &mut buffer);
@@ -497,14 +499,14 @@ mod tests {
         link.lose_all("it is gone", &links.inner);
         assert!(told.try_recv().is_err());
         time.store(30, Ordering::Relaxed);
-        // There is no host, so that each is refused as it goes on.
+        // There is no host, so each is refused when it goes on.
         links.tick();
         let told: Vec<_> = told.try_iter().collect();
         let refused = names.map(|it| format!("{it}: unreached 2: this process ends"));
         assert_eq!(told, refused);
     }
 
-    /// A link to process 7 of the server, and what ends its connection.
+    /// Returns a link to process 7 of the server, and the closer of its connection.
     fn connected() -> (Link<TestHost>, Arc<TestCloser>) {
         let (link, closer) = (idle(), Arc::new(TestCloser::default()));
         link.state().process = 7;
@@ -515,7 +517,7 @@ mod tests {
     #[test]
     fn a_connection_ends_once_another_process_has_the_server() {
         let (link, closer) = connected();
-        // What is seen of others may lag behind whom a link has reached.
+        // The view of others may be out of date compared with the process that a link has reached.
         for process in [Some(7), Some(6)] {
             link.tick(moment(0), process);
             assert!(!closer.is_ended());

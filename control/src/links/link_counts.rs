@@ -1,6 +1,6 @@
 use std::sync::atomic::{AtomicU64, Ordering};
 
-/// How much went between this process and others.
+/// The traffic between this process and others.
 #[derive(Debug, Default)]
 pub struct LinkCounts {
     pub(super) sent: AtomicU64,
@@ -10,22 +10,22 @@ pub struct LinkCounts {
 }
 
 impl LinkCounts {
-    /// How many requests were sent to other processes.
+    /// Returns how many requests were sent to other processes.
     pub fn sent(&self) -> u64 {
         self.sent.load(Ordering::Relaxed)
     }
 
-    /// How many requests came from other processes.
+    /// Returns how many requests came from other processes.
     pub fn came(&self) -> u64 {
         self.came.load(Ordering::Relaxed)
     }
 
-    /// How often requests that another process gave back went on here.
+    /// Returns how many requests went on here after another process gave them back.
     pub fn again(&self) -> u64 {
         self.again.load(Ordering::Relaxed)
     }
 
-    /// How often requests were refused, because a process couldn't be asked.
+    /// Returns how many requests were refused because a process couldn't be reached.
     pub fn refused(&self) -> u64 {
         self.refused.load(Ordering::Relaxed)
     }

@@ -4,35 +4,38 @@ use super::link::{Link, NotSent};
 use super::link_counts::LinkCounts;
 use super::outbound_message::OutboundMessage;
 use super::pending_handshakes::{PendingHandshakes, MOST as MOST_PENDING};
-use super::{Destination, Host, ReturnedRequests, Terms};
+use super::{Destination, Host, Identity, ReturnedRequests, Terms};
 use durkenzo_driver::{Clock, Member};
 use std::collections::BTreeMap;
 use std::io;
-use std::sync::atomic::{AtomicBool, AtomicUsize, Ordering};
+use std::sync::atomic::{AtomicBool, AtomicU16, AtomicU64, AtomicUsize, Ordering};
 use std::sync::{Arc, Mutex, MutexGuard, OnceLock, PoisonError};
 use std::time::{Duration, Instant};
 
-/// How long until what couldn't be sent is tried again.
+/// How long until a request that couldn't be sent is tried again.
 const AGAIN: Duration = Duration::from_millis(30);
 
-/// Has somebody move the bytes of a link that is new.
+/// Makes somebody move the bytes of a new link.
 pub(super) type BeginLink<H> = fn(&Arc<LinksInner<H>>, &Arc<Link<H>>) -> io::Result<()>;
 
-/// What all links of a process share.
+/// The state that all links of a process share.
 pub(super) struct LinksInner<H: Host> {
     clock: Clock,
     begin_link: BeginLink<H>,
-    pub(super) terms: Terms,
+    terms: Terms,
+    /// The checksum of the settings in force, and how many servers they have.
+    settings: AtomicU64,
+    servers: AtomicU16,
     pub(super) member: Arc<Member>,
     /// How long requests wait.
     pub(super) wait: Duration,
     pub(super) counts: LinkCounts,
-    /// The host, and how many servers the cluster has: once others are answered.
-    begun: OnceLock<(H, u16)>,
+    /// The host, once other processes are answered.
+    begun: OnceLock<H>,
     pub(super) links: Mutex<BTreeMap<u16, Arc<Link<H>>>>,
-    /// What is tried again, and when.
+    /// The requests that are tried again, and when.
     returned: Mutex<Vec<(Instant, ReturnedRequests<H>)>>,
-    /// How many of the processes that connected are answered.
+    /// How many of the connected processes are answered.
     pub(super) serving: AtomicUsize,
     pub(super) peers: ConnectedPeers,
     pub(super) handshakes: Arc<PendingHandshakes>,
@@ -49,6 +52,8 @@ impl<H: Host> LinksInner<H> {
         LinksInner {
             clock,
             begin_link,
+            settings: AtomicU64::new(terms.identity.settings),
+            servers: AtomicU16::new(0),
             terms,
             member,
             wait,
@@ -63,18 +68,38 @@ impl<H: Host> LinksInner<H> {
         }
     }
 
-    /// This moment.
+    /// Returns this moment.
     pub(super) fn now(&self) -> Instant {
         self.clock.now()
     }
 
     /// Notes the host, and how many servers the cluster has, once.
     pub(super) fn begin(&self, host: H, servers: u16) {
+        self.servers.store(servers, Ordering::Release);
         // Links are begun once.
-        let _ = self.begun.set((host, servers));
+        let _ = self.begun.set(host);
     }
 
-    /// Where the server's process is reached.
+    /// Adopts settings with this checksum and so many servers from now on.
+    pub(super) fn go_by(&self, settings: u64, servers: u16) {
+        self.settings.store(settings, Ordering::Release);
+        self.servers.store(servers, Ordering::Release);
+    }
+
+    /// Returns the terms of connections that begin now.
+    pub(super) fn terms(&self) -> Terms {
+        let settings = self.settings.load(Ordering::Acquire);
+        let identity = Identity {
+            settings,
+            ..self.terms.identity
+        };
+        Terms {
+            identity,
+            ..self.terms.clone()
+        }
+    }
+
+    /// Returns the address of the server's process.
     ///
     /// # Errors
     ///
@@ -85,22 +110,22 @@ impl<H: Host> LinksInner<H> {
         address.ok_or_else(|| io::Error::other("it isn't there"))
     }
 
-    /// The host, once others are answered.
+    /// Returns the host, once others are answered.
     pub(super) fn host(&self) -> Option<&H> {
-        self.begun.get().map(|it| &it.0)
+        self.begun.get()
     }
 
-    /// How many servers the cluster has, once others are answered.
+    /// Returns how many servers the cluster has, once others are answered.
     pub(super) fn servers(&self) -> u16 {
-        self.begun.get().map_or(0, |it| it.1)
+        self.servers.load(Ordering::Acquire)
     }
 
-    /// Whether nothing more is begun.
+    /// Returns whether nothing more is begun.
     pub(super) fn is_stopping(&self) -> bool {
         self.stops.load(Ordering::Acquire)
     }
 
-    /// Asks the server's process.
+    /// Sends a message to the server's process.
     pub(super) fn ask(self: &Arc<LinksInner<H>>, server: u16, outgoing: OutboundMessage<H>) {
         let asked = match self.link(server) {
             Ok(link) => link.ask(outgoing),
@@ -114,7 +139,8 @@ impl<H: Host> LinksInner<H> {
         }
     }
 
-    /// Refuses them for this reason. If this process ends, whoever sent them looks again who executes them.
+    /// Refuses the requests for this reason. If this process ends, their sender looks again which process executes
+    /// them.
     fn refuse(&self, returned: ReturnedRequests<H>, why: &str) {
         if self.is_stopping() {
             return returned.stop();
@@ -135,10 +161,10 @@ impl<H: Host> LinksInner<H> {
         Ok(link)
     }
 
-    /// Has the requests go on here that another process gave back: at once if that process said why, otherwise a little
-    /// later. Refuses them if they have waited for as long as they may.
+    /// Makes the requests go on here that another process gave back: at once if that process said why, otherwise a
+    /// little later. If they have waited for as long as they may, refuses them.
     pub(super) fn go_on(&self, batch: ForwardedBatch<H>, why: Option<&str>) {
-        // What would be tried again too late is refused by its reason, which its shard doesn't know.
+        // A request that would be tried again too late is refused with its reason, which its shard doesn't know.
         let pause = why.map_or(Duration::ZERO, |_| 2 * AGAIN);
         let now = self.now();
         let has_waited = batch.has_waited(self.wait.saturating_sub(pause), now);
@@ -165,7 +191,8 @@ impl<H: Host> LinksInner<H> {
         }
     }
 
-    /// Has go on what is due, gives up what isn't answered in time, and ends connections to servers that have gone.
+    /// Makes requests go on that are due, gives up those that aren't answered in time, and ends connections to servers
+    /// that have gone.
     pub(super) fn tick(&self) {
         let now = self.now();
         let mut waiting = locked(&self.returned);
@@ -197,7 +224,7 @@ impl<H: Host> LinksInner<H> {
         links
     }
 
-    /// Gives back all that was to be tried again, as this process ends.
+    /// Gives back all requests that were to be tried again, because this process ends.
     pub(super) fn stop_returned(&self) {
         let returned = std::mem::take(&mut *locked(&self.returned));
         returned.into_iter().for_each(|it| it.1.stop());

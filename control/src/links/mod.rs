@@ -1,13 +1,14 @@
 //! The links between the processes of a cluster: requests go to the process of the server that executes their shard,
 //! and commands for the control to the process that leads.
 //!
-//! A process has a link to each one that it asks. The link's connection is made when it is needed, and begins by a
-//! [`Greeting`] of either side. The process then sends [`Frame`]s, and gets outcomes in any order. Requests and answers
-//! are bytes that only the [`Host`] of either side reads. Nothing here decides who executes a request: the host says
-//! where it goes, and the host there looks at the shard's record before anything is done.
+//! A process has a link to each process to which it sends requests. The link's connection is made when it is needed,
+//! and begins with a [`Greeting`] from either side. The process then sends [`Frame`]s, and gets outcomes in any order.
+//! Requests and answers are bytes that only the [`Host`] of either side reads. Nothing here decides who executes a
+//! request: the host says where it goes, and the host there looks at the shard's record before anything is done.
 //!
-//! Each queue has a bound: what would go beyond it is refused, or isn't read yet. Links decide by the bytes and the
-//! moments that they are given: only `sockets` waits. `tests/own_service.rs` has a whole host. A connection begins so:
+//! Each queue has a bound. If a request would exceed it, it is refused, or isn't read yet. Links decide by the bytes
+//! and the moments that they are given: only `sockets` waits. `tests/own_service.rs` has a complete host. A connection
+//! begins like this:
 //!
 //! ```
 //! use durkenzo_control::links::{checksum, Greeting, Identity, FIRST_TABLE};
@@ -89,7 +90,7 @@ pub use returned_requests::ReturnedRequests;
 pub use secret::Secret;
 pub use secret_fault::SecretFault;
 pub use sent_frames::SentFrames;
-pub use sockets::Meeting;
+pub use sockets::SocketHandshake;
 pub use terms::Terms;
 pub use wire_fault::WireFault;
 
@@ -106,13 +107,13 @@ use std::sync::Arc;
 use std::thread::JoinHandle;
 use std::time::Duration;
 
-/// How often a process looks for who connects, and for what is due.
+/// How often a process looks for new connections, and for due work.
 pub const TICK: Duration = Duration::from_millis(10);
-/// How long another process may take to be reached, to be met and greet in all, and to take what is sent.
+/// How long another process may take to accept a connection, to finish the handshake, and to take bytes.
 const PATIENCE: Duration = Duration::from_secs(2);
-/// How long others are told at a stop that nothing more is begun, so that they look who executes now.
+/// How long others are told at a stop that nothing more is begun, so that they look again which process executes.
 const LINGER: Duration = Duration::from_millis(200);
-/// How long a stop waits for answers that others asked for.
+/// How long a stop waits for answers to other processes.
 const STOP: Duration = Duration::from_secs(2);
 
 /// The links of a process to the others of its cluster. Clones are the same links.
@@ -121,9 +122,9 @@ pub struct Links<H: Host> {
 }
 
 impl<H: Host> Links<H> {
-    /// Returns the links of this process's server, on these terms. Requests wait for so long.
+    /// Makes the links of this process's server, on these terms. Requests wait for so long.
     ///
-    /// They reach others at once, and answer nobody before [`begin`](Links::begin).
+    /// They reach others at once, but answer nobody before [`begin`](Links::begin).
     pub fn new(terms: Terms, member: Arc<Member>, wait: Duration) -> Links<H> {
         let by = (Clock::default(), sockets::begin_link as BeginLink<H>);
         Links {
@@ -131,9 +132,9 @@ impl<H: Host> Links<H> {
         }
     }
 
-    /// Returns links as [`Links::new`] does, but of no threads and by this clock. The caller makes the connections of
-    /// [`Links::dials`], gives those who connect to [`Links::accept`], moves the bytes of both, and has [`Links::tick`]
-    /// do what is due each [`TICK`]. Such links can be simulated.
+    /// Makes links as [`Links::new`] does, but without threads and with this clock. The caller must make the
+    /// connections of [`Links::dials`], give incoming connections to [`Links::accept`], move the bytes of both, and
+    /// call [`Links::tick`] each [`TICK`]. Such links can be simulated.
     pub fn without_threads(
         terms: Terms,
         member: Arc<Member>,
@@ -144,6 +145,12 @@ impl<H: Host> Links<H> {
         Links {
             inner: Arc::new(LinksInner::new(by, terms, member, wait)),
         }
+    }
+
+    /// Adopts other settings from now on, with this checksum and so many servers. Existing connections stay. A new one
+    /// is refused until the other process adopts the settings, too.
+    pub fn go_by(&self, settings: u64, servers: u16) {
+        self.inner.go_by(settings, servers);
     }
 
     /// Returns this process's server, and the others that are there.
@@ -160,8 +167,8 @@ impl<H: Host> Links<H> {
 
     /// Sends requests of one client, in their order, to the process of the server that executes them. It doesn't wait.
     ///
-    /// Each request is ended once, by its own calls. Those of which nothing was done may go on by [`Host::resume`]
-    /// before that.
+    /// Each request is ended once, by its own calls. Before that, requests that weren't done may go on with
+    /// [`Host::resume`].
     pub fn forward(&self, destination: &H::Destination, requests: Vec<H::Request>) {
         let (server, count) = (destination.server(), requests.len() as u64);
         self.inner.counts.sent.fetch_add(count, Ordering::Relaxed);
@@ -177,20 +184,20 @@ impl<H: Host> Links<H> {
         self.inner.ask(server, command);
     }
 
-    /// Returns how much went between this process and others.
+    /// Returns the counts of the traffic between this process and others.
     pub fn counts(&self) -> &LinkCounts {
         &self.inner.counts
     }
 
-    /// Returns how many processes this one has reached, and by how many it was.
+    /// Returns to how many processes this one is connected, and how many are connected to it.
     pub fn connections(&self) -> (usize, usize) {
         let links = locked(&self.inner.links);
         let reached = links.values().filter(|it| it.is_connected()).count();
         (reached, self.inner.serving.load(Ordering::Relaxed))
     }
 
-    /// Begins to answer the processes that connect, by this host, until the links are closed. The cluster has so many
-    /// servers. Returns the thread, which ends then.
+    /// Begins to answer incoming connections of processes, with this host, until the links are closed. The cluster has
+    /// so many servers. Returns the thread, which ends then.
     ///
     /// # Errors
     ///
@@ -205,13 +212,13 @@ impl<H: Host> Links<H> {
         sockets::begin_to_answer(listener, self.inner.clone())
     }
 
-    /// Begins to answer the processes that connect, by this host. The cluster has so many servers. The caller accepts
-    /// them.
+    /// Begins to answer incoming connections of processes, with this host. The cluster has so many servers. The caller
+    /// accepts the connections.
     pub fn begin_without_threads(&self, servers: u16, host: H) {
         self.inner.begin(host, servers);
     }
 
-    /// Begins the connections that links need now, each of which the caller makes or has fail.
+    /// Begins the connections that links need now. The caller must make each of them, or report that it failed.
     pub fn dials(&self) -> Vec<Dial<H>> {
         let (links, now) = (locked(&self.inner.links).clone(), self.inner.now());
         let links = links.into_values();
@@ -221,34 +228,35 @@ impl<H: Host> Links<H> {
             .collect()
     }
 
-    /// Takes the connection of whoever connected, which this ends, if there is room for it.
+    /// Takes an incoming connection, if there is room for it. This closer ends it.
     pub fn accept(&self, closer: Arc<dyn Closer>) -> Option<Connection<H>> {
         Connection::accepted(self.inner.clone(), closer)
     }
 
-    /// Has go on what is due, gives up what isn't answered in time, and ends connections to servers that have gone.
+    /// Makes requests go on that are due, gives up those that aren't answered in time, and ends connections to servers
+    /// that have gone.
     pub fn tick(&self) {
         self.inner.tick();
     }
 
-    /// Begins nothing more that others ask for, and tells them so.
+    /// Begins nothing more for other processes, and tells them so.
     pub fn close(&self) {
         self.inner.stops.store(true, Ordering::Release);
     }
 
-    /// Leaves the cluster, so that others give this server's shards owners at once. Waits for seconds at most, so that
-    /// they read their last answers, and ends all connections.
+    /// Leaves the cluster, so that others give this server's shards owners at once. Waits some seconds at most so that
+    /// others read their last answers, and ends all connections.
     pub fn leave(&self) {
         self.close();
         self.inner.member.leave();
-        // What was forwarded is answered yet.
+        // Requests that were forwarded to this process are still answered.
         sockets::linger(&self.inner, LINGER, STOP);
         self.inner.stop_links();
         sockets::linger(&self.inner, Duration::ZERO, LINGER);
         self.inner.peers.end();
     }
 
-    /// Leaves the cluster as [`Links::leave`] does, and waits for nothing: what is under way is lost, or told that this
+    /// Leaves the cluster as [`Links::leave`] does, but doesn't wait. Requests under way are lost, or told that this
     /// process ends.
     pub fn leave_at_once(&self) {
         self.close();
@@ -271,7 +279,7 @@ impl<H: Host> Clone for Links<H> {
 impl<H: Host> fmt::Debug for Links<H> {
     fn fmt(&self, f: &mut fmt::Formatter<'_>) -> fmt::Result {
         f.debug_struct("Links")
-            .field("terms", &self.inner.terms)
+            .field("terms", &self.inner.terms())
             .finish_non_exhaustive()
     }
 }

@@ -1,4 +1,4 @@
-//! The side of a connection that asks: what it sends, and what it takes.
+//! The asking side of a connection: it sends requests, and receives outcomes.
 use super::link::Link;
 use super::links_inner::LinksInner;
 use super::read_buffer::ReadBuffer;
@@ -7,7 +7,7 @@ use super::{ForwardedRequest, Host};
 use std::io::{self, ErrorKind, Read, Write};
 use std::sync::Arc;
 
-/// Sends what a process is asked.
+/// Sends the requests for a process.
 pub(super) struct OutboundWriter<H: Host> {
     link: Arc<Link<H>>,
     inner: Arc<LinksInner<H>>,
@@ -25,16 +25,16 @@ impl<H: Host> OutboundWriter<H> {
         }
     }
 
-    /// Whether something is to be sent.
+    /// Returns whether there is something to send.
     pub(super) fn has_more(&self) -> bool {
         !self.buffer.is_written() || self.link.has_more()
     }
 
-    /// Sends what there is to send.
+    /// Sends the bytes that are ready.
     ///
     /// # Errors
     ///
-    /// The writer's, by which it took nothing more. After `WouldBlock` the rest may be sent later.
+    /// The writer's errors; then it took nothing more. After `WouldBlock` the rest may be sent later.
     pub(super) fn write(&mut self, writer: &mut dyn Write) -> io::Result<()> {
         loop {
             if self.buffer.is_written() {
@@ -50,14 +50,14 @@ impl<H: Host> OutboundWriter<H> {
         }
     }
 
-    /// Gives back what isn't sent, for this reason, as the connection ends.
+    /// Gives back messages that weren't sent, for this reason, because the connection ends.
     pub(super) fn end(self, why: &str) {
         let unsent = self.buffer.unsent();
         self.link.give_back(&unsent, why, &self.inner);
     }
 }
 
-/// Takes what a process answers.
+/// Receives the answers of a process.
 pub(super) struct OutboundReader<H: Host> {
     link: Arc<Link<H>>,
     inner: Arc<LinksInner<H>>,
@@ -75,11 +75,11 @@ impl<H: Host> OutboundReader<H> {
         }
     }
 
-    /// Reads once, and takes the outcomes that came.
+    /// Reads once, and processes the outcomes that came.
     ///
     /// # Errors
     ///
-    /// If the connection has ended, or a frame is wrong, and the reader's errors.
+    /// If the connection has ended, or a frame is malformed; and the reader's errors.
     pub(super) fn read(&mut self, reader: &mut dyn Read) -> io::Result<()> {
         if !self.buffer.fill(reader)? {
             return Err(ErrorKind::UnexpectedEof.into());
@@ -91,7 +91,7 @@ impl<H: Host> OutboundReader<H> {
         taken
     }
 
-    /// Gives up what was sent and has no outcome, for this reason, as the connection ends.
+    /// Gives up messages that were sent and have no outcome, for this reason, because the connection ends.
     pub(super) fn end(self, why: &str) {
         self.link.lose_all(why, &self.inner);
     }

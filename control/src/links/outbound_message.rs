@@ -3,17 +3,17 @@ use super::frame::Frame;
 use super::{ForwardedCommand, Host, RequestOutcome};
 use std::time::{Duration, Instant};
 
-/// How long an answer may take beyond the time for which requests wait: for a transaction that is under way there.
+/// How much longer than the waiting time of requests an answer may take, because a transaction may be under way there.
 const BEYOND: Duration = Duration::from_secs(6);
-/// How long requests that have waited already may take to be sent.
+/// How long requests that have already waited may take to be sent.
 const SOON: Duration = Duration::from_millis(100);
-/// How long a command for the control may take to be sent, before its process looks again who leads.
+/// How long a command for the control may take to be sent, before its process looks again which process leads.
 const SEND: Duration = Duration::from_secs(1);
 
-/// What another process is asked.
+/// A message to another process.
 pub(super) struct OutboundMessage<H: Host> {
     payload: Payload<H>,
-    /// When it is given up if it isn't sent.
+    /// When it is given up if it wasn't sent.
     due: Instant,
     /// When its answer is given up.
     end: Option<Instant>,
@@ -27,7 +27,7 @@ enum Payload<H: Host> {
 }
 
 impl<H: Host> OutboundMessage<H> {
-    /// Requests that wait for so long, and are to be sent now.
+    /// Makes a message of requests that wait for so long, and must be sent now.
     pub(super) fn requests(
         batch: ForwardedBatch<H>,
         wait: Duration,
@@ -40,7 +40,7 @@ impl<H: Host> OutboundMessage<H> {
         }
     }
 
-    /// A command for the control, which is to be sent now, and whose answer may take as long as it likes.
+    /// Makes a message of a command for the control, which must be sent now. Its answer may take any time.
     pub(super) fn command(command: H::Command, now: Instant) -> OutboundMessage<H> {
         let bytes = command.bytes();
         OutboundMessage {
@@ -50,7 +50,7 @@ impl<H: Host> OutboundMessage<H> {
         }
     }
 
-    /// How many bytes its frame has, about.
+    /// Returns about how many bytes its frame has.
     pub(super) fn size(&self) -> usize {
         match &self.payload {
             Payload::Requests(batch) => batch.size(),
@@ -58,16 +58,16 @@ impl<H: Host> OutboundMessage<H> {
         }
     }
 
-    /// Whether it goes into one frame.
+    /// Returns whether it fits into one frame.
     pub(super) fn fits(&self) -> bool {
         match &self.payload {
             Payload::Requests(batch) => batch.fits(),
-            // No client's command is so long.
+            // No command of a client is that long.
             Payload::Command(..) => true,
         }
     }
 
-    /// Drops the requests for which nobody waits, before any was sent. Returns whether something is left.
+    /// Drops the requests for which nobody waits. None must have been sent yet. Returns whether something is left.
     pub(super) fn keep_awaited(&mut self) -> bool {
         match &mut self.payload {
             Payload::Requests(batch) => batch.keep_awaited(),
@@ -94,18 +94,18 @@ impl<H: Host> OutboundMessage<H> {
         }
     }
 
-    /// Whether it is given up if it isn't sent.
+    /// Returns whether it must be given up if it wasn't sent.
     pub(super) fn is_due(&self, now: Instant) -> bool {
         self.due <= now
     }
 
-    /// Whether its answer is given up.
+    /// Returns whether its answer must be given up.
     pub(super) fn is_late(&self, now: Instant) -> bool {
         self.end.is_some_and(|it| it <= now)
     }
 
-    /// Takes the outcome of the request at this place. Returns itself if more outcomes are to come, and otherwise the
-    /// requests, some of which this process may have to look after again.
+    /// Takes the outcome of the request at this place. If more outcomes must come, returns the message. Otherwise
+    /// returns the requests, some of which this process may have to handle again.
     pub(super) fn take_outcome(
         mut self,
         place: u16,
@@ -127,8 +127,7 @@ impl<H: Host> OutboundMessage<H> {
         }
     }
 
-    /// Notes that it was sent, and that its outcomes won't come. Returns the requests, some of which may be asked
-    /// again.
+    /// Notes that it was sent, and that its outcomes won't come. Returns the requests, some of which may be sent again.
     pub(super) fn lost(self, why: &str) -> Option<ForwardedBatch<H>> {
         match self.payload {
             Payload::Requests(mut batch) => {
@@ -142,7 +141,7 @@ impl<H: Host> OutboundMessage<H> {
         }
     }
 
-    /// Notes that it wasn't sent. Returns the requests, all of which may be asked again.
+    /// Notes that it wasn't sent. Returns the requests, all of which may be sent again.
     pub(super) fn unsent(self, why: &str) -> Option<ForwardedBatch<H>> {
         match self.payload {
             Payload::Requests(batch) => Some(batch),

@@ -2,17 +2,17 @@ use super::links_inner::locked;
 use super::{Frame, Reason, RequestOutcome};
 use std::sync::{Condvar, Mutex};
 
-/// How many requests of a process are under way here, and how many bytes of answers wait, before it is read no further.
+/// If so many requests of a process are under way here, or so many bytes of answers wait, nothing more is read from it.
 pub(super) const MOST_REQUESTS: usize = 1 << 16;
 const MOST_BYTES: usize = 8 << 20;
 
-/// What another process is answered.
+/// The answers to another process.
 #[derive(Default)]
 pub(super) struct Outbox {
     pub(super) state: Mutex<OutboxState>,
-    /// There is something to send, or nobody is there any more.
+    /// Notified when there is something to send, or nobody is there any more.
     pub(super) told: Condvar,
-    /// There may be room for more requests.
+    /// Notified when there may be room for more requests.
     pub(super) taken: Condvar,
 }
 
@@ -26,24 +26,24 @@ pub(super) struct OutboxState {
 }
 
 impl OutboxState {
-    /// Whether there is nothing to send, and somebody to answer.
+    /// Returns whether there is nothing to send, and somebody to answer.
     pub(super) fn is_idle(&self) -> bool {
         !self.is_over && self.bytes.is_empty()
     }
 
-    /// Whether the process is read no further, and is still there.
+    /// Returns whether nothing more is read from the process, and it is still there.
     pub(super) fn is_held_up(&self) -> bool {
         !self.is_over && self.is_full()
     }
 
-    /// Whether no further requests begin.
+    /// Returns whether no further requests can begin.
     fn is_full(&self) -> bool {
         self.under_way > MOST_REQUESTS || self.bytes.len() > MOST_BYTES
     }
 }
 
 impl Outbox {
-    /// Whether the process is read no further, until something is sent.
+    /// Returns whether nothing more is read from the process until something is sent.
     pub(super) fn is_held_up(&self) -> bool {
         locked(&self.state).is_held_up()
     }
@@ -55,7 +55,7 @@ impl Outbox {
         !state.is_over
     }
 
-    /// Returns the bytes that are sent next, if there are any. Those that were taken before are sent.
+    /// Returns the bytes to send next, if there are any. Those that were taken before are sent by now.
     pub(super) fn take(&self) -> Vec<u8> {
         let mut state = locked(&self.state);
         let bytes = std::mem::take(&mut state.bytes);
@@ -65,19 +65,19 @@ impl Outbox {
         bytes
     }
 
-    /// Whether something is to be sent.
+    /// Returns whether there is something to send.
     pub(super) fn has_answers(&self) -> bool {
         !locked(&self.state).bytes.is_empty()
     }
 
-    /// Whether requests are under way, or answers wait or are being sent.
+    /// Returns whether requests are under way, or answers wait or are being sent.
     pub(super) fn is_answering(&self) -> bool {
         let state = locked(&self.state);
         let has_answers = !state.bytes.is_empty() || state.is_sending;
         !state.is_over && (state.under_way > 0 || has_answers)
     }
 
-    /// Nobody is there any more.
+    /// Notes that nobody is there any more.
     pub(super) fn end(&self) {
         locked(&self.state).is_over = true;
         self.told.notify_all();
@@ -89,10 +89,10 @@ impl Outbox {
         locked(&self.state).is_over
     }
 
-    /// Sends what became of the request at this place of the frame with this number.
+    /// Sends the outcome of the request at this place of the frame with this number.
     pub(super) fn send<R: Reason>(&self, number: u64, place: u16, outcome: RequestOutcome<'_, R>) {
         let mut state = locked(&self.state);
-        // Where something waits to be sent already, its thread was woken for that.
+        // If something waits to be sent already, its thread was woken for that.
         let (is_first, was_full) = (state.bytes.is_empty(), state.is_full());
         state.under_way = state.under_way.saturating_sub(1);
         if !state.is_over {

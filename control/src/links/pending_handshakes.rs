@@ -4,11 +4,11 @@ use std::collections::VecDeque;
 use std::fmt;
 use std::sync::{Arc, Mutex};
 
-/// How many processes are waited for.
+/// How many connections may be in their handshakes.
 pub(super) const MOST: usize = 64;
 
-/// Whoever connected, and hasn't shown yet that it is of the cluster. They have places of their own, and each that
-/// comes too many ends the one that has taken longest: so nobody keeps processes apart by saying nothing.
+/// Connections that haven't shown yet that they come from the cluster. They have their own places. If there are too
+/// many, the one that has taken longest is ended. So nobody can keep processes apart by saying nothing.
 pub struct PendingHandshakes {
     most: usize,
     state: Mutex<HandshakesState>,
@@ -18,7 +18,7 @@ pub struct PendingHandshakes {
 struct HandshakesState {
     waiting: VecDeque<(u64, Arc<dyn Closer>)>,
     last: u64,
-    /// How many there are with those that were ended, and haven't noticed yet.
+    /// How many there are, including those that were ended and haven't noticed yet.
     count: usize,
 }
 
@@ -29,13 +29,13 @@ pub struct PendingHandshake {
 }
 
 impl PendingHandshakes {
-    /// Waits for so many at once.
+    /// Makes places for so many at once.
     pub fn new(most: usize) -> PendingHandshakes {
         let state = Mutex::default();
         PendingHandshakes { most, state }
     }
 
-    /// Takes one more, whose connection this ends; none if as many that were ended haven't gone yet.
+    /// Takes one more, whose connection this ends. Returns nothing if as many were ended and haven't gone yet.
     pub fn take(self: &Arc<PendingHandshakes>, end: Arc<dyn Closer>) -> Option<PendingHandshake> {
         let mut state = locked(&self.state);
         if state.count >= 2 * self.most {
@@ -96,12 +96,12 @@ mod tests {
         let is_ended = |it: &(Option<PendingHandshake>, Arc<TestCloser>)| it.1.is_ended();
         assert!(came[..MOST].iter().all(is_ended));
         assert!(!came[MOST..].iter().any(is_ended));
-        // Those that were ended haven't gone yet.
+        // The ended ones haven't gone yet.
         assert!(come().0.is_none());
         came.drain(..MOST);
         came.push(come());
         assert!(came[MOST].0.is_some() && is_ended(&came[0]) && !is_ended(&came[1]));
-        // One that greeted left room.
+        // One that has greeted leaves room.
         came[1].0 = None;
         came.push(come());
         assert!(!is_ended(&came[1]) && !is_ended(&came[2]));

@@ -1,14 +1,14 @@
 use super::{Frame, Reason, WireFault};
 use std::io::{self, ErrorKind, Read};
 
-/// How much is read at once.
+/// How many bytes are read at once.
 const ROOM: usize = 64 << 10;
 
-/// What came on a connection and wasn't taken yet: whole frames, and the front of the next one.
+/// The bytes of a connection that came and weren't processed yet: complete frames, and the beginning of the next one.
 #[derive(Default)]
 pub(super) struct ReadBuffer {
     bytes: Vec<u8>,
-    /// How many of the bytes came, and how many of these were taken.
+    /// How many of the bytes came, and how many of these were processed.
     filled: usize,
     taken: usize,
 }
@@ -34,11 +34,11 @@ impl ReadBuffer {
         }
     }
 
-    /// Takes the next frame, if it is whole. Returns its number and itself.
+    /// Takes the next frame, if it is complete. Returns its number and the frame.
     ///
     /// # Errors
     ///
-    /// If no frame is so.
+    /// If the bytes can't be a frame.
     pub(super) fn take<R: Reason>(&mut self) -> Result<Option<(u64, Frame<'_, R>)>, WireFault> {
         let found = Frame::read(&self.bytes[self.taken..self.filled])?;
         Ok(found.map(|(number, frame, length)| {

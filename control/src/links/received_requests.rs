@@ -11,6 +11,6 @@ pub struct ReceivedRequests<'a, R> {
     pub came: Came,
     /// Since when they wait.
     pub since: Instant,
-    /// The bytes of each, and what answers it.
+    /// The bytes of each, and the sender of its answer.
     pub requests: Vec<(&'a [u8], ReplySender<R>)>,
 }

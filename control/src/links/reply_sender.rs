@@ -4,7 +4,7 @@ use std::fmt;
 use std::marker::PhantomData;
 use std::sync::Arc;
 
-/// Sends what became of one request to the process that forwarded it, once.
+/// Sends the outcome of one request to the process that forwarded it, once.
 pub struct ReplySender<R> {
     outbox: Arc<Outbox>,
     number: u64,
@@ -13,7 +13,7 @@ pub struct ReplySender<R> {
 }
 
 impl<R: Reason> ReplySender<R> {
-    /// The sender of the request at this place of the frame with this number.
+    /// Returns the sender of the request at this place of the frame with this number.
     pub(super) fn new(outbox: Arc<Outbox>, number: u64, place: u16) -> ReplySender<R> {
         ReplySender {
             outbox,
@@ -23,7 +23,7 @@ impl<R: Reason> ReplySender<R> {
         }
     }
 
-    /// Returns a sender for tests of a host, whose frames have number 0 and place 0, and what reads them.
+    /// Returns a sender for tests of a host, and the reader of its frames, which have number 0 and place 0.
     pub fn for_test() -> (ReplySender<R>, SentFrames) {
         let outbox = Arc::new(Outbox::default());
         let frames = SentFrames::of(outbox.clone());
@@ -52,7 +52,7 @@ impl<R: Reason> ReplySender<R> {
 }
 
 impl<R> Clone for ReplySender<R> {
-    /// Another sender for the same request. Only one of them may send.
+    /// Returns another sender for the same request. Only one of them may send.
     fn clone(&self) -> ReplySender<R> {
         ReplySender {
             outbox: self.outbox.clone(),

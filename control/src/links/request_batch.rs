@@ -11,16 +11,16 @@ pub struct RequestBatch<'a> {
     pub shard: u16,
     /// The server that executes it, as the sender believes.
     pub server: u16,
-    /// How they come there.
+    /// How they get there.
     pub came: Came,
-    /// For how many milliseconds they have waited.
+    /// How many milliseconds they have waited.
     pub waited: u32,
     /// The bytes of each, which only hosts read.
     pub requests: Vec<&'a [u8]>,
 }
 
 impl<'a> RequestBatch<'a> {
-    /// Returns whether requests of these sizes, in bytes, go into one frame.
+    /// Returns whether requests of these sizes, in bytes, fit into one frame.
     pub fn fits(sizes: impl Iterator<Item = usize> + Clone) -> bool {
         let size: usize = sizes.clone().map(|it| it + 4).sum();
         sizes.clone().count() <= MAX_REQUESTS
@@ -40,7 +40,7 @@ impl<'a> RequestBatch<'a> {
         self.requests.iter().for_each(|it| put_bytes(out, it));
     }
 
-    /// Reads it from what is left of a frame.
+    /// Reads it from the rest of a frame.
     pub(super) fn read(mut fields: Fields<'a>) -> Result<RequestBatch<'a>, WireFault> {
         let (shard, server) = (fields.short()?, fields.short()?);
         let came = Came {

@@ -1,10 +1,10 @@
 use super::frame::MAX_FRAME;
 use super::{Fields, Reason, WireFault, MAX_REASON};
 
-/// What became of a request, or of a command for the control.
+/// The outcome of a request, or of a command for the control.
 #[derive(Clone, Debug, PartialEq, Eq)]
 pub enum RequestOutcome<'a, R> {
-    /// The client is answered by these bytes.
+    /// The answer to the client.
     Answer(&'a [u8]),
     /// It isn't done, or nobody knows.
     NotDone(R),
@@ -18,7 +18,7 @@ impl<'a, R: Reason> RequestOutcome<'a, R> {
                 out.push(0);
                 out.extend_from_slice(bytes);
             }
-            // It was done, and can't be told: whoever asked has to look.
+            // It was done, but the answer can't be sent. The client must look.
             RequestOutcome::Answer(_) => {
                 write_reason(&R::unknown("its answer is too long".to_owned()), out);
             }
@@ -26,7 +26,7 @@ impl<'a, R: Reason> RequestOutcome<'a, R> {
         }
     }
 
-    /// Reads it from what is left of a frame.
+    /// Reads it from the rest of a frame.
     pub(super) fn read(mut fields: Fields<'a>) -> Result<RequestOutcome<'a, R>, WireFault> {
         let (code, rest) = (fields.byte()?, fields.rest());
         if code == 0 {

@@ -1,24 +1,25 @@
 use super::{ForwardedRequest, Host, Reason};
 use durkenzo_store::Revision;
 
-/// Requests of one client of which another process did nothing, in their order.
+/// Requests of one client that another process didn't do, in their order.
 pub struct ReturnedRequests<H: Host> {
-    /// Where they were sent.
+    /// The destination to which they were sent.
     pub destination: H::Destination,
     /// The requests.
     pub requests: Vec<H::Request>,
-    /// The revision of the record by which the program looks again who executes them. It may have to be read first.
+    /// The revision of the record by which the program looks again who executes them. The record may have to be read
+    /// first.
     pub revision: Revision,
 }
 
 impl<H: Host> ReturnedRequests<H> {
-    /// Tells that this process ends: if another process sent them here, that one looks again.
+    /// Tells that this process ends. If another process sent them here, that process looks again.
     pub(super) fn stop(self) {
         let requests = self.requests.into_iter();
         requests.for_each(|it| it.refuse(H::Reason::stopped()));
     }
 
-    /// Refuses them, as the process of this server can't be asked.
+    /// Refuses them, because this server's process can't be reached.
     pub(super) fn refuse(self, server: u16, why: &str) {
         let requests = self.requests.into_iter();
         requests.for_each(|it| it.refuse_unreached(server, why));

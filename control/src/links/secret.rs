@@ -3,22 +3,22 @@ use std::hint::black_box;
 use std::path::Path;
 use std::{env, fmt, fs};
 
-/// A password, or what else nobody should see: it doesn't show itself, and telling whether a guess is right takes a
-/// time that depends on the guess alone.
+/// A password, or anything else that nobody should see. It doesn't show itself, and the time of comparing it with a
+/// guess depends only on the guess.
 #[derive(Clone)]
 pub struct Secret(Box<[u8]>);
 
 impl Secret {
-    /// Returns the secret of these bytes, if there are any.
+    /// Returns the secret with these bytes, if there are any.
     pub fn of(bytes: &[u8]) -> Option<Secret> {
         (!bytes.is_empty()).then(|| Secret(bytes.into()))
     }
 
-    /// Returns the first line of the file. If no file is named, returns the variable of the environment, if it is set.
+    /// Returns the first line of the file. If no file is named, returns the environment variable, if it is set.
     ///
     /// # Errors
     ///
-    /// The file can't be read, or what is given is empty.
+    /// If the file can't be read, or the secret is empty.
     pub fn given(file: Option<&Path>, variable: &str) -> Result<Option<Secret>, SecretFault> {
         if let Some(file) = file {
             let text = fs::read(file);
@@ -39,7 +39,7 @@ impl Secret {
     ///
     /// # Errors
     ///
-    /// As of [`Secret::given`], and if it is longer than [`MAX_SECRET`] bytes.
+    /// As [`Secret::given`]; and if it is longer than [`MAX_SECRET`] bytes.
     pub fn given_for_greetings(
         file: Option<&Path>,
         variable: &str,
@@ -53,7 +53,7 @@ impl Secret {
         Ok(secret)
     }
 
-    /// Whether this is the secret.
+    /// Returns whether this is the secret.
     pub fn is(&self, guess: &[u8]) -> bool {
         let begun = u8::from(guess.len() != self.0.len());
         let pairs = guess.iter().zip(self.0.iter().cycle());
@@ -61,7 +61,7 @@ impl Secret {
         differences == 0
     }
 
-    /// Its bytes, for who has to send them.
+    /// Returns its bytes, for those who must send them.
     pub fn reveal(&self) -> &[u8] {
         &self.0
     }

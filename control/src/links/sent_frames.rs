@@ -2,19 +2,19 @@ use super::outbox::Outbox;
 use std::fmt;
 use std::sync::Arc;
 
-/// Reads the frames that a [`ReplySender`](super::ReplySender) sends, in place of the other process: for tests of a
+/// Reads the frames that a [`ReplySender`](super::ReplySender) sends, in place of the other process, for tests of a
 /// host. Once it is dropped, nobody awaits the answers.
 pub struct SentFrames(Arc<Outbox>);
 
 impl SentFrames {
-    /// Reads what the outbox sends.
+    /// Reads the frames of the outbox.
     pub(super) fn of(outbox: Arc<Outbox>) -> SentFrames {
         SentFrames(outbox)
     }
 
     /// Waits for frames, and returns their bytes.
     pub fn read(&self) -> Vec<u8> {
-        // Nobody else ends the outbox.
+        // Only this value ends the outbox.
         self.0.wait_for_answers();
         self.0.take()
     }

@@ -2,21 +2,21 @@ use super::{Admission, Identity, Secret};
 use crate::tls::PeersTls;
 use std::fmt;
 
-/// How the processes of a cluster know each other.
+/// How the processes of a cluster recognize each other.
 #[derive(Clone)]
 pub struct Terms {
-    /// Who this process is.
+    /// The identity of this process.
     pub identity: Identity,
-    /// What each of them knows, if something was configured.
+    /// The secret that each of them knows, if one was configured.
     pub secret: Option<Secret>,
-    /// How they speak TLS, if they do.
+    /// Their TLS configuration, if they use TLS.
     pub tls: Option<PeersTls>,
     /// Who else may connect.
     pub admits: Admission,
 }
 
 impl fmt::Debug for Terms {
-    /// Without the secret.
+    /// Shows everything except the secret.
     fn fmt(&self, f: &mut fmt::Formatter<'_>) -> fmt::Result {
         f.debug_struct("Terms")
             .field("identity", &self.identity)

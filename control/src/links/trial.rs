@@ -8,18 +8,18 @@ use std::sync::mpsc::{channel, Receiver, Sender};
 use std::sync::OnceLock;
 use std::time::Instant;
 
-/// The moment so many milliseconds after the beginning of all tests, by a clock that stands still.
+/// Returns the moment so many milliseconds after the beginning of all tests, by a clock that stands still.
 pub(super) fn moment(milliseconds: u64) -> Instant {
     static BEGINNING: OnceLock<Instant> = OnceLock::new();
     let beginning = BEGINNING.get_or_init(|| Clock::default().now());
     *beginning + Duration::from_millis(milliseconds)
 }
-/// What ends a connection that is none.
+/// A closer without a connection.
 #[derive(Default)]
 pub(super) struct TestCloser(AtomicBool);
 
 impl TestCloser {
-    /// Whether the connection was ended.
+    /// Returns whether the connection was ended.
     pub(super) fn is_ended(&self) -> bool {
         self.0.load(Ordering::Relaxed)
     }
@@ -31,7 +31,7 @@ impl Closer for TestCloser {
     }
 }
 
-/// The terms of server 2, with this secret.
+/// Returns the terms of server 2, with this secret.
 pub(super) fn terms(secret: &str) -> Terms {
     Terms {
         identity: Identity {
@@ -46,7 +46,7 @@ pub(super) fn terms(secret: &str) -> Terms {
     }
 }
 
-/// Links of this server's process, by a clock that tells so many milliseconds. Their host isn't there yet.
+/// Returns links of this server's process, by a clock with so many milliseconds. Their host isn't there yet.
 pub(super) fn links_of(server: u16, milliseconds: &Arc<AtomicU64>) -> Links<TestHost> {
     let addresses = Addresses::default();
     let store = Arc::new(Embedded::in_memory());
@@ -62,7 +62,7 @@ pub(super) fn links_of(server: u16, milliseconds: &Arc<AtomicU64>) -> Links<Test
     Links::without_threads(terms, member, wait, clock)
 }
 
-/// What the links of server 1 share, whose clock stands still and whose host isn't there yet.
+/// Returns the shared state of the links of server 1. Their clock stands still, and their host isn't there yet.
 pub(super) fn links() -> Arc<LinksInner<TestHost>> {
     links_of(1, &Arc::default()).inner
 }
@@ -87,7 +87,7 @@ impl Host for TestHost {
     }
 }
 
-/// A session that answers each request by its own bytes.
+/// A session that answers each request with its own bytes.
 pub(super) struct TestSession;
 
 impl PeerSession for TestSession {
@@ -189,7 +189,7 @@ pub(super) struct TestRequest {
 }
 
 impl TestRequest {
-    /// Requests of these names, and where their ends are told.
+    /// Returns requests with these names, and the receiver of their ends.
     pub(super) fn each(names: &[&'static str]) -> (Vec<TestRequest>, Receiver<String>) {
         let (tell, told) = channel();
         let requests = names.iter().map(|name| TestRequest {
@@ -249,7 +249,7 @@ impl ForwardedRequest for TestRequest {
 pub(super) struct TestCommand(Sender<String>);
 
 impl TestCommand {
-    /// A command, and where its end is told.
+    /// Returns a command, and the receiver of its end.
     pub(super) fn new() -> (TestCommand, Receiver<String>) {
         let (tell, told) = channel();
         (TestCommand(tell), told)

@@ -2,30 +2,30 @@ use super::greeting::VERSION;
 use std::error::Error;
 use std::fmt;
 
-/// Why what another process sent can't be read; the connection ends by it.
+/// Why the bytes of another process can't be read. The connection ends then.
 #[derive(Clone, Copy, Debug, PartialEq, Eq)]
 pub enum WireFault {
-    /// It doesn't begin as connections between processes do.
+    /// They aren't the beginning of a connection between processes.
     NoPeer,
-    /// It is of another version of this protocol.
+    /// They are of another version of this protocol.
     Version(u8),
-    /// It refuses this version, and speaks that one, which is older.
+    /// The other process refuses this version, and speaks that older one.
     Older(u8),
-    /// A length is greater than it may be.
+    /// A length is greater than allowed.
     TooLong,
-    /// It ends too early.
+    /// The bytes end too early.
     TooShort,
-    /// Something follows that nothing says of.
+    /// Unexpected bytes follow.
     TooMuch,
     /// There is no such kind of frame.
     Kind(u8),
     /// There is no such kind of answer.
     Answer(u8),
-    /// A byte says neither yes nor no.
+    /// A flag is neither 0 nor 1.
     Flag(u8),
     /// A text isn't UTF-8.
     Text,
-    /// The words of a command can't be read.
+    /// The words of a command are malformed.
     Words,
 }
 

@@ -1,20 +1,20 @@
 use std::io::{self, ErrorKind, Write};
 
-/// How much is written at once.
+/// How many bytes are written at once.
 const MOST: usize = 256 << 10;
 
-/// Frames that are written at once.
+/// Frames that are written together.
 #[derive(Default)]
 pub(super) struct WriteBuffer {
     bytes: Vec<u8>,
     /// How many of the bytes were written.
     written: usize,
-    /// Where each begins, with its number.
+    /// The beginning of each frame, with its number.
     begins: Vec<(usize, u64)>,
 }
 
 impl WriteBuffer {
-    /// Returns a buffer of these bytes, whose frames nobody asks for.
+    /// Returns a buffer of these bytes, whose frames have no numbers.
     pub(super) fn of(bytes: Vec<u8>) -> WriteBuffer {
         WriteBuffer {
             bytes,
@@ -22,27 +22,27 @@ impl WriteBuffer {
         }
     }
 
-    /// Adds the frame with this number, which this writes behind the others.
+    /// Adds the frame with this number behind the others. The closure writes it.
     pub(super) fn add(&mut self, number: u64, write: impl FnOnce(&mut Vec<u8>)) {
         self.begins.push((self.bytes.len(), number));
         write(&mut self.bytes);
     }
 
-    /// Whether it has as much as is written at once.
+    /// Returns whether it is full.
     pub(super) fn is_full(&self) -> bool {
         self.bytes.len() >= MOST
     }
 
-    /// Whether all of it was written.
+    /// Returns whether everything was written.
     pub(super) fn is_written(&self) -> bool {
         self.written == self.bytes.len()
     }
 
-    /// Writes what isn't written yet, as far as the writer takes it.
+    /// Writes the remaining bytes, as far as the writer takes them.
     ///
     /// # Errors
     ///
-    /// The writer's, by which it took nothing more. After `WouldBlock` the rest may be written later.
+    /// The writer's errors; then it took nothing more. After `WouldBlock` the rest may be written later.
     pub(super) fn send(&mut self, writer: &mut dyn Write) -> io::Result<()> {
         while !self.is_written() {
             match writer.write(&self.bytes[self.written..]) {
@@ -55,7 +55,7 @@ impl WriteBuffer {
         writer.flush()
     }
 
-    /// Returns the numbers of the frames of which nothing was written.
+    /// Returns the numbers of the frames whose bytes weren't written at all.
     pub(super) fn unsent(&self) -> Vec<u64> {
         let unsent = self.begins.iter().filter(|it| it.0 >= self.written);
         unsent.map(|it| it.1).collect()
@@ -66,7 +66,7 @@ impl WriteBuffer {
 mod tests {
     use super::*;
 
-    /// Takes so many bytes, and then nothing more.
+    /// A writer that takes so many bytes, and then nothing more.
     struct Narrow(usize);
 
     impl Write for Narrow {

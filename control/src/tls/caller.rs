@@ -1,8 +1,8 @@
-/// Who has connected by TLS, by its certificate.
+/// The other side of a TLS connection, by its certificate.
 #[derive(Clone, Copy, Debug, PartialEq, Eq)]
 pub enum Caller {
     /// A process: its certificate has the name of peers.
     Process,
-    /// A client, whose certificate is of the same authority.
+    /// A client, whose certificate is from the same authority.
     Client,
 }

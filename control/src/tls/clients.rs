@@ -5,7 +5,7 @@ use openssl::ssl::{Ssl, SslContext, SslMethod};
 use std::fmt;
 use std::path::Path;
 
-/// How clients are met by TLS.
+/// The TLS configuration for clients.
 #[derive(Clone)]
 pub struct ClientsTls {
     context: SslContext,
@@ -13,11 +13,12 @@ pub struct ClientsTls {
 }
 
 impl ClientsTls {
-    /// By this certificate and its key; where there is an authority, clients have to show a certificate of it.
+    /// Makes the configuration with this certificate and its key. If there is an authority, clients must show a
+    /// certificate from it.
     ///
     /// # Errors
     ///
-    /// Where a file can't be read, hasn't what it should have, or the key isn't that of the certificate.
+    /// If a file can't be read or lacks what it should have, or if the key doesn't belong to the certificate.
     pub fn new(chain: &Path, key: &Path, authority: Option<&Path>) -> Result<ClientsTls, TlsFault> {
         let identity = TlsIdentity::read(chain, key)?;
         let mut builder =
@@ -31,17 +32,17 @@ impl ClientsTls {
         })
     }
 
-    /// Whether clients have to show a certificate.
+    /// Returns whether clients must show a certificate.
     pub fn asks_clients(&self) -> bool {
         self.asks_clients
     }
 
-    /// A connection to be, before its first byte.
+    /// Returns a connection before its first byte.
     pub fn connection(&self) -> Result<TlsConnection, ErrorStack> {
         TlsConnection::accepting(&self.context)
     }
 
-    /// A connection to the page, before its first byte.
+    /// Returns a connection to the page, before its first byte.
     pub fn page(&self) -> Result<Ssl, ErrorStack> {
         Ssl::new(&self.context)
     }

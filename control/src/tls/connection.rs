@@ -8,25 +8,25 @@ use std::io::{self, ErrorKind};
 /// The most bytes that one record of TLS holds.
 const RECORD: usize = 16 << 10;
 
-/// One side of a TLS connection. It works on bytes in memory, and its owner moves them from and to a socket. So no call
-/// waits, and each call ends when the bytes that came are used up.
+/// One side of a TLS connection. It works on bytes in memory, and its owner moves them between it and a socket. So no
+/// call waits, and each call ends when the bytes that came are used up.
 pub struct TlsConnection {
     stream: SslStream<MemoryStream>,
     /// Whether records without any data came before the last bytes that were opened.
     was_in_vain: bool,
-    /// Whether nothing more can be read, because the other side has said so or a record was wrong.
+    /// Whether nothing more can be read, because the other side has announced its end or a record was malformed.
     is_over: bool,
 }
 
 impl TlsConnection {
-    /// The side that accepts.
+    /// Returns the side that accepts.
     pub(super) fn accepting(context: &SslContext) -> Result<TlsConnection, ErrorStack> {
         let mut ssl = Ssl::new(context)?;
         ssl.set_accept_state();
         TlsConnection::new(ssl)
     }
 
-    /// The side that connects, to a server of this name.
+    /// Returns the side that connects, to a server of this name.
     pub(super) fn connecting(
         context: &SslContext,
         name: &str,
@@ -55,8 +55,8 @@ impl TlsConnection {
         self.stream.get_mut().end();
     }
 
-    /// Continues the handshake with the bytes that came, and returns whether it is over. Its answer is unsent then; if
-    /// it fails, that is an alert by which the other side learns why.
+    /// Continues the handshake with the bytes that came, and returns whether it is over. Its answer is then among the
+    /// bytes to send. If it fails, the answer is an alert, which tells the other side why.
     ///
     /// # Errors
     ///
@@ -75,17 +75,18 @@ impl TlsConnection {
         }
     }
 
-    /// The certificate that the other side has shown, if any.
+    /// Returns the certificate that the other side has shown, if any.
     pub(super) fn shown(&self) -> Option<X509> {
         self.stream.ssl().peer_certificate()
     }
 
-    /// Opens data of one record at most, and returns how many bytes; 0 is the end that the other side announced.
+    /// Opens the data of at most one record, and returns how many bytes it has. 0 is the end that the other side
+    /// announced.
     ///
     /// # Errors
     ///
-    /// `WouldBlock` if more has to come first, `UnexpectedEof` if the end was not announced, and `InvalidData` if a
-    /// record is wrong or too many records have no data.
+    /// `WouldBlock` if more must come first, `UnexpectedEof` if the end was not announced, and `InvalidData` if a
+    /// record is malformed or too many records have no data.
     pub fn open(&mut self, room: &mut [u8]) -> io::Result<usize> {
         if self.is_over {
             return Ok(0);
@@ -110,17 +111,17 @@ impl TlsConnection {
         }
     }
 
-    /// Whether there is something to open, perhaps less than a record, or the end.
+    /// Returns whether there is something to open, perhaps less than a record, or the end.
     pub fn has_input(&self) -> bool {
         self.is_over || self.stream.get_ref().has_input() || self.stream.ssl().pending() > 0
     }
 
-    /// Whether records without any data came before the last bytes that were opened.
+    /// Returns whether records without any data came before the last bytes that were opened.
     pub fn was_in_vain(&self) -> bool {
         self.was_in_vain
     }
 
-    /// Seals the first of these bytes, in one record at most; returns how many.
+    /// Seals the first of these bytes, in at most one record. Returns how many.
     ///
     /// # Errors
     ///
@@ -137,7 +138,7 @@ impl TlsConnection {
         forget_errors();
     }
 
-    /// The bytes to send.
+    /// Returns the bytes to send.
     pub fn unsent(&self) -> &[u8] {
         self.stream.get_ref().unsent()
     }
@@ -155,13 +156,13 @@ impl TlsConnection {
     }
 }
 
-/// Empties OpenSSL's error queue of this thread, because OpenSSL judges the next call by it, of whichever connection. A
+/// Empties OpenSSL's error queue of this thread, because OpenSSL uses it to judge the next call, on any connection. A
 /// `ssl_read` or `ssl_write` that succeeds or wants more leaves nothing there.
 fn forget_errors() {
     drop(ErrorStack::get());
 }
 
-/// Whether more has to come first.
+/// Returns whether more must come first.
 fn is_for_want(error: &ssl::Error) -> bool {
     matches!(error.code(), ErrorCode::WANT_READ | ErrorCode::WANT_WRITE)
 }

@@ -1,4 +1,4 @@
-//! The settings that all TLS of this server has in common: only versions 1.2 and 1.3, no resumption of sessions, no
+//! The settings that all TLS connections of this server share: only versions 1.2 and 1.3, no session resumption, no
 //! renegotiation, and a bound on each chain of certificates.
 use super::pem::TlsIdentity;
 use openssl::error::ErrorStack;
@@ -20,7 +20,7 @@ const SUITES_1_3: &str =
     "TLS_AES_128_GCM_SHA256:TLS_AES_256_GCM_SHA384:TLS_CHACHA20_POLY1305_SHA256";
 const GROUPS: &str = "X25519:P-256:P-384";
 
-/// A side that shows this identity. It doesn't ask the other side for a certificate yet.
+/// Returns a side that shows this identity. It doesn't ask the other side for a certificate yet.
 pub(super) fn builder(
     method: SslMethod,
     identity: &TlsIdentity,

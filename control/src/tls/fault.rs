@@ -3,7 +3,7 @@ use std::fmt;
 use std::io;
 use std::path::PathBuf;
 
-/// Why files give no TLS, each with the file.
+/// Why TLS can't be configured from the files. Each fault names the file.
 #[derive(Debug)]
 pub enum TlsFault {
     /// The file can't be read, or isn't PEM.
@@ -12,7 +12,7 @@ pub enum TlsFault {
     NoCertificate(PathBuf),
     /// It has no key.
     NoKey(PathBuf),
-    /// What it has isn't taken, with why.
+    /// Its content isn't accepted, for this reason.
     NotTaken(PathBuf, String),
 }
 

@@ -8,8 +8,8 @@ use std::net::TcpStream;
 use std::path::Path;
 use std::time::Duration;
 
-/// How the processes of a fleet and its clients meet by TLS, at one port: either side shows a certificate of the
-/// fleet's authority. A process's has the name of peers, for which who connects looks.
+/// The TLS configuration of a fleet's processes and its clients, at one port: either side shows a certificate from the
+/// fleet's authority. A process's certificate has the name of peers, which the caller checks.
 #[derive(Clone)]
 pub struct FleetTls {
     as_client: SslContext,
@@ -18,11 +18,11 @@ pub struct FleetTls {
 }
 
 impl FleetTls {
-    /// By this authority, and this certificate of it with its key.
+    /// Makes the configuration with this authority, and this certificate from it with its key.
     ///
     /// # Errors
     ///
-    /// A file can't be read or hasn't what it should have, or the key isn't the certificate's.
+    /// If a file can't be read or lacks what it should have, or if the key doesn't belong to the certificate.
     pub fn new(authority: &Path, chain: &Path, key: &Path) -> Result<FleetTls, TlsFault> {
         let identity = TlsIdentity::read(chain, key)?;
         let trusted = certificates(authority)?;
@@ -35,7 +35,7 @@ impl FleetTls {
         })
     }
 
-    /// Whether its certificate is a process's, by the name of peers.
+    /// Returns whether its certificate is a process's, by the name of peers.
     pub fn is_process(&self) -> bool {
         self.is_process
     }
@@ -44,12 +44,13 @@ impl FleetTls {
     ///
     /// # Errors
     ///
-    /// OpenSSL has no memory for it.
+    /// If OpenSSL has no memory for it.
     pub fn connection(&self) -> io::Result<TlsConnection> {
         TlsConnection::connecting(&self.as_client, PEER_NAME).map_err(io::Error::other)
     }
 
-    /// Meets the process that was connected to, in this time in all. Returns what reads from it and what writes to it.
+    /// Does the handshake with the process to which it connected, within this time in all. Returns the reader and the
+    /// writer.
     ///
     /// # Errors
     ///
@@ -64,7 +65,8 @@ impl FleetTls {
         caller.as_process().map(|()| halves)
     }
 
-    /// Meets whoever was accepted; else as [`connect`](FleetTls::connect). Returns who it is, too.
+    /// Does the handshake with whoever was accepted; otherwise as [`connect`](FleetTls::connect). Returns who it is,
+    /// too.
     ///
     /// # Errors
     ///

@@ -6,7 +6,7 @@ use std::time::{Duration, Instant};
 /// How many bytes are taken from the socket at once.
 const ROOM: usize = 4 << 10;
 
-/// A socket of which each call ends by a deadline, so that a peer that sends byte by byte holds nobody up.
+/// A socket each of whose calls ends by a deadline, so that a peer that sends byte by byte delays nobody.
 struct Hurried<'a> {
     socket: &'a TcpStream,
     deadline: Instant,
@@ -27,7 +27,7 @@ impl Read for Hurried<'_> {
         loop {
             self.socket.set_read_timeout(Some(self.left()?))?;
             match self.socket.read(buffer) {
-                // The process was stopped, and goes on.
+                // This process was stopped, and goes on.
                 Err(error) if error.kind() == ErrorKind::Interrupted => {}
                 found => return found,
             }

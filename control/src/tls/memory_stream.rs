@@ -30,7 +30,7 @@ pub(super) struct MemoryStream {
 }
 
 impl MemoryStream {
-    /// For a new connection. Its handshake may have as many records as fit into the bytes that it may have.
+    /// Makes the stream of a new connection. Its handshake may have as many records as fit into its bytes.
     pub(super) fn new() -> MemoryStream {
         MemoryStream {
             came: Vec::new(),
@@ -49,17 +49,17 @@ impl MemoryStream {
         self.came.extend_from_slice(bytes);
     }
 
-    /// Notes that no more come.
+    /// Notes that no more bytes come.
     pub(super) fn end(&mut self) {
         self.has_ended = true;
     }
 
-    /// Whether there is something to take, or the end.
+    /// Returns whether there is something to take, or the end.
     pub(super) fn has_input(&self) -> bool {
         self.taken < self.came.len() || self.has_ended
     }
 
-    /// Whether OpenSSL asked for more after the end.
+    /// Returns whether OpenSSL asked for more after the end.
     pub(super) fn is_short(&self) -> bool {
         self.is_short
     }

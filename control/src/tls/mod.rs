@@ -1,5 +1,5 @@
-//! TLS: towards clients, between the processes of a cluster, and in a fleet. Each side shows a certificate from files
-//! in PEM.
+//! TLS: with clients, between the processes of a cluster, and in a fleet. Each side shows a certificate from files in
+//! PEM.
 mod caller;
 mod clients;
 mod connection;

@@ -13,11 +13,11 @@ use std::path::Path;
 use std::sync::Arc;
 use std::time::Duration;
 
-/// The name that each peer's certificate has, wherever it runs: by it a peer is told from a client whose certificate is
-/// of the same authority.
+/// The name in each peer's certificate, on any machine. It distinguishes a peer from a client whose certificate is from
+/// the same authority.
 pub const PEER_NAME: &str = "peer.durkenzo";
 
-/// How the processes of a cluster meet each other by TLS: either side shows a certificate of the cluster's authority,
+/// The TLS configuration of the processes of a cluster: either side shows a certificate from the cluster's authority,
 /// which has the name of peers.
 #[derive(Clone)]
 pub struct PeersTls {
@@ -26,12 +26,12 @@ pub struct PeersTls {
 }
 
 impl PeersTls {
-    /// By this authority, and this certificate of it with its key.
+    /// Makes the configuration with this authority, and this certificate from it with its key.
     ///
     /// # Errors
     ///
-    /// Where a file can't be read or hasn't what it should have, the certificate hasn't the name of peers, or the key
-    /// isn't its key.
+    /// If a file can't be read or lacks what it should have, if the certificate doesn't have the name of peers, or if
+    /// the key doesn't belong to it.
     pub fn new(authority: &Path, chain: &Path, key: &Path) -> Result<PeersTls, TlsFault> {
         let identity = TlsIdentity::read(chain, key)?;
         if !is_peer(identity.leaf()) {
@@ -49,12 +49,13 @@ impl PeersTls {
         })
     }
 
-    /// Meets a peer that was connected to, in this time in all, and returns what reads from it and what writes to it.
+    /// Does the handshake with the peer to which it connected, within this time in all. Returns the reader and the
+    /// writer.
     ///
     /// # Errors
     ///
-    /// `TimedOut` or `WouldBlock` where it takes longer, `InvalidData` where the other side isn't a peer, and those of
-    /// the socket.
+    /// `TimedOut` or `WouldBlock` if it takes longer, `InvalidData` if the other side isn't a peer; and the socket's
+    /// errors.
     pub fn connect(
         &self,
         socket: TcpStream,
@@ -64,7 +65,7 @@ impl PeersTls {
         peer(connection.map_err(io::Error::other)?, socket, within)
     }
 
-    /// Meets a peer that was accepted; else as [`connect`](PeersTls::connect).
+    /// Does the handshake with a peer that was accepted; otherwise as [`connect`](PeersTls::connect).
     ///
     /// # Errors
     ///
@@ -75,7 +76,7 @@ impl PeersTls {
     }
 }
 
-/// The settings of one side. The other side must show a certificate of who is trusted.
+/// Returns the settings of one side. The other side must show a certificate from a trusted authority.
 pub(super) fn side(
     method: SslMethod,
     identity: &TlsIdentity,
@@ -86,7 +87,7 @@ pub(super) fn side(
     Ok(builder)
 }
 
-/// Has the other side's certificate have the name of peers.
+/// Requires the name of peers in the other side's certificate.
 pub(super) fn named(mut builder: SslContextBuilder) -> Result<SslContextBuilder, ErrorStack> {
     let asked = builder.verify_param_mut();
     asked.set_hostflags(X509CheckFlags::NO_WILDCARDS | X509CheckFlags::NEVER_CHECK_SUBJECT);
@@ -94,7 +95,7 @@ pub(super) fn named(mut builder: SslContextBuilder) -> Result<SslContextBuilder,
     Ok(builder)
 }
 
-/// Whether the certificate has the name of peers.
+/// Returns whether the certificate has the name of peers.
 pub(super) fn is_peer(certificate: &X509Ref) -> bool {
     let names = certificate.subject_alt_names();
     let mut names = names.iter().flatten().filter_map(|it| it.dnsname());
@@ -103,14 +104,14 @@ pub(super) fn is_peer(certificate: &X509Ref) -> bool {
 
 type Halves = (ReadHalf, WriteHalf);
 
-/// Meets a peer.
+/// Does the handshake with a peer.
 fn peer(connection: TlsConnection, socket: TcpStream, within: Duration) -> io::Result<Halves> {
     let (caller, halves) = met(connection, socket, within)?;
     // OpenSSL has checked the name already. We check it again because only the name tells a peer from a client.
     caller.as_process().map(|()| halves)
 }
 
-/// Meets the other side, which shows a certificate. Returns who it is by that.
+/// Does the handshake with the other side, which shows a certificate. Returns who it is by that.
 pub(super) fn met(
     mut connection: TlsConnection,
     socket: TcpStream,
@@ -128,7 +129,7 @@ pub(super) fn met(
 }
 
 impl TlsConnection {
-    /// Returns who the other side is, by the certificate that it has shown, once the handshake is over.
+    /// Returns who the other side is, by its certificate, once the handshake is over.
     pub fn caller(&self) -> Caller {
         match self.shown().is_some_and(|it| is_peer(&it)) {
             true => Caller::Process,
@@ -138,7 +139,7 @@ impl TlsConnection {
 }
 
 impl Caller {
-    /// Says that it isn't a process, if it isn't.
+    /// Fails if it isn't a process.
     ///
     /// # Errors
     ///

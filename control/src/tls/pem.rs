@@ -1,4 +1,4 @@
-//! What files in PEM have.
+//! The contents of files in PEM.
 use super::TlsFault;
 use openssl::error::ErrorStack;
 use openssl::pkey::{PKey, Private};
@@ -7,7 +7,7 @@ use openssl::x509::{X509Ref, X509};
 use std::fs;
 use std::path::Path;
 
-/// What the first line of a key of any kind contains.
+/// The first line of a key of any kind contains this.
 const KEY: &str = "PRIVATE KEY-----";
 
 /// A certificate, its chain and its key.
@@ -37,7 +37,7 @@ impl TlsIdentity {
         &self.leaf
     }
 
-    /// Has this side show the certificate, if the key belongs to it.
+    /// Makes this side show the certificate, if the key belongs to it.
     pub(super) fn show(&self, builder: &mut SslContextBuilder) -> Result<(), ErrorStack> {
         builder.set_certificate(&self.leaf)?;
         for issuer in &self.issuers {
@@ -52,7 +52,7 @@ fn read(file: &Path) -> Result<Vec<u8>, TlsFault> {
     fs::read(file).map_err(|error| TlsFault::Unreadable(file.to_owned(), error))
 }
 
-/// The certificates of the file, of which there has to be one.
+/// Returns the certificates of the file. There must be at least one.
 pub(super) fn certificates(file: &Path) -> Result<Vec<X509>, TlsFault> {
     let found = X509::stack_from_pem(&read(file)?).map_err(not_taken(file))?;
     match found.is_empty() {
@@ -61,7 +61,7 @@ pub(super) fn certificates(file: &Path) -> Result<Vec<X509>, TlsFault> {
     }
 }
 
-/// The first key of the file. A key with a password is refused.
+/// Returns the first key of the file. A key with a password is refused.
 fn private_key(file: &Path) -> Result<PKey<Private>, TlsFault> {
     let bytes = read(file)?;
     if !String::from_utf8_lossy(&bytes).contains(KEY) {
@@ -71,7 +71,7 @@ fn private_key(file: &Path) -> Result<PKey<Private>, TlsFault> {
     PKey::private_key_from_pem_callback(&bytes, |_| Ok(0)).map_err(not_taken(file))
 }
 
-/// The fault of a file that OpenSSL refuses.
+/// Returns the fault of a file that OpenSSL refuses.
 pub(super) fn not_taken(file: &Path) -> impl Fn(ErrorStack) -> TlsFault + '_ {
     |error| TlsFault::NotTaken(file.to_owned(), error.to_string())
 }

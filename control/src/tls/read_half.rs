@@ -7,14 +7,14 @@ use std::time::{Duration, Instant};
 /// How many bytes are taken from the socket at once.
 const ROOM: usize = 16 << 10;
 
-/// What reads a peer's bytes, on a thread of its own if it likes.
+/// Reads a peer's bytes. It may have its own thread.
 #[derive(Debug)]
 pub struct ReadHalf {
     socket: TcpStream,
     tls: Option<Received>,
 }
 
-/// What came by TLS.
+/// The bytes that came by TLS.
 #[derive(Debug)]
 struct Received {
     shared: Arc<SharedConnection>,
@@ -22,7 +22,7 @@ struct Received {
 }
 
 impl ReadHalf {
-    /// That of a connection without TLS.
+    /// Makes the reader of a connection without TLS.
     pub fn plain(socket: TcpStream) -> ReadHalf {
         ReadHalf { socket, tls: None }
     }
@@ -35,17 +35,18 @@ impl ReadHalf {
         ReadHalf { socket, tls }
     }
 
-    /// Has a read end by `WouldBlock` or `TimedOut` after so long in which nothing came; none is never.
+    /// Makes a read end with `WouldBlock` or `TimedOut` after so long in which nothing came. Without a time, it never
+    /// does.
     ///
     /// # Errors
     ///
-    /// Where the system refuses that, as a time of zero.
+    /// If the system refuses that, for instance a time of zero.
     pub fn set_timeout(&self, most: Option<Duration>) -> io::Result<()> {
         self.socket.set_read_timeout(most)
     }
 
-    /// Reads as [`Read::read`] does, but takes nothing from the socket after this time. By TLS one read may take many
-    /// pieces of a record from the socket, and the time of [`ReadHalf::set_timeout`] is for each of them.
+    /// Reads as [`Read::read`] does, but takes nothing from the socket after this time. With TLS, one read may take
+    /// many pieces of a record from the socket, and the time of [`ReadHalf::set_timeout`] applies to each of them.
     ///
     /// # Errors
     ///
@@ -62,7 +63,7 @@ impl ReadHalf {
             };
         };
         loop {
-            // If OpenSSL has to answer something, the answer waits until the other half writes.
+            // If OpenSSL must answer something, the answer waits until the other half writes.
             match tls.shared.lock().open(bytes) {
                 Err(error) if error.kind() == ErrorKind::WouldBlock => {}
                 opened => return opened,
@@ -79,20 +80,20 @@ impl ReadHalf {
         }
     }
 
-    /// Ends the connection both ways, so that the other half notices too.
+    /// Ends the connection in both directions, so that the other half notices, too.
     pub fn end(&self) {
-        // Where the peer was quicker it is done already.
+        // If the peer was faster, it is done already.
         let _ = self.socket.shutdown(Shutdown::Both);
     }
 }
 
 impl Read for ReadHalf {
-    /// The next bytes; 0 is the end that the peer told.
+    /// Returns the next bytes. 0 is the end that the peer announced.
     ///
     /// # Errors
     ///
-    /// `UnexpectedEof` where a connection by TLS ends untold, `InvalidData` where bytes aren't the peer's, and those of
-    /// the socket.
+    /// `UnexpectedEof` if a TLS connection ends unannounced, `InvalidData` if bytes aren't the peer's; and the socket's
+    /// errors.
     fn read(&mut self, bytes: &mut [u8]) -> io::Result<usize> {
         self.read_while(bytes, || true)
     }

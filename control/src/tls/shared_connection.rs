@@ -1,8 +1,8 @@
 use super::TlsConnection;
 use std::sync::{Mutex, MutexGuard, PoisonError};
 
-/// What both halves of a connection share. The lock is held while bytes are made out of bytes, and never while a socket
-/// waits: so neither half waits for the peer because of the other one.
+/// The state that both halves of a connection share. The lock is held while bytes are sealed or opened, and never
+/// during a wait for a socket. So neither half waits for the peer because of the other one.
 #[derive(Debug)]
 pub(super) struct SharedConnection(Mutex<TlsConnection>);
 

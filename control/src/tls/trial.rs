@@ -1,4 +1,4 @@
-//! Certificates for tests, and whole connections.
+//! Certificates for tests, and complete connections.
 use super::memory_stream::MemoryStream;
 use super::pem::{certificates, TlsIdentity};
 use super::*;
@@ -17,7 +17,7 @@ const KEY: &str = "-newkey ec -pkeyopt ec_paramgen_curve:P-256 -nodes";
 /// An alert that closes a connection.
 const CLOSE_NOTIFY: [u8; 7] = [0x15, 3, 3, 0, 2, 1, 0];
 
-/// A folder with authorities and certificates of them, which goes with the test.
+/// A folder with authorities and certificates from them. It is removed after the test.
 struct Folder(PathBuf);
 
 impl Drop for Folder {
@@ -27,7 +27,7 @@ impl Drop for Folder {
 }
 
 impl Folder {
-    /// None where there is no openssl.
+    /// Makes the folder; returns nothing if there is no openssl.
     fn made(name: &str) -> Option<Folder> {
         Command::new("openssl").arg("version").output().ok()?;
         let folder = env::temp_dir().join(format!("durkenzo-{name}-{}", process::id()));
@@ -53,7 +53,7 @@ impl Folder {
         );
     }
 
-    /// An authority, and a certificate of it for these names.
+    /// Makes an authority, and a certificate from it for these names.
     fn certify(&self, authority: &str, name: &str, names: &str) {
         if !self.at(&format!("{authority}.pem")).exists() {
             let out = format!("-keyout {authority}.key -out {authority}.pem");
@@ -63,7 +63,7 @@ impl Folder {
         self.certify_with(authority, name, &names, "");
     }
 
-    /// A certificate of this authority with these extensions, made as these words say.
+    /// Makes a certificate from this authority with these extensions, with these arguments.
     fn certify_with(&self, authority: &str, name: &str, extensions: &str, words: &str) {
         let out = format!("-keyout {name}.key -out {name}.csr");
         self.openssl(&format!("req {KEY} {out} -subj /CN={name}"));
@@ -73,7 +73,7 @@ impl Folder {
         self.openssl(&format!("x509 -req {by} {made}"));
     }
 
-    /// A chain of `cluster` with so many authorities between it and a certificate of peers, all in one file.
+    /// Returns a chain of `cluster` with so many authorities between it and a certificate of peers, all in one file.
     fn certify_below(&self, between: usize) -> String {
         let authority = |at: usize| match at {
             0 => "cluster".to_owned(),
@@ -97,7 +97,7 @@ impl Folder {
         name
     }
 
-    /// What is a client of this authority, and no peer.
+    /// Returns the settings of a client of this authority, which isn't a peer.
     fn client(&self, authority: &str, name: &str) -> SslContextBuilder {
         let file = |it: &str, kind: &str| self.at(&format!("{it}.{kind}"));
         let identity = TlsIdentity::read(&file(name, "pem"), &file(name, "key")).unwrap();
@@ -125,7 +125,7 @@ fn sockets() -> (TcpStream, TcpStream) {
 
 type Halves = (ReadHalf, WriteHalf);
 
-/// Both sides of a connection, or why there is none.
+/// Returns both sides of a connection, or why there is none.
 fn met(one: &PeersTls, two: &PeersTls) -> (std::io::Result<Halves>, std::io::Result<Halves>) {
     let (left, right) = sockets();
     thread::scope(|scope| {
@@ -154,7 +154,7 @@ fn receive(read: &mut ReadHalf, seed: usize) {
     assert!(all.iter().enumerate().all(|(at, it)| *it == byte(at, seed)));
 }
 
-/// Much goes both ways at once, each half on a thread of its own.
+/// Sends much in both directions at the same time, each half on its own thread.
 fn converse(one: Halves, two: Halves) {
     thread::scope(|scope| {
         for (seed, (mut read, mut write)) in [one, two].into_iter().enumerate() {
@@ -205,7 +205,7 @@ fn who_is_no_peer_is_not_met() {
     ));
     let stranger = folder.peers("others", "stranger").unwrap();
     for (connected, accepted) in [met(&one, &stranger), met(&stranger, &one)] {
-        // In TLS 1.3 who connects hears of a refusal by its first read.
+        // In TLS 1.3 the caller learns of a refusal only in its first read.
         let heard = connected.and_then(|(mut read, _write)| read.read(&mut [0; 9]));
         assert!(heard.is_err() && accepted.is_err());
     }
@@ -228,7 +228,7 @@ fn a_client_of_the_same_authority_is_no_peer() {
     assert_eq!(refused.kind(), ErrorKind::InvalidData, "{refused}");
 }
 
-/// Whether these two meet.
+/// Returns whether these two can connect.
 fn do_meet(one: &PeersTls, two: &PeersTls) -> bool {
     let (connected, accepted) = met(one, two);
     accepted.is_ok() && connected.is_ok()
@@ -309,7 +309,7 @@ fn an_alert_in_place_of_a_handshake_ends_it() {
         let one = folder.peers("cluster", "one").unwrap();
         let (mut left, right) = sockets();
         left.write_all(&begun).unwrap();
-        // It doesn't wait for the socket's end, nor for its deadline.
+        // It waits neither for the socket's end nor for its deadline.
         let refused = one.accept(right, WITHIN).map(drop).unwrap_err();
         assert_eq!(refused.kind(), ErrorKind::InvalidData, "{refused}");
     }
@@ -324,7 +324,7 @@ fn a_handshake_has_a_bound_of_bytes() {
     let (chain, key) = (folder.at("one.pem"), folder.at("one.key"));
     let met = ClientsTls::new(&chain, &key, None).unwrap();
     let mut connection = met.connection().unwrap();
-    // The first message of a handshake, of 128 KiB, in records of one byte.
+    // It sends the first message of a handshake, of 128 KiB, in records of one byte.
     let mut sent = 0;
     let told = (0..128 << 10).find_map(|at| {
         let byte = [1, 2, 0, 0].get(at).copied().unwrap_or(0);
@@ -347,7 +347,7 @@ fn records_in_vain_have_a_bound() {
     }
     assert_eq!(count, 16);
     assert!(memory.note_use() && memory.read(&mut room).is_ok() && !memory.note_use());
-    // Nor is more kept than an other side can read.
+    // No more is kept than another side can read, either.
     while memory.write(&[0; 10_000]).is_ok() {}
     assert!((256 << 10..300 << 10).contains(&memory.unsent().len()));
     memory.note_sent(memory.unsent().len());
@@ -378,7 +378,7 @@ fn who_stalls_or_breaks_off_is_found_out() {
         matches!(kind, ErrorKind::WouldBlock | ErrorKind::TimedOut),
         "{kind:?}"
     );
-    // An end by the socket alone isn't the peer's word.
+    // An end of the socket alone isn't announced by the peer.
     read.set_timeout(None).unwrap();
     other.end();
     assert_eq!(
@@ -418,7 +418,7 @@ fn a_read_has_a_time_in_all_however_slowly_a_record_comes() {
     });
 }
 
-/// What a call gives in the end that fails where the process is stopped meanwhile, and goes on.
+/// Repeats a call that fails because the process was stopped meanwhile and goes on. Returns its final result.
 fn uninterrupted<T>(mut call: impl FnMut() -> std::io::Result<T>) -> std::io::Result<T> {
     loop {
         match call() {
@@ -428,7 +428,7 @@ fn uninterrupted<T>(mut call: impl FnMut() -> std::io::Result<T>) -> std::io::Re
     }
 }
 
-/// Writes until the peer, which reads nothing, has no more room; returns how many bytes were sent.
+/// Writes until the peer, which reads nothing, has no more room. Returns how many bytes were sent.
 fn fill(write: &mut impl Write) -> usize {
     let (all, mut sent) = (vec![7; 100_000], 0);
     loop {

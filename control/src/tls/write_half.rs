@@ -4,24 +4,24 @@ use std::net::{Shutdown, TcpStream};
 use std::sync::Arc;
 use std::time::Duration;
 
-/// How long the end may take to tell.
+/// How long the announcement of the end may take.
 const LAST: Duration = Duration::from_millis(10);
 
-/// What sends bytes to a peer, on a thread of its own if it likes. Bytes are sent by the time that `write` returns, so
-/// who sends much puts a buffer before it; and of those by which it fails the peer reads none. Once it is dropped the
-/// peer is told the end.
+/// Sends bytes to a peer. It may have its own thread. Bytes are sent by the time that `write` returns, so a caller that
+/// sends much should put a buffer before it. If `write` fails, the peer reads none of its bytes. When it is dropped, it
+/// announces the end to the peer.
 #[derive(Debug)]
 pub struct WriteHalf {
     socket: TcpStream,
     tls: Option<Arc<SharedConnection>>,
-    /// Bytes of TLS that are on their way.
+    /// Bytes of TLS on their way.
     sealed: Vec<u8>,
-    /// Whether some of them may be missing, so that whatever follows can't be read.
+    /// Whether some of them may be missing. Then the peer can't read anything that follows.
     is_broken: bool,
 }
 
 impl WriteHalf {
-    /// That of a connection without TLS.
+    /// Makes the writer of a connection without TLS.
     pub fn plain(socket: TcpStream) -> WriteHalf {
         WriteHalf::of(socket, None)
     }
@@ -40,24 +40,24 @@ impl WriteHalf {
         }
     }
 
-    /// Has a write end by `WouldBlock` or `TimedOut` after so long in which the peer took nothing; none is never. After
-    /// that the connection is of no use any more.
+    /// Makes a write end with `WouldBlock` or `TimedOut` after so long in which the peer took nothing. Without a time,
+    /// it never does. After that the connection is useless.
     ///
     /// # Errors
     ///
-    /// Where the system refuses that, as a time of zero.
+    /// If the system refuses that, for instance a time of zero.
     pub fn set_timeout(&self, most: Option<Duration>) -> io::Result<()> {
         self.socket.set_write_timeout(most)
     }
 
-    /// Ends the connection both ways, so that the other half notices too.
+    /// Ends the connection in both directions, so that the other half notices, too.
     pub fn end(&self) {
-        // Where the peer was quicker it is done already.
+        // If the peer was faster, it is done already.
         let _ = self.socket.shutdown(Shutdown::Both);
     }
 
-    /// Seals the first of these bytes, in one record at most, behind what the connection itself has to say; returns how
-    /// many. The record is the last thing: where the socket doesn't take all, the peer can't open it.
+    /// Seals the first of these bytes, in at most one record, behind the bytes that the connection itself must send.
+    /// Returns how many. The record is the last thing: if the socket doesn't take all of it, the peer can't open it.
     fn seal(&mut self, shared: &SharedConnection, bytes: &[u8]) -> io::Result<usize> {
         self.sealed.clear();
         let mut connection = shared.lock();
@@ -67,7 +67,7 @@ impl WriteHalf {
         Ok(count)
     }
 
-    /// Sends what is sealed. Nothing is sent behind bytes of which some are missing.
+    /// Sends the sealed bytes. If some bytes are missing, nothing is sent behind them.
     fn send(&mut self) -> io::Result<()> {
         if self.is_broken {
             return Err(ErrorKind::BrokenPipe.into());
@@ -79,11 +79,11 @@ impl WriteHalf {
 }
 
 impl Write for WriteHalf {
-    /// Sends these bytes, or the first of them; returns how many.
+    /// Sends these bytes, or the first of them. Returns how many.
     ///
     /// # Errors
     ///
-    /// Those of the socket; the peer reads none of these bytes then, and the connection is of no use any more.
+    /// The socket's errors. Then the peer reads none of these bytes, and the connection is useless.
     fn write(&mut self, bytes: &[u8]) -> io::Result<usize> {
         let Some(shared) = self.tls.clone() else {
             return self.socket.write(bytes);
@@ -104,7 +104,7 @@ impl Drop for WriteHalf {
     fn drop(&mut self) {
         if let Some(shared) = self.tls.take() {
             shared.lock().close();
-            // A peer that takes no bytes isn't waited for: it finds out by the socket's end.
+            // It doesn't wait for a peer that takes no bytes: the socket's end tells that peer.
             if self.socket.set_write_timeout(Some(LAST)).is_ok() {
                 let _ = self.seal(&shared, &[]).and_then(|_| self.send());
             }

@@ -1,24 +1,24 @@
-//! How a process reaches another one, and is reached: the only two places that make connections between them.
+//! How a process connects to another one, and accepts it. Only these two functions make connections between processes.
 use super::super::{Closer, Identity, Terms, PATIENCE};
 use super::keep_alive::keep_alive;
-use super::meeting::Meeting;
 use super::socket_closer::SocketCloser;
+use super::socket_handshake::SocketHandshake;
 use crate::tls::{PeersTls, ReadHalf, WriteHalf};
 use std::io::{self, Read, Write};
 use std::net::{TcpStream, ToSocketAddrs};
 use std::sync::Arc;
 use std::time::{Duration, Instant};
 
-/// A connection to another process, in its two directions, of which each has a thread.
+/// A connection to another process, in two directions, each of which has a thread.
 pub(super) struct Channel {
     pub(super) reader: Box<dyn Read + Send>,
     pub(super) writer: Box<dyn Write + Send>,
     closer: Arc<SocketCloser>,
-    /// When both sides have to know each other.
+    /// When both sides must know each other.
     deadline: Instant,
 }
 
-/// Reaches the process at this address.
+/// Connects to the process at this address.
 pub(super) fn connect(terms: &Terms, address: &str) -> io::Result<Channel> {
     let mut last = io::Error::other("it is no address");
     for place in address.to_socket_addrs()? {
@@ -30,12 +30,12 @@ pub(super) fn connect(terms: &Terms, address: &str) -> io::Result<Channel> {
     Err(last)
 }
 
-/// Is reached by a process, or whoever else connects.
+/// Accepts a process, or whoever else connects.
 pub(super) fn accept(terms: &Terms, stream: TcpStream) -> io::Result<Channel> {
     met(stream, terms, PeersTls::accept)
 }
 
-/// How TLS is begun on either side.
+/// How TLS begins on either side.
 type TlsStart = fn(&PeersTls, TcpStream, Duration) -> io::Result<(ReadHalf, WriteHalf)>;
 
 fn met(stream: TcpStream, terms: &Terms, begin: TlsStart) -> io::Result<Channel> {
@@ -61,33 +61,34 @@ fn met(stream: TcpStream, terms: &Terms, begin: TlsStart) -> io::Result<Channel>
 }
 
 impl Channel {
-    /// Returns what ends it.
+    /// Returns its closer.
     pub(super) fn closer(&self) -> Arc<dyn Closer> {
         self.closer.clone()
     }
 
-    /// Greets the process that was reached, which is to run this server, in this version. Returns who it is.
+    /// Greets the process that was reached, in this version. It must run this server. Returns its identity.
     pub(super) fn greet(
         &mut self,
         terms: &Terms,
         server: u16,
         version: u8,
     ) -> io::Result<Identity> {
-        self.meeting().greet(terms, server, version)
+        self.handshake().greet(terms, server, version)
     }
 
-    /// Welcomes the process that connected, if there is a place for it, or says why not. Returns who it is, and that.
+    /// Welcomes the process that has connected, if there is a place for it, or tells it why not. Returns its identity
+    /// and its place.
     pub(super) fn welcome<T>(
         &mut self,
         terms: &Terms,
         place: impl Fn() -> Option<T>,
     ) -> io::Result<(Identity, T)> {
-        self.meeting().welcome(terms, place)
+        self.handshake().welcome(terms, place)
     }
 
-    fn meeting(&mut self) -> Meeting<'_> {
+    fn handshake(&mut self) -> SocketHandshake<'_> {
         let halves: (&mut dyn Read, &mut dyn Write) = (&mut self.reader, &mut self.writer);
-        Meeting::new(halves, self.closer.socket(), self.deadline)
+        SocketHandshake::new(halves, self.closer.socket(), self.deadline)
     }
 }
 
@@ -98,7 +99,7 @@ mod tests {
     use std::net::TcpListener;
     use std::thread;
 
-    /// A connection: whoever connected, and how it is met.
+    /// Returns a connection: the client's socket, and the accepted channel.
     fn met(terms: &Terms) -> (TcpStream, Channel) {
         let listener = TcpListener::bind("127.0.0.1:0").unwrap();
         let client = TcpStream::connect(listener.local_addr().unwrap()).unwrap();

@@ -1,4 +1,4 @@
-//! The threads of a connection of a process that connected to this one.
+//! The threads of an incoming connection of a process.
 use super::super::connection_slot::ConnectionSlot;
 use super::super::inbound::{InboundReader, InboundState, InboundWriter};
 use super::super::links_inner::LinksInner;
@@ -10,15 +10,16 @@ use std::net::TcpStream;
 use std::sync::Arc;
 use std::thread;
 
-/// Welcomes a process that connected, and answers it until its connection ends.
+/// Welcomes a process that has connected, and answers it until its connection ends.
 pub(super) fn answer_process<H: Host>(
     inner: Arc<LinksInner<H>>,
     stream: TcpStream,
     handshake: PendingHandshake,
 ) -> io::Result<()> {
-    let mut channel = accept(&inner.terms, stream)?;
+    let terms = inner.terms();
+    let mut channel = accept(&terms, stream)?;
     let slot = || ConnectionSlot::take(&inner);
-    let (peer, slot) = channel.welcome(&inner.terms, slot)?;
+    let (peer, slot) = channel.welcome(&terms, slot)?;
     drop(handshake);
     let closer = channel.closer();
     let (mut inbound, answers) = InboundReader::new(inner, peer, slot, &closer)?;
@@ -33,12 +34,12 @@ pub(super) fn answer_process<H: Host>(
     let ended = read_all(&mut inbound, &mut *reader);
     closer.end();
     inbound.outbox().end();
-    // A thread that panicked has said so.
+    // A thread that panicked has logged that.
     let _ = writing.join();
     ended
 }
 
-/// Reads until the connection ends, or a frame is wrong.
+/// Reads until the connection ends, or a frame is malformed.
 fn read_all<H: Host>(inbound: &mut InboundReader<H>, reader: &mut dyn Read) -> io::Result<()> {
     loop {
         match inbound.read(reader)? {
@@ -73,7 +74,7 @@ mod tests {
     use std::sync::mpsc::channel;
     use std::time::Duration;
 
-    /// How long something is waited for that has to come, on a machine that may be busy.
+    /// How long a test waits for something that must come, on a machine that may be busy.
     const PATIENCE: Duration = Duration::from_secs(60);
 
     /// A writer that takes nothing.
@@ -89,7 +90,7 @@ mod tests {
         }
     }
 
-    /// Has somebody wait for room in a full outbox. Returns what is told once that is over.
+    /// Makes a thread wait for room in a full outbox. Returns the receiver of the wait's end.
     fn waiting(outbox: &Arc<Outbox>) -> std::sync::mpsc::Receiver<bool> {
         assert!(outbox.begin(MOST_REQUESTS + 2));
         let ((tell, told), waiting) = (channel(), outbox.clone());

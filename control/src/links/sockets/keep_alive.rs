@@ -3,7 +3,7 @@ use socket2::{SockRef, TcpKeepalive};
 use std::io;
 use std::net::TcpStream;
 
-/// Has the connection end seconds after the other machine has gone, whether something was sent to it or not.
+/// Makes the connection end some seconds after the other machine has gone, whether bytes were sent to it or not.
 ///
 /// # Errors
 ///

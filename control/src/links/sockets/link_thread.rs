@@ -13,11 +13,11 @@ struct LinkThread<H: Host> {
     inner: Arc<LinksInner<H>>,
 }
 
-/// Gives the link a thread, which ends once the link is stopped.
+/// Starts a thread for the link. It ends once the link is stopped.
 ///
 /// # Errors
 ///
-/// If the system gives none.
+/// If the system refuses a thread.
 pub(in super::super) fn begin_link<H: Host>(
     inner: &Arc<LinksInner<H>>,
     link: &Arc<Link<H>>,
@@ -30,7 +30,7 @@ pub(in super::super) fn begin_link<H: Host>(
 }
 
 impl<H: Host> LinkThread<H> {
-    /// Reaches the process whenever it is asked something, and sends it that.
+    /// Connects to the process whenever there are requests for it, and sends them.
     fn run(self) {
         while self.wait_for_work() {
             let version = self.link.begin();
@@ -64,9 +64,9 @@ impl<H: Host> LinkThread<H> {
         }
     }
 
-    /// Reaches the process, and says which one it is.
+    /// Connects to the process, and returns its identity.
     fn reach(&self, version: u8) -> io::Result<(Channel, Identity)> {
-        let (server, terms) = (self.link.server, &self.inner.terms);
+        let (server, terms) = (self.link.server, &self.inner.terms());
         let address = self.inner.address_of(server)?;
         let mut channel = connect(terms, &address)?;
         let identity = channel.greet(terms, server, version)?;
@@ -75,7 +75,8 @@ impl<H: Host> LinkThread<H> {
         Ok((channel, identity))
     }
 
-    /// Has the answers of the process read, without which it is asked nothing. Returns what asks it, and who reads.
+    /// Starts a reader of the process's answers; without one, the process isn't asked anything. Returns the writer of
+    /// requests, and the reader's thread.
     fn begin_to_serve(
         &self,
         (channel, identity): (Channel, Identity),
@@ -95,7 +96,7 @@ impl<H: Host> LinkThread<H> {
         })
     }
 
-    /// Sends what there is to send while the connection lasts.
+    /// Sends requests while the connection lasts.
     fn serve(&self, mut writer: Box<dyn Write + Send>, reading: JoinHandle<()>) {
         let mut outbound = OutboundWriter::new(self.link.clone(), self.inner.clone());
         while self.wait_for_requests() {
@@ -105,7 +106,7 @@ impl<H: Host> LinkThread<H> {
             }
         }
         self.link.cut();
-        // A thread that panicked has said so.
+        // A thread that panicked has logged that.
         let _ = reading.join();
     }
 

@@ -4,11 +4,11 @@ mod channel;
 mod inbound_thread;
 mod keep_alive;
 mod link_thread;
-mod meeting;
 mod socket_closer;
+mod socket_handshake;
 
 pub(super) use link_thread::begin_link;
-pub use meeting::Meeting;
+pub use socket_handshake::SocketHandshake;
 
 use super::links_inner::{locked, LinksInner};
 use super::outbox::Outbox;
@@ -21,7 +21,7 @@ use std::sync::Arc;
 use std::thread::{self, JoinHandle};
 use std::time::{Duration, Instant};
 
-/// Begins to answer the processes that connect, until the links are closed. Returns the thread, which ends then.
+/// Begins to answer incoming connections of processes, until the links are closed. Returns the thread, which ends then.
 pub(super) fn begin_to_answer<H: Host>(
     listener: TcpListener,
     inner: Arc<LinksInner<H>>,
@@ -37,7 +37,7 @@ pub(super) fn begin_to_answer<H: Host>(
     })
 }
 
-/// Waits until nothing is under way that others asked for, between so long and so long.
+/// Waits until no request of another process is under way, at least for so long and at most for so long.
 pub(super) fn linger<H: Host>(inner: &LinksInner<H>, least: Duration, most: Duration) {
     let began = Instant::now();
     inner.stop_returned();
@@ -47,7 +47,7 @@ pub(super) fn linger<H: Host>(inner: &LinksInner<H>, least: Duration, most: Dura
     }
 }
 
-/// Answers those who connected.
+/// Answers all incoming connections.
 fn accept_all<H: Host>(listener: &TcpListener, inner: &Arc<LinksInner<H>>) {
     loop {
         let (stream, from) = match listener.accept() {
@@ -64,7 +64,7 @@ fn accept_all<H: Host>(listener: &TcpListener, inner: &Arc<LinksInner<H>>) {
     }
 }
 
-/// Answers one who connected, on threads of its own.
+/// Answers an incoming connection, on its own threads.
 fn answer<H: Host>(
     inner: &Arc<LinksInner<H>>,
     stream: TcpStream,
@@ -86,14 +86,14 @@ fn answer<H: Host>(
 }
 
 impl Outbox {
-    /// Waits until there is something to send, or nobody to answer. Those that were taken before are sent.
+    /// Waits until there is something to send, or nobody to answer. Bytes that were taken before are sent by now.
     pub(super) fn wait_for_answers(&self) {
         let mut state = locked(&self.state);
         state.is_sending = false;
         drop(self.told.wait_while(state, |it| it.is_idle()));
     }
 
-    /// Waits until the process may be read further, or nobody is there to be answered.
+    /// Waits until more may be read from the process, or nobody is there to be answered.
     fn wait_for_room(&self) {
         let state = locked(&self.state);
         drop(self.taken.wait_while(state, |it| it.is_held_up()));

@@ -11,7 +11,7 @@ impl SocketCloser {
         stream.try_clone().map(SocketCloser)
     }
 
-    /// Its socket.
+    /// Returns its socket.
     pub(super) fn socket(&self) -> &TcpStream {
         &self.0
     }

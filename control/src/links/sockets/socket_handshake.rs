@@ -5,25 +5,25 @@ use std::io::{self, ErrorKind, Read, Write};
 use std::net::TcpStream;
 use std::time::Instant;
 
-/// How much of a greeting is read at once.
+/// How many bytes of a greeting are read at once.
 const ROOM: usize = 512;
 
-/// How both sides of a connection make themselves known: who connects greets, and who is connected to welcomes it.
-pub struct Meeting<'a> {
+/// The handshake of both sides of a connection: the caller greets, and the other side welcomes it.
+pub struct SocketHandshake<'a> {
     reader: &'a mut dyn Read,
     writer: &'a mut dyn Write,
     socket: &'a TcpStream,
     deadline: Instant,
 }
 
-impl<'a> Meeting<'a> {
-    /// Meets whoever is at this socket, by what reads from it and what writes to it, until this time.
+impl<'a> SocketHandshake<'a> {
+    /// Makes the handshake at this socket, with this reader and this writer, until this time.
     pub fn new(
         (reader, writer): (&'a mut dyn Read, &'a mut dyn Write),
         socket: &'a TcpStream,
         deadline: Instant,
-    ) -> Meeting<'a> {
-        Meeting {
+    ) -> SocketHandshake<'a> {
+        SocketHandshake {
             reader,
             writer,
             socket,
@@ -31,12 +31,12 @@ impl<'a> Meeting<'a> {
         }
     }
 
-    /// Greets the process that was reached, which is to run this server, in this version. Returns who it is, and leaves
+    /// Greets the process that was reached, in this version. It must run this server. Returns its identity, and leaves
     /// the socket without a timeout for reads.
     ///
     /// # Errors
     ///
-    /// The process refuses, isn't who it is to be, or doesn't answer in time; and those of the socket.
+    /// If the process refuses, isn't the wanted one, or doesn't answer in time; and the socket's errors.
     pub fn greet(&mut self, terms: &Terms, server: u16, version: u8) -> io::Result<Identity> {
         let (mut greeter, hello) = Greeter::new(terms, server, version);
         self.say(&hello)?;
@@ -50,12 +50,12 @@ impl<'a> Meeting<'a> {
         }
     }
 
-    /// Welcomes whoever connected, if there is a place for it, or says why not. Returns who it is, and its place, and
-    /// leaves the socket without a timeout for reads.
+    /// Welcomes the process that has connected, if there is a place for it, or tells it why not. Returns its identity
+    /// and its place, and leaves the socket without a timeout for reads.
     ///
     /// # Errors
     ///
-    /// It isn't welcome, which it is told; it doesn't greet in time; and those of the socket.
+    /// If it isn't welcome, which it is told; if it doesn't greet in time; and the socket's errors.
     pub fn welcome<T>(
         &mut self,
         terms: &Terms,
@@ -84,12 +84,12 @@ impl<'a> Meeting<'a> {
         self.writer.flush()
     }
 
-    /// Waits for bytes of a greeting, which is there in time. Returns how many came.
+    /// Waits for bytes of a greeting, until the deadline. Returns how many came.
     fn hear(&mut self, room: &mut [u8]) -> io::Result<usize> {
         loop {
             self.hurry()?;
             match self.reader.read(room) {
-                // The process was stopped, and goes on.
+                // This process was stopped, and goes on.
                 Err(error) if error.kind() == ErrorKind::Interrupted => {}
                 Ok(0) => return Err(ErrorKind::UnexpectedEof.into()),
                 found => return found,
@@ -97,7 +97,7 @@ impl<'a> Meeting<'a> {
         }
     }
 
-    /// Has the next read end by the deadline.
+    /// Makes the next read end by the deadline.
     fn hurry(&self) -> io::Result<()> {
         let left = self.deadline.saturating_duration_since(Instant::now());
         match left.is_zero() {
@@ -107,9 +107,9 @@ impl<'a> Meeting<'a> {
     }
 }
 
-impl fmt::Debug for Meeting<'_> {
+impl fmt::Debug for SocketHandshake<'_> {
     fn fmt(&self, f: &mut fmt::Formatter<'_>) -> fmt::Result {
-        f.debug_struct("Meeting")
+        f.debug_struct("SocketHandshake")
             .field("socket", &self.socket)
             .finish_non_exhaustive()
     }
