@@ -1,9 +1,9 @@
-//! A cache in front of a slow store, which is a folder of files here. One process at a time has a key, so it is loaded
-//! once. If its shard moves, what was loaded goes along.
+//! A cache in front of a slow store, which is a folder of files here. Each key belongs to one process at a time, so its
+//! value is loaded once. If the shard of the key moves, the loaded values move with it.
 //!
-//! A folder compares no fences. If a process is paused past its lease while it writes a value, that write may come
-//! late, over a value that another process has stored since. A store that compares `call.fence()` refuses such a write,
-//! as in `counter.rs`.
+//! A folder doesn't compare fences. If a process is paused past its lease while it writes a value, that write may come
+//! late, over a value that another process has stored since. If a store compares `call.fence()`, as in `counter.rs`, it
+//! refuses such a write.
 //!
 //! ```console
 //! $ SLOW=/tmp/slow cache --name 1 --listen 127.0.0.1:7381  # a server; 2 and 3 likewise
@@ -11,17 +11,16 @@
 //! ```
 use durkenzo_fleet::{Call, Came, Fault, Fleet, Options, Retry, Router, Service, Shard};
 use serde::{Deserialize, Serialize};
-use std::collections::HashMap;
-use std::io::{self, ErrorKind};
-use std::{error::Error, fs, mem, path::PathBuf, thread, time::Duration};
+use std::{collections::HashMap, error::Error, fs, io, mem, path::PathBuf, thread, time::Duration};
 
-/// How many bytes of keys and values are kept of a shard at most, but for the last value.
+/// The most bytes of keys and values that are kept of a shard, apart from the last value.
 const MOST: usize = 1 << 20;
-/// How long the slow store takes.
+/// The time that the slow store takes.
 const SLOW: Duration = Duration::from_millis(20);
 const PATIENCE: Duration = Duration::from_secs(10);
 
-/// What was loaded of a shard, in two halves. What wasn't used since the older half was the newer one is dropped.
+/// The loaded values of a shard, in two halves. If the newer half is full, it becomes the older half. Then the values
+/// are dropped that weren't used since the last such change.
 #[derive(Default, Serialize, Deserialize)]
 pub struct Warm {
     newer: HashMap<String, String>,
@@ -33,15 +32,13 @@ pub struct Warm {
 impl Warm {
     /// Returns the value of the key, if it is kept.
     pub fn get(&mut self, key: &str) -> Option<String> {
-        if let Some(value) = self.newer.get(key) {
-            return Some(value.clone());
+        if let Some(value) = self.older.remove(key) {
+            self.put(key, value);
         }
-        let value = self.older.remove(key)?;
-        self.put(key, value.clone());
-        Some(value)
+        self.newer.get(key).cloned()
     }
 
-    /// Keeps the value, if need be in place of others.
+    /// Keeps the value. If there is no room, drops others.
     pub fn put(&mut self, key: &str, value: String) {
         self.forget(key);
         self.bytes += key.len() + value.len();
@@ -62,7 +59,7 @@ impl Warm {
 struct Cache(PathBuf);
 
 impl Cache {
-    /// Does what is asked of the key. Others who ask for it wait as long, and find it loaded.
+    /// Does this request for the key. Other calls of the shard wait in the meantime, and find the value loaded.
     fn done(&self, warm: &mut Warm, key: &str, asked: &str) -> io::Result<String> {
         let file = self.0.join(key);
         if let Some(value) = asked.strip_prefix("set ") {
@@ -96,9 +93,9 @@ impl Service for Cache {
     fn answer(&self, warm: &mut Warm, call: Call<'_>) -> Vec<u8> {
         let text = String::from_utf8_lossy(call.request());
         let answer = match text.split_once(' ') {
-            // A key is the name of a file.
+            // The key is the name of a file.
             Some((key, asked)) if !key.contains(['/', '.']) => self.done(warm, key, asked),
-            Some(_) | None => Err(ErrorKind::InvalidInput.into()),
+            Some(_) | None => Err(io::ErrorKind::InvalidInput.into()),
         };
         let answer = answer.unwrap_or_else(|error| format!("error: {error}"));
         answer.into_bytes()

@@ -4,8 +4,10 @@
 //! $ chat --name 1 --clients 127.0.0.1:7391  # a server; 2 and 3 likewise
 //! $ nc 127.0.0.1 7391                       # type: join lobby 0, and then: say lobby hello
 //! ```
-//! Members are told `=`, a number and what was said; or `!` once the room has moved: join again, by the last number.
-//! It answers `.` (done), `?` (perhaps), `~` (not done: ask again soon), or `>` and an address (not done: ask there).
+//! For each line that is said, members get `=`, its number and its text. If the room has moved, they get `!`. In that
+//! case they must join again, with the number of the last line that they got.
+//! The answer to a member's line is `.` if it was done, and `?` if it may have been done. If it wasn't done, the answer
+//! is `~` and the line may be sent again soon, or it is `>` and the address to which the line must be sent.
 use durkenzo_fleet::{Call, Came, Enter, Fault, Fleet, Mode, Options, Permit, Service, Shard};
 use std::collections::{BTreeMap, VecDeque};
 use std::io::{BufRead, BufReader, Read, Write};
@@ -13,13 +15,14 @@ use std::net::{Shutdown, TcpStream};
 use std::sync::{Arc, Weak};
 use std::{error::Error, thread, time::Duration};
 
-/// How many lines are kept of a room, members are here, and bytes come of one; and how long one may take to read.
+/// The most lines that are kept of a room, members that are here, and bytes that one member may send; and the longest
+/// time that a member may take to read.
 const KEPT: usize = 100;
 const MEMBERS: usize = 1_000;
 const SENT: u64 = 1 << 20;
 const SLOW: Duration = Duration::from_millis(100);
 
-/// What was said in rooms, each line with its number, and who is there.
+/// The lines of each room, with their numbers, and the members of each room.
 type Lines = BTreeMap<String, VecDeque<(u64, String)>>;
 type Members = BTreeMap<String, Vec<Member>>;
 type Member = Weak<TcpStream>;
@@ -36,7 +39,7 @@ impl Service for Chat {
         Ok((serde_json::from_slice(bytes)?, Members::new()))
     }
 
-    /// Answers a `Router` by what was said in a room.
+    /// Answers a `Router` with the lines of a room.
     fn answer(&self, (lines, _): &mut Self::Body, call: Call<'_>) -> Vec<u8> {
         let lines = lines.get(&*String::from_utf8_lossy(call.request()));
         serde_json::to_vec(&lines).unwrap_or_default()
@@ -60,7 +63,7 @@ fn tell(members: &[Member], line: &str) {
     }
 }
 
-/// Does what a member asks of a room that is here. Returns what it is told.
+/// Does a member's request for a room that is here. Returns the answer to the member.
 fn done(mut permit: Permit<'_, Chat>, own: &[Member; 1], asked: [&str; 3]) -> &'static str {
     let ([verb, room, text], fence) = (asked, permit.fence());
     let (lines, members) = permit.body();
@@ -73,7 +76,7 @@ fn done(mut permit: Permit<'_, Chat>, own: &[Member; 1], asked: [&str; 3]) -> &'
         members.extend_from_slice(own);
         return ".";
     }
-    // A room that was lost begins with greater numbers, because a fence never goes back.
+    // If a room was lost, it begins with greater numbers, because a fence never goes back.
     let number = 1 + lines.back().map_or(fence << 20, |it| it.0);
     lines.push_back((number, text.to_owned()));
     lines.drain(..lines.len().saturating_sub(KEPT));
@@ -84,7 +87,7 @@ fn done(mut permit: Permit<'_, Chat>, own: &[Member; 1], asked: [&str; 3]) -> &'
     "."
 }
 
-/// Does what a member asks, line by line: a verb, a room, and a number or text.
+/// Does the requests of a member, line by line. A line has a verb, a room, and a number or a text.
 fn serve(fleet: &Fleet<Chat>, stream: Arc<TcpStream>) {
     let own = [Arc::downgrade(&stream)];
     let lines = BufReader::new((&*stream).take(SENT)).lines();
@@ -94,7 +97,7 @@ fn serve(fleet: &Fleet<Chat>, stream: Arc<TcpStream>) {
         match fleet.enter(fleet.sharding().shard_of(at.as_bytes()), Mode::Direct) {
             Enter::Here(permit) => tell(&own, done(permit, &own, [verb, at, text])),
             Enter::Elsewhere(to) => tell(&own, &format!("> {}", to.clients.unwrap_or_default())),
-            // The next owner takes members once the room is there.
+            // The next owner takes members as soon as the room is there.
             Enter::Forward(_) => tell(&own, "~ the room moves"),
             Enter::Wait(why) => tell(&own, &format!("~ {why}")),
             Enter::Refused(why) => tell(&own, &format!("~ {why}")),

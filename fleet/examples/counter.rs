@@ -1,5 +1,5 @@
-//! A counter whose state lies in a database of SQLite. Each write compares its fence there, so a process that is late
-//! writes nothing, whatever its clock says.
+//! A counter whose state is in a database of SQLite. Each write compares its fence there. So a late process writes
+//! nothing, even if its clock is wrong.
 //!
 //! ```console
 //! $ COUNTERS=/tmp/counters.sqlite counter --name 1 --listen 127.0.0.1:7381  # a server; 2 and 3 likewise
@@ -15,7 +15,7 @@ const TABLES: &str = "
     CREATE TABLE IF NOT EXISTS fences (shard INTEGER PRIMARY KEY, fence INTEGER NOT NULL);
     CREATE TABLE IF NOT EXISTS counters (name BLOB PRIMARY KEY NOT NULL, count INTEGER NOT NULL);
 ";
-/// Writes the fence of a shard, unless a later one stands there.
+/// Writes the fence of a shard, unless the database has a later one.
 const FENCE: &str = "
     INSERT INTO fences VALUES (?1, ?2)
     ON CONFLICT (shard) DO UPDATE SET fence = excluded.fence WHERE fence <= excluded.fence
@@ -25,7 +25,7 @@ const COUNT: &str = "
     ON CONFLICT (name) DO UPDATE SET count = count + 1
     RETURNING count
 ";
-/// How long a transaction waits for another one.
+/// The longest time that a transaction waits for another one.
 const BUSY: Duration = Duration::from_secs(5);
 
 /// Opens the database, and makes its tables if they aren't there.
@@ -37,18 +37,19 @@ pub fn open(file: &Path) -> rusqlite::Result<Connection> {
     Ok(connection)
 }
 
-/// Returns whether this fence is the latest of its shard, and notes it for the writes that come after.
+/// Returns whether this fence is the latest of its shard. If it is, notes it for later writes.
 pub fn is_latest(transaction: &Transaction<'_>, shard: u16, fence: u64) -> rusqlite::Result<bool> {
     Ok(transaction.execute(FENCE, params![shard, fence])? == 1)
 }
 
-/// Counts once. Returns the count; or none, and writes nothing, if the shard's later owner was here.
+/// Counts once, and returns the count. If a later owner of the shard was here, writes nothing and returns nothing.
 pub fn count(
     connection: &mut Connection,
     (shard, fence): (u16, u64),
     name: &[u8],
 ) -> rusqlite::Result<Option<u64>> {
-    // The fence is compared and the count is written in one transaction, or the later owner could come between.
+    // The fence must be compared and the count written in one transaction, because a later owner could come between the
+    // two.
     let transaction = connection.transaction_with_behavior(TransactionBehavior::Immediate)?;
     if !is_latest(&transaction, shard, fence)? {
         return Ok(None);
@@ -65,10 +66,10 @@ struct Counter {
 impl Service for Counter {
     type Body = Connection;
 
-    /// All lies in the database, so it is the same however the shard came.
+    /// The whole state is in the database, so this does the same however the shard came.
     fn add(&self, shard: Shard, _: Came<'_>) -> Result<Connection, Fault> {
         let mut connection = open(&self.file)?;
-        // From here on the owner before writes nothing, even if this one has nothing to write yet.
+        // After this, the previous owner writes nothing more, even if this one has nothing to write yet.
         let transaction = connection.transaction_with_behavior(TransactionBehavior::Immediate)?;
         if !is_latest(&transaction, shard.number(), shard.fence())? {
             return Err("a later owner was here".into());
@@ -92,7 +93,7 @@ impl Service for Counter {
     }
 }
 
-/// Counts so often, and prints what became of the calls.
+/// Counts this many times, and prints the result of each call.
 fn add(url: &str, name: &str, times: u32) -> Result<(), Box<dyn Error>> {
     let (router, retry) = (Router::of(url)?, Retry::Until(Duration::from_secs(10)));
     for _ in 0..times {

@@ -1,5 +1,5 @@
-//! The load of `./sm fleet demo`: it calls the rate limiter, does commands that it reads, each in a line, and prints
-//! what it sees as lines of JSON.
+//! The load of `./sm fleet demo`. It calls the rate limiter, does the commands that it reads, one in each line, and
+//! prints the state that it sees as lines of JSON.
 //!
 //! ```console
 //! $ demo --etcd http://127.0.0.1:2379
@@ -16,14 +16,14 @@ use std::time::Duration;
 
 const CLIENTS: u64 = 8;
 const CUSTOMERS: u64 = 1_000;
-/// How long a client rests after a call, and tries one.
+/// How long a client rests after a call, and how long a call or a command that was read is tried.
 const REST: Duration = Duration::from_millis(2);
 const PATIENCE: Duration = Duration::from_secs(10);
-/// How often it is printed what there is, and how long the control may take.
+/// How often the state is printed, and how long the control may take to tell a table.
 const LOOK: Duration = Duration::from_millis(250);
 const WITHIN: Duration = Duration::from_secs(5);
 
-/// What became of calls.
+/// The outcomes of calls.
 #[derive(Default)]
 struct Counts {
     answered: AtomicU64,
@@ -54,7 +54,7 @@ impl Counts {
     }
 }
 
-/// Returns the rows of a table that the control tells, without its head; none if it doesn't answer.
+/// Returns the rows of a table that the control tells, without its head. Returns nothing if the control doesn't answer.
 fn rows(router: &Router, word: &str) -> Option<Vec<Vec<String>>> {
     let lines = router.command(&[word], WITHIN).ok()?;
     let words = |line: &String| line.split(' ').map(str::to_owned).collect();
@@ -83,7 +83,7 @@ fn main() -> Result<(), Box<dyn Error>> {
         let (shards, servers) = (rows(&tables, "SHARDS"), rows(&tables, "SERVERS"));
         let seen =
             json!({"calls": counts.told(), "told": told, "shards": shards, "servers": servers});
-        // Who began it has ended if it doesn't read.
+        // If nobody reads this, the program that began it has ended.
         if writeln!(io::stdout(), "{seen}").is_err() {
             std::process::exit(0);
         }

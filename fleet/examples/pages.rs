@@ -1,24 +1,24 @@
-//! Pages of 4 KiB in memory. A shard has as many as are filled, and moves in pieces while calls go on.
+//! Pages of 4 KiB in memory. A shard has as many pages as were filled, and moves in pieces while calls go on.
 //!
 //! ```console
 //! $ pages --name 1 --servers 2 --shards 1    # a server; 2 likewise
 //! ```
 //!
-//! A request of 8 bytes counts at the page of that number, and is answered by the count. `fill` and 8 bytes have so
-//! many pages be there. Numbers have the greatest byte first.
+//! A request of 8 bytes counts at the page with that number, and the answer is the count. A request of `fill` and 8
+//! bytes fills this many pages. Numbers are in big-endian order.
 use durkenzo_fleet::{Call, Came, Changes, Fault, Fleet, Options, Piece, Service, Shard};
 use std::cmp::Ordering;
 use std::collections::BTreeSet;
 use std::error::Error;
 
 const PAGE: usize = 4096;
-/// A page in a piece: its number, and what it has.
+/// The size of a page in a piece: its number, and its bytes.
 const ENTRY: usize = 8 + PAGE;
 
 #[derive(Default)]
 struct Pages {
     pages: Vec<Box<[u8]>>,
-    /// What isn't copied to the next owner, if there is a copy.
+    /// The pages that aren't copied to the next owner. There are none if there is no copy.
     uncopied: Option<Uncopied>,
 }
 
@@ -31,7 +31,7 @@ struct Uncopied {
 }
 
 impl Pages {
-    /// Has so many pages be there. Memory that is zero isn't resident, so it isn't.
+    /// Adds pages until there are this many. They aren't zero, because memory that is zero isn't resident.
     fn fill(&mut self, count: usize) {
         let numbers = self.pages.len()..count;
         let page = |number| {
@@ -42,7 +42,7 @@ impl Pages {
         self.pages.extend(numbers.map(page));
     }
 
-    /// Counts at a page. A page that isn't there has no count.
+    /// Counts at a page. If the page isn't there, the count is 0.
     fn count(&mut self, number: usize) -> u64 {
         let Some(page) = self.pages.get_mut(number) else {
             return 0;
@@ -155,7 +155,7 @@ impl Changes<Pages> for Store {
     }
 }
 
-/// Returns the number that these bytes spell, up to 8 of them.
+/// Returns the number in these bytes, of which at most 8 count.
 fn number_of(bytes: &[u8]) -> u64 {
     let spelled = bytes.iter().take(8);
     spelled.fold(0, |number, byte| number << 8 | u64::from(*byte))

@@ -1,4 +1,4 @@
-//! A rate limiter: each customer has a bucket of tokens, which is in one process at a time.
+//! A rate limiter. Each customer has a bucket of tokens, which is in one process at a time.
 //!
 //! ```console
 //! $ rate_limiter --name 1 --listen 127.0.0.1:7381    # a server; 2 and 3 likewise
@@ -23,7 +23,7 @@ struct Bucket {
 type Buckets = HashMap<Vec<u8>, Bucket>;
 
 impl Limiter {
-    /// Fills the bucket with what has come since it was filled last.
+    /// Fills the bucket with the tokens for the time since it was filled last.
     fn fill(&self, bucket: &mut Bucket) {
         let now = Instant::now();
         let come = now.duration_since(bucket.filled).as_secs_f64() * self.rate;
@@ -36,7 +36,7 @@ impl Service for Limiter {
 
     fn add(&self, _: Shard, came: Came<'_>) -> Result<Buckets, Fault> {
         match came {
-            // A bucket that is lost begins full.
+            // If a bucket was lost, it begins full.
             Came::New | Came::Lost => Ok(Buckets::new()),
             Came::Handed(bytes) => read(bytes),
         }
@@ -57,7 +57,7 @@ impl Service for Limiter {
     fn hand_over(&self, buckets: &mut Buckets) -> Vec<u8> {
         let mut bytes = Vec::new();
         for (customer, bucket) in buckets {
-            // Clocks of machines differ, so only tokens go there.
+            // Only tokens are handed over, because the clocks of machines differ.
             self.fill(bucket);
             bytes.extend((customer.len() as u32).to_be_bytes());
             bytes.extend(customer.as_slice());
@@ -67,7 +67,7 @@ impl Service for Limiter {
     }
 }
 
-/// Reads what `hand_over` wrote.
+/// Reads the bytes that `hand_over` wrote.
 fn read(mut bytes: &[u8]) -> Result<Buckets, Fault> {
     let mut buckets = Buckets::new();
     while let Some((length, rest)) = bytes.split_first_chunk() {
@@ -81,7 +81,7 @@ fn read(mut bytes: &[u8]) -> Result<Buckets, Fault> {
     Ok(buckets)
 }
 
-/// Calls so often for the customer, and prints what became of the calls.
+/// Calls this many times for the customer, and prints the outcomes of the calls.
 fn ask(url: &str, customer: &str, times: u32) -> Result<(), Box<dyn Error>> {
     let router = Router::of(url)?;
     let retry = Retry::Until(Duration::from_secs(10));

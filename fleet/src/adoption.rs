@@ -1,7 +1,7 @@
-//! What a shard's next owner does: it fetches a copy while the owner answers calls, and takes the rest.
+//! The work of a shard's next owner: it fetches a copy while the owner answers calls, and takes the rest afterwards.
 use crate::body_lock::BodyInUse;
 use crate::copy_progress::CopyProgress;
-use crate::fleet::FleetInner;
+use crate::fleet_inner::FleetInner;
 use crate::frame::{HandFrame, Request, Response, MOST};
 use crate::hand_over::PIECE;
 use crate::incoming_body::{Content, IncomingBody, PieceFault};
@@ -9,34 +9,34 @@ use crate::place::{Known, Place, Preparation};
 use crate::{Came, Changes, Fault, Service, Shard};
 use durkenzo::Stand;
 use std::sync::Arc;
-use std::time::{Duration, Instant};
+use std::time::Duration;
 use tokio::sync::OwnedSemaphorePermit;
 
-/// How often a copy is fetched from its beginning, until the shard goes on without a copy.
+/// How often a copy is begun from its beginning, before the shard moves without a copy.
 const TRIES: u32 = 3;
-/// How long it is waited until a body that is too long is asked for again.
+/// The time after which a body that was too long is asked for again.
 const LATER: Duration = Duration::from_secs(2);
 
 /// Why there is no copy of a body.
 enum NotCopied {
-    /// It is longer than it may be: it stays with its owner.
+    /// The body is longer than it may be, so it stays with its owner.
     TooLong,
     Failed(String),
 }
 
-/// Why a piece isn't taken that an owner hands over.
+/// Why this process doesn't take a piece that an owner hands over.
 #[derive(Clone, Copy, Debug, PartialEq, Eq)]
 pub(crate) enum NotTaken {
-    /// It may be sent again.
+    /// The owner may send the piece again.
     Again(&'static str),
-    /// There is no copy here that it continues.
+    /// This process has no copy that the piece continues.
     NoCopy(&'static str),
 }
 
 impl<S: Service> FleetInner<S> {
-    /// Has the service prepare for a shard, and fetches a copy, if the service takes copies. Returns whether the shard
-    /// may be handed over.
-    pub(crate) fn prepare(
+    /// Tells the service to prepare for a shard. If the service moves bodies in pieces, fetches a copy too. Returns
+    /// whether the shard may be handed over.
+    pub(crate) async fn prepare(
         &self,
         shard: u16,
         place: &Place<S::Body>,
@@ -45,7 +45,7 @@ impl<S: Service> FleetInner<S> {
         let Some(named) = self.begin_to_prepare(shard, place, (owner, generation)) else {
             return false;
         };
-        // It is tried again until there is room.
+        // If there is no room for another body, this is tried again later.
         let Some(room) = self.room() else {
             return false;
         };
@@ -53,7 +53,7 @@ impl<S: Service> FleetInner<S> {
             *place.incoming() = Some(IncomingBody::reserved(generation, room));
             return true;
         };
-        let came = match self.fetched(place, changes, of, room.clone()) {
+        let came = match self.fetched(place, changes, of, room.clone()).await {
             Ok(copy) => Some(copy),
             Err(why) => self
                 .may_go_without(shard, place, why)
@@ -66,7 +66,8 @@ impl<S: Service> FleetInner<S> {
         may_go
     }
 
-    /// Has the service prepare, if it hasn't by this record. Returns the shard, unless its body was too long just now.
+    /// Tells the service to prepare, unless it was told under this record already. Returns the shard, unless its body
+    /// was too long a moment ago.
     fn begin_to_prepare(
         &self,
         shard: u16,
@@ -85,10 +86,12 @@ impl<S: Service> FleetInner<S> {
         if is_first {
             self.service.prepare_add(named, Some(owner));
         }
-        again.is_none_or(|it| Instant::now() >= it).then_some(named)
+        again
+            .is_none_or(|it| self.environment.is_past(it))
+            .then_some(named)
     }
 
-    /// Whether all of the body is handed over at once, because there was no copy so often.
+    /// Returns whether the shard may move without a copy before the hand-over, because a copy failed too often.
     fn may_go_without(&self, shard: u16, place: &Place<S::Body>, why: NotCopied) -> bool {
         let mut known = place.known();
         match why {
@@ -99,7 +102,7 @@ impl<S: Service> FleetInner<S> {
                     most,
                     "the body is longer than --body lets it be, and stays with its owner"
                 );
-                known.prepared.again = Some(Instant::now() + LATER);
+                known.prepared.again = Some(self.environment.end_of(LATER));
                 false
             }
             NotCopied::Failed(why) => {
@@ -110,8 +113,8 @@ impl<S: Service> FleetInner<S> {
         }
     }
 
-    /// Fetches a copy from the owner, one piece at a time, until little is left or as much has come as may.
-    fn fetched(
+    /// Fetches a copy from the owner, one piece at a time, until little is left or as many bytes have come as may.
+    async fn fetched(
         &self,
         place: &Place<S::Body>,
         changes: &dyn Changes<S::Body>,
@@ -134,7 +137,7 @@ impl<S: Service> FleetInner<S> {
                 at: copy.bytes(),
             };
             let before = copy.bytes();
-            let left = self.fetch(owner, &request, &mut copy, changes);
+            let left = self.fetch(owner, &request, &mut copy, changes).await;
             let left = left.map_err(NotCopied::Failed)?;
             let is_full = copy.bytes() >= self.options.body;
             let came = copy.bytes() - before;
@@ -148,7 +151,7 @@ impl<S: Service> FleetInner<S> {
     }
 
     /// Asks the owner for a piece, and adds it. Returns about how many bytes are left.
-    fn fetch(
+    async fn fetch(
         &self,
         owner: u16,
         request: &Request<'_>,
@@ -156,7 +159,10 @@ impl<S: Service> FleetInner<S> {
         changes: &dyn Changes<S::Body>,
     ) -> Result<u64, String> {
         let address = self.address_of(owner).ok_or("its owner isn't there")?;
-        let response = self.connections.ask(&address, request, PIECE);
+        let response =
+            self.environment
+                .ask(&address, request.written(), self.environment.end_of(PIECE));
+        let response = response.await;
         let response = response.map_err(|it| it.to_string())?;
         match Response::read(&response).map_err(|it| it.to_string())? {
             Response::Piece { left, bytes } => {
@@ -170,40 +176,44 @@ impl<S: Service> FleetInner<S> {
         }
     }
 
-    /// Returns how many bytes of a copy should come at most: those of a body and a piece while the owner answers, and
-    /// those of a body behind.
+    /// Returns the most bytes that should come for a copy: those of a body and of one piece while the owner answers,
+    /// and those of a body afterwards.
     fn most_of_copy(&self) -> u64 {
         let most = self.options.body.saturating_mul(2);
         most.saturating_add(MOST as u64)
     }
 
-    /// Returns how many bytes come at most once the owner has let go: if they don't, the shard stops.
+    /// Returns the most bytes that may come after the owner has let go. If the body is longer, the shard stops.
     fn most_handed_over(&self) -> u64 {
         self.most_of_copy().saturating_mul(2)
     }
 
-    /// Returns room for one more body that comes, if there is any.
+    /// Returns room for one more body, if there is any.
     fn room(&self) -> Option<Arc<OwnedSemaphorePermit>> {
         self.moves.clone().try_acquire_owned().ok().map(Arc::new)
     }
 
-    /// Takes a piece of what the owner hands over. The last one has the shard begin.
-    pub(crate) fn take_hand_over(&self, frame: &HandFrame<'_>) -> Result<(), NotTaken> {
+    /// Takes a piece that the owner hands over. With the last piece, the shard begins.
+    pub(crate) async fn take_hand_over(&self, frame: &HandFrame<'_>) -> Result<(), NotTaken> {
         let place = self.places.get(usize::from(frame.shard));
         let place = place.ok_or(NotTaken::Again("there is no such shard"))?;
-        self.await_record(place, frame.hand.generation);
-        // The body is locked first.
-        let body = frame.is_last.then(|| place.body());
+        self.await_record(place, frame.hand.generation).await;
+        // The body must be locked before the incoming body.
+        let body = match frame.is_last {
+            true => Some(place.body().await),
+            false => None,
+        };
         let mut incoming = place.incoming();
         {
-            // As the record changes, what comes is dropped under its lock.
+            // This check needs the lock of the incoming body, because a change of the record drops the incoming body
+            // under that lock.
             let known = place.known();
             if !self.is_meant(&known, frame) {
                 let why = "it isn't for this process, by the record that it has read";
                 return Err(NotTaken::Again(why));
             }
             if known.hand == Some(frame.hand) && known.body_is_of.is_some() {
-                // It has come before, and the owner hasn't heard so.
+                // The piece has come before, and the owner hasn't got the answer.
                 return Ok(());
             }
         }
@@ -215,7 +225,7 @@ impl<S: Service> FleetInner<S> {
         let (generation, room) = (whole.generation(), whole.room());
         let adopted = self.adopt(place, &mut body, frame, whole.into_content());
         if adopted.is_err() {
-            // It is sent again.
+            // The owner sends it again.
             *incoming = Some(IncomingBody::reserved(generation, room));
         }
         drop((incoming, body));
@@ -252,14 +262,14 @@ impl<S: Service> FleetInner<S> {
                 Err(NotTaken::Again(why))
             }
             Err(fault @ PieceFault::Service(_)) => {
-                // It may have been added in part.
+                // The service may have added a part of the piece.
                 *incoming = Some(IncomingBody::reserved(prepared_by(frame), it.room()));
                 Err(NotTaken::NoCopy(warned(frame.shard, &fault.to_string())))
             }
         }
     }
 
-    /// Begins to take what is handed over. The shard keeps its room if that can't begin.
+    /// Begins to take a hand-over. If it can't begin, the shard keeps its room.
     fn begin_to_take(
         &self,
         place: &Place<S::Body>,
@@ -276,7 +286,7 @@ impl<S: Service> FleetInner<S> {
         Ok(())
     }
 
-    /// Warns of a body that is longer than it may be, and was taken, because its owner has let go.
+    /// Warns of a body that is longer than it may be. It was taken all the same, because its owner has let go.
     fn warn_of_long(&self, frame: &HandFrame<'_>, bytes: u64) {
         let most = match frame.copy {
             Some(_) => self.most_of_copy(),
@@ -293,7 +303,7 @@ impl<S: Service> FleetInner<S> {
         }
     }
 
-    /// Begins what is handed over, of which nothing has come.
+    /// Returns the empty content for a hand-over that has just begun.
     fn begun(
         &self,
         place: &Place<S::Body>,
@@ -303,7 +313,7 @@ impl<S: Service> FleetInner<S> {
             return Ok(Content::Whole(Vec::new()));
         };
         if name.server != frame.hand.server {
-            // This process named it, and has it no more.
+            // This process chose the name of the copy, and doesn't have the copy any more.
             return Err(NotTaken::NoCopy("that copy isn't here"));
         }
         let none = NotTaken::NoCopy("the next owner's service notes no changes");
@@ -314,8 +324,9 @@ impl<S: Service> FleetInner<S> {
         Ok(Content::Copy(name, body))
     }
 
-    /// Whether the shard comes to this process by the record, from the process that this names. That one has let go by
-    /// the proved view. A frame of an earlier record is too late, though the owner has let go of the record.
+    /// Returns whether the shard moves to this process under the present record, and from the process that the frame
+    /// names. According to the proved view, that process has let go. A frame of an earlier record is too late, even if
+    /// the owner had let go of that record.
     fn is_meant(&self, known: &Known, frame: &HandFrame<'_>) -> bool {
         let (record, hand) = (known.record(), &frame.hand);
         let stand = Stand::Forwarding {
@@ -326,7 +337,7 @@ impl<S: Service> FleetInner<S> {
         is_of_record && known.view.handed(hand).is_ok_and(|it| it.is_freed())
     }
 
-    /// Begins the shard by what was handed over, if it didn't begin before.
+    /// Begins the shard with the content that was handed over, unless it has begun already.
     fn adopt(
         &self,
         place: &Place<S::Body>,
@@ -358,7 +369,7 @@ impl<S: Service> FleetInner<S> {
         Ok(())
     }
 
-    /// Has the service make a body of what was handed over.
+    /// Makes the service turn the content that was handed over into a body.
     fn added(&self, shard: Shard, content: Content<S::Body>) -> Result<S::Body, NotTaken> {
         let added = match (content, self.service.changes()) {
             (Content::Whole(bytes), _) => self.service.add(shard, Came::Handed(&bytes)),
@@ -371,7 +382,7 @@ impl<S: Service> FleetInner<S> {
     }
 }
 
-/// Returns the generation of the record by which this process prepared for what is handed over.
+/// Returns the generation of the record under which this process prepared for this hand-over.
 fn prepared_by(frame: &HandFrame<'_>) -> u64 {
     frame.hand.generation.saturating_sub(1)
 }

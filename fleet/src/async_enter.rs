@@ -1,7 +1,6 @@
-//! How a server of tasks asks for permits: it waits for what a thread would be blocked by.
-use crate::fleet::FleetInner;
-use crate::queue::Turn;
-use crate::retry::end_of;
+//! Permits for servers that run as tasks: a task waits if a thread would be blocked.
+use crate::fleet_inner::FleetInner;
+use crate::queue::{Turn, LOOK};
 use crate::{Enter, Fleet, Mode, Service};
 use std::sync::atomic::Ordering;
 use std::time::{Duration, Instant};
@@ -9,15 +8,15 @@ use std::time::{Duration, Instant};
 const BEFORE: &str = "calls that came before wait for the shard";
 
 impl<S: Service> Fleet<S> {
-    /// Returns what becomes of a call, as [`Fleet::enter`] does, and blocks no thread. As long as that is
-    /// [`Enter::Wait`], or another call has the body, it waits for so long in all, behind the calls that came before.
-    /// If as many wait as `--waiting` lets, it is [`Enter::Wait`] at once.
+    /// Returns whether this process may execute a call, as [`Fleet::enter`] does, without blocking a thread. If the
+    /// result would be [`Enter::Wait`], or if another call uses the body, this waits for up to `within`, behind the
+    /// calls that came before. If as many calls wait already as `--waiting` allows, it returns [`Enter::Wait`] at once.
     ///
-    /// It must run in a runtime whose driver of time is enabled, as by
-    /// [`enable_all`](tokio::runtime::Builder::enable_all). Without that tokio panics.
+    /// The caller must run it in a runtime whose driver of time is enabled, for example by
+    /// [`enable_all`](tokio::runtime::Builder::enable_all). If it isn't, tokio panics.
     ///
-    /// The permit goes with its task from thread to thread, and other calls of the shard wait until it is dropped. A
-    /// future that is dropped gives its place in the queue, or its permit, back.
+    /// The permit moves with its task from thread to thread. Other calls of the shard wait until the permit is dropped.
+    /// If the future is dropped, it gives back its place in the queue, or its permit.
     ///
     /// ```no_run
     /// use durkenzo_fleet::{Enter, Fleet, Mode, Service};
@@ -39,7 +38,8 @@ impl<S: Service> Fleet<S> {
     /// }
     /// ```
     pub async fn enter_async(&self, shard: u16, mode: Mode, within: Duration) -> Enter<'_, S> {
-        self.inner.enter_async(shard, mode, end_of(within)).await
+        let end = self.inner.environment.end_of(within);
+        self.inner.enter_async(shard, mode, end).await
     }
 }
 
@@ -47,12 +47,12 @@ impl<S: Service> FleetInner<S> {
     async fn enter_async(&self, shard: u16, mode: Mode, end: Instant) -> Enter<'_, S> {
         let queue = self.places.get(usize::from(shard)).map(|it| &it.queue);
         let most = self.options.waiting;
-        // Who comes later waits behind those who wait.
+        // A call that comes later waits behind the calls that wait already.
         let mut is_behind = queue.is_some_and(|it| !it.is_empty());
         let (mut turn, mut why) = (None, BEFORE);
         loop {
             if let Some(queue) = queue.filter(|_| is_behind && turn.is_none()) {
-                turn = queue.enter_task(most);
+                turn = queue.enter(most);
                 if turn.is_none() {
                     return Enter::Wait("as many calls wait for the shard as may");
                 }
@@ -69,18 +69,19 @@ impl<S: Service> FleetInner<S> {
                 return Enter::Wait(why);
             }
             if let Some(turn) = &turn {
-                turn.woken(end).await;
+                let soon = end.min(Instant::now() + LOOK);
+                turn.woken(tokio::time::sleep_until(soon.into())).await;
             }
         }
     }
 
-    /// Looks once what becomes of the call, and waits for the body until this time.
+    /// Looks once whether this process may execute the call, and waits for the body until this time.
     async fn enter_within(&self, shard: u16, mode: Mode, end: Instant) -> Enter<'_, S> {
-        let (place, from) = match self.asked(shard, mode) {
-            Ok(asked) => asked,
-            Err(decided) => return decided,
+        let (place, from) = match self.entered_at_once(shard, mode) {
+            Ok(decided) => return decided,
+            Err(waits) => waits,
         };
-        match tokio::time::timeout_at(end.into(), place.body_async()).await {
+        match tokio::time::timeout_at(end.into(), place.body()).await {
             Ok(body) => self.entered((shard, from), place, body),
             Err(_) => Enter::Wait("another call of the shard is executed still"),
         }

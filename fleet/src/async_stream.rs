@@ -1,4 +1,4 @@
-//! Connections of tasks to servers of a fleet, whose bytes are those of threads.
+//! Connections of tasks to servers of a fleet. Their bytes are the same as those of connections of threads.
 use crate::frame::LONGEST;
 use crate::idle_connections::Quiet;
 use crate::introduction::Introduction;
@@ -10,9 +10,9 @@ use std::io::{self, ErrorKind, Read, Write};
 use std::net::TcpStream;
 use tokio::io::unix::AsyncFd;
 
-/// How many bytes are taken from the socket at once.
+/// The number of bytes that are taken from the socket at once.
 const ROOM: usize = 16 << 10;
-/// How many bytes stand before what the length of a frame counts.
+/// The number of bytes of a frame's length. The length doesn't count them.
 const LENGTH: usize = 4;
 
 /// A connection whose sides know each other.
@@ -23,7 +23,7 @@ pub(crate) struct AsyncStream {
 }
 
 impl AsyncStream {
-    /// Reaches the server at this address. Who calls bounds the time.
+    /// Connects to the server at this address. The caller must bound the time.
     pub(crate) async fn connect(
         address: &str,
         introduction: &Introduction,
@@ -54,7 +54,7 @@ impl AsyncStream {
             let is_over = shaken?;
             sent?;
             if is_over {
-                // OpenSSL has checked the name already, as threads' connections have it.
+                // OpenSSL has checked the name already. This checks it again, as connections of threads do.
                 return tls.caller().as_process();
             }
             match receive(socket, room).await? {
@@ -95,7 +95,7 @@ impl AsyncStream {
         Ok(())
     }
 
-    /// Reads bytes, and returns how many; 0 is the end.
+    /// Reads bytes, and returns their number. If it is 0, the connection has ended.
     async fn read(&mut self, into: &mut [u8]) -> io::Result<usize> {
         let AsyncStream { socket, tls, room } = self;
         let Some(tls) = tls else {
@@ -113,7 +113,7 @@ impl AsyncStream {
         }
     }
 
-    /// Reads a frame. One that is longer than [`LONGEST`] is refused before there is room for it.
+    /// Reads a frame. If the frame is longer than [`LONGEST`], refuses it before making room for it.
     pub(crate) async fn read_frame(&mut self) -> io::Result<Vec<u8>> {
         let mut length = [0; LENGTH];
         self.fill(&mut length).await?;
@@ -124,7 +124,7 @@ impl AsyncStream {
         }
         let mut frame = Vec::new();
         while frame.len() < length {
-            // There is room for what has come, not for what is said to come.
+            // This makes room only for the bytes that have come, because the length may be false.
             let begin = frame.len();
             frame.resize(length.min(begin + ROOM), 0);
             self.fill(&mut frame[begin..]).await?;

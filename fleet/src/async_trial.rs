@@ -1,5 +1,5 @@
-//! Tasks of tokio as clients and as servers of a fleet: permits go from thread to thread, and who is dropped leaves
-//! nothing behind.
+//! Tests with tasks of tokio as clients and as servers of a fleet. Permits move from thread to thread, and a task that
+//! is dropped leaves nothing behind.
 use crate::{
     AsyncRouter, Call, CallError, Came, Enter, Fault, Fleet, Mode, Options, Retry, Router, Service,
     Shard,
@@ -12,9 +12,9 @@ use tokio::runtime::{self, Runtime};
 use tokio::sync::oneshot;
 use tokio::time::timeout;
 
-/// How long something is waited for that has to come, on a machine that may be busy.
+/// The longest wait for an event that must come, on a machine that may be busy.
 const SOON: Duration = Duration::from_secs(60);
-/// How long something is waited for that doesn't come.
+/// The wait for an event that must not come.
 const BRIEF: Duration = Duration::from_millis(100);
 
 /// Counts calls by shard.
@@ -40,7 +40,7 @@ impl Service for Counter {
     }
 }
 
-/// Processes of a fleet of so many servers, and its store, once the first shard has a permit.
+/// Returns the processes of a fleet of this many servers, and its store, as soon as the first shard has a permit.
 fn fleets(servers: u16, words: &[&str]) -> (Arc<dyn Store>, Vec<Arc<Fleet<Counter>>>) {
     let store: Arc<dyn Store> = Arc::new(Embedded::in_memory());
     let join = |server: u16| {
@@ -70,12 +70,12 @@ fn runtime() -> Runtime {
     builder.worker_threads(2).enable_all().build().unwrap()
 }
 
-/// Has a task call by a permit, which it keeps until it is told. Returns the count.
+/// Calls with a permit, which the task keeps until it is told. Returns the count.
 async fn call(fleet: Arc<Fleet<Counter>>, kept: oneshot::Receiver<()>) -> Result<u64, String> {
     match fleet.enter_async(0, Mode::Direct, SOON).await {
         Enter::Here(mut permit) => {
             permit.answer(b"");
-            // It may go on on another thread.
+            // The task may continue on another thread.
             let _ = kept.await;
             assert!(permit.holds());
             Ok(*permit.body())
@@ -86,7 +86,7 @@ async fn call(fleet: Arc<Fleet<Counter>>, kept: oneshot::Receiver<()>) -> Result
     }
 }
 
-/// What has a call keep its permit no longer.
+/// Returns a receiver that tells a call at once not to keep its permit.
 fn at_once() -> oneshot::Receiver<()> {
     oneshot::channel().1
 }
@@ -106,7 +106,7 @@ fn permits_go_between_threads_and_one_task_at_a_time_has_one() {
             let place = &fleet.inner.places[0];
             !place.is_free()
         });
-        // One that gives up, and one that is stopped, leave nothing.
+        // A task that gives up and a task that is stopped must leave nothing behind.
         let given_up = fleet.enter_async(0, Mode::Direct, BRIEF).await;
         assert!(matches!(given_up, Enter::Wait(_)));
         drop(given_up);
@@ -126,7 +126,7 @@ fn permits_go_between_threads_and_one_task_at_a_time_has_one() {
         tell.send(()).unwrap();
         assert_eq!(first.await.unwrap(), Ok(1));
         assert!(next.await.unwrap().is_ok() && blocked.await.unwrap() == 8);
-        // The one that was stopped has made no call.
+        // The task that was stopped has made no call.
         assert_eq!(call(fleet.clone(), at_once()).await, Ok(4));
     });
     assert!(fleet.inner.places[0].is_free());
@@ -138,6 +138,8 @@ fn who_waits_for_a_paused_shard_is_bounded_and_who_is_dropped_leaves_its_place()
     let fleet = &fleets[0];
     let router = Router::watch(&*store).unwrap();
     assert_eq!(router.command(&["PAUSE", "0"], SOON), Ok(vec![]));
+    let is_paused = || matches!(fleet.enter(0, Mode::Direct), Enter::Wait(_));
+    until("the process has read so", is_paused);
     runtime().block_on(async {
         let [first, second] = [(); 2].map(|()| tokio::spawn(call(fleet.clone(), at_once())));
         let place = &fleet.inner.places[0];
@@ -198,8 +200,8 @@ fn tasks_call_while_shards_move_and_nothing_is_lost() {
     });
 }
 
-/// Calls with ever more time, until the time is over only once the call has come to the server. Before that it isn't
-/// made. Returns the error.
+/// Calls with more and more time, until the time is over only after the call has come to the server. If it is over
+/// before that, the call isn't made. Returns the error.
 async fn too_late(router: &AsyncRouter, key: &[u8]) -> CallError {
     let mut within = BRIEF;
     loop {
@@ -225,15 +227,15 @@ fn a_call_that_is_dropped_gives_no_answer_to_another_one() {
             panic!("there is no permit");
         };
         let mut dropped = Box::pin(call());
-        while fleets[0].inner.places[0].blocked() == 0 {
-            // It is dropped once it has come to the server, and waits for the body there.
+        while !fleets[0].inner.places[0].has_task() {
+            // The call must have come to the server, and wait for the body there, before it is dropped.
             assert!(timeout(BRIEF, &mut dropped).await.is_err());
         }
         drop(dropped);
         let late = too_late(&router, &key).await;
         assert!(matches!(late, CallError::Unsure(_)), "{late}");
         drop(permit);
-        // Those two may be made still, and each answer is of its call.
+        // These two calls may still be made. Each answer must belong to its own call.
         let mut last = 1;
         for _ in 0..5 {
             let answer = call().await.unwrap();
@@ -243,7 +245,7 @@ fn a_call_that_is_dropped_gives_no_answer_to_another_one() {
         }
         assert!(last <= 8);
     });
-    // A server that nobody reaches is told so.
+    // If no server can be reached, the client must be told so.
     drop(fleets);
     let gone = runtime().block_on(router.call(&key, b"request", Retry::Once(SOON)));
     assert!(

@@ -1,26 +1,24 @@
-#![cfg_attr(not(feature = "tokio"), allow(dead_code))]
 use std::collections::BTreeMap;
 use std::future::poll_fn;
 use std::ops::{Deref, DerefMut};
-use std::sync::{Condvar, Mutex, MutexGuard, PoisonError};
+use std::sync::{Mutex, MutexGuard, PoisonError};
 use std::task::{Context, Poll, Waker};
 use std::thread;
 
-/// A shard's body, which one call at a time uses: a thread, or a task that may go from thread to thread meanwhile.
+/// A shard's body, which only one call at a time uses. A task that uses it may move from thread to thread in the
+/// meantime.
 ///
-/// Whoever asks as it is free has it, so that who waits holds up nobody.
+/// If the body is free, a call of [`BodyLock::lock`] gets it, even if tasks wait already. So a waiting task holds up
+/// nobody.
 pub(crate) struct BodyLock<B> {
     state: Mutex<State<B>>,
-    freed: Condvar,
 }
 
 struct State<B> {
-    /// None while it is in use.
+    /// The body, or nothing while it is in use.
     kept: Option<Box<Option<B>>>,
-    /// Whether who used it last has panicked, so that it was dropped.
+    /// Whether its last user has panicked, so that the body was dropped.
     is_lost: bool,
-    /// How many threads wait.
-    blocked: usize,
     /// The tasks that wait, in the order in which they came.
     tasks: BTreeMap<u64, Waker>,
     next: u64,
@@ -29,12 +27,12 @@ struct State<B> {
 /// The body in use.
 pub(crate) struct BodyInUse<'a, B> {
     lock: &'a BodyLock<B>,
-    /// None only while it is dropped.
+    /// The body. There is none only while this is dropped.
     body: Option<Box<Option<B>>>,
     was_panicking: bool,
 }
 
-/// A task that waits for the body, until it is dropped.
+/// A task that waits for the body. If this is dropped, the task waits no more.
 struct WaitingTask<'a, B> {
     lock: &'a BodyLock<B>,
     number: Option<u64>,
@@ -45,38 +43,32 @@ impl<B> BodyLock<B> {
         let state = State {
             kept: Some(Box::new(None)),
             is_lost: false,
-            blocked: 0,
             tasks: BTreeMap::new(),
             next: 0,
         };
         BodyLock {
             state: Mutex::new(state),
-            freed: Condvar::new(),
         }
     }
 
-    /// Blocks until nobody uses the body. Returns it, and whether it was lost since the last time.
-    pub(crate) fn lock(&self) -> (BodyInUse<'_, B>, bool) {
-        let mut state = self.state();
-        loop {
-            if let Some(body) = state.kept.take() {
-                return self.used(body, state);
-            }
-            state.blocked += 1;
-            let woken = self.freed.wait(state);
-            state = woken.unwrap_or_else(PoisonError::into_inner);
-            state.blocked -= 1;
-        }
-    }
-
-    /// Waits until nobody uses the body. Returns it, and whether it was lost since the last time. Who is dropped before
-    /// waits no more.
-    pub(crate) async fn lock_async(&self) -> (BodyInUse<'_, B>, bool) {
+    /// Waits until nobody uses the body. Returns the body, and whether it was lost since the last time. If the future
+    /// is dropped, it waits no more.
+    pub(crate) async fn lock(&self) -> (BodyInUse<'_, B>, bool) {
         let mut waiting = WaitingTask {
             lock: self,
             number: None,
         };
         poll_fn(|context| waiting.poll(context)).await
+    }
+
+    /// Returns the body as [`BodyLock::lock`] does, if nobody uses it or waits for it.
+    pub(crate) fn try_lock(&self) -> Option<(BodyInUse<'_, B>, bool)> {
+        let mut state = self.state();
+        if !state.tasks.is_empty() {
+            return None;
+        }
+        let body = state.kept.take()?;
+        Some(self.used(body, state))
     }
 
     fn used<'a>(
@@ -93,25 +85,19 @@ impl<B> BodyLock<B> {
         (body, is_lost)
     }
 
-    /// Whether somebody uses it.
+    /// Returns whether somebody uses the body.
     pub(crate) fn is_in_use(&self) -> bool {
         self.state().kept.is_none()
     }
 
-    /// Whether nobody uses it, and no task waits.
-    #[cfg(all(test, feature = "tokio"))]
+    /// Returns whether nobody uses the body, and no task waits for it.
+    #[cfg(any(feature = "simulated", all(test, feature = "tokio")))]
     pub(crate) fn is_free(&self) -> bool {
         let state = self.state();
         state.kept.is_some() && state.tasks.is_empty()
     }
 
-    /// How many threads wait for it.
-    #[cfg(all(test, feature = "tokio"))]
-    pub(crate) fn blocked(&self) -> usize {
-        self.state().blocked
-    }
-
-    /// Whether a task waits for it.
+    /// Returns whether a task waits for the body.
     #[cfg(all(test, feature = "tokio"))]
     pub(crate) fn has_task(&self) -> bool {
         !self.state().tasks.is_empty()
@@ -143,7 +129,7 @@ impl<B> Drop for WaitingTask<'_, B> {
         let Some(number) = self.number else { return };
         let mut state = self.lock.state();
         state.tasks.remove(&number);
-        // It may have been woken to take the body: then the next one is.
+        // This task may have been woken to take the body. If so, the next task must be woken.
         let next = state.kept.is_some().then(|| state.tasks.pop_first());
         drop(state);
         if let Some((_, waker)) = next.flatten() {
@@ -158,16 +144,13 @@ impl<B> Drop for BodyInUse<'_, B> {
             return;
         };
         let has_panicked = thread::panicking() && !self.was_panicking;
-        // What a callback has half changed is of no use.
+        // A body that a callback has half changed is of no use.
         let half_changed = if has_panicked { body.take() } else { None };
         let mut state = self.lock.state();
         state.is_lost |= has_panicked;
         state.kept = Some(body);
-        let (is_blocked, task) = (state.blocked > 0, state.tasks.pop_first());
+        let task = state.tasks.pop_first();
         drop(state);
-        if is_blocked {
-            self.lock.freed.notify_one();
-        }
         if let Some((_, waker)) = task {
             waker.wake();
         }
@@ -192,6 +175,7 @@ impl<B> DerefMut for BodyInUse<'_, B> {
 #[cfg(test)]
 mod tests {
     use super::*;
+    use crate::threads::block_on;
     use std::sync::atomic::{AtomicUsize, Ordering};
     use std::sync::Arc;
     use std::task::Wake;
@@ -228,49 +212,61 @@ mod tests {
     #[test]
     fn tasks_are_woken_in_their_order_and_who_is_dropped_wakes_the_next() {
         let lock = BodyLock::<u8>::new();
-        let used = lock.lock().0;
+        let used = block_on(lock.lock()).0;
         let ((mut one, first), (mut two, second), (mut three, third)) =
             (task(&lock), task(&lock), task(&lock));
         assert!(poll(&mut one, &first).is_none() && poll(&mut two, &second).is_none());
         assert!(poll(&mut three, &third).is_none());
         drop(used);
         assert_eq!([&first, &second, &third].map(woken), [1, 0, 0]);
-        // It was woken, and is dropped before it takes the body.
+        // The task was woken, and is dropped before it takes the body.
         drop(one);
         assert_eq!([&first, &second, &third].map(woken), [1, 1, 0]);
         let mut used = poll(&mut two, &second).unwrap();
         *used = Some(7);
-        // One that waits no more wakes nobody.
+        // A task that waits no more wakes nobody.
         drop(three);
         drop(used);
         assert_eq!([&first, &second, &third].map(woken), [1, 1, 0]);
-        let (used, is_lost) = lock.lock();
+        let (used, is_lost) = block_on(lock.lock());
         assert!(*used == Some(7) && !is_lost && lock.state().tasks.is_empty());
+    }
+
+    #[test]
+    fn who_waits_for_nothing_gets_it_only_as_it_is_free() {
+        let lock = BodyLock::<u8>::new();
+        let (used, is_lost) = lock.try_lock().unwrap();
+        assert!(lock.try_lock().is_none() && !is_lost);
+        let (mut waits, woken_once) = task(&lock);
+        assert!(poll(&mut waits, &woken_once).is_none());
+        drop(used);
+        assert_eq!(woken(&woken_once), 1);
+        assert!(poll(&mut waits, &woken_once).is_some() && lock.try_lock().is_some());
     }
 
     #[test]
     fn threads_and_tasks_use_it_one_at_a_time_and_a_panic_loses_it() {
         let lock = BodyLock::<usize>::new();
-        *lock.lock().0 = Some(0);
+        *block_on(lock.lock()).0 = Some(0);
         thread::scope(|scope| {
             for _ in 0..4 {
                 scope.spawn(|| {
                     for _ in 0..1_000 {
-                        let mut used = lock.lock().0;
+                        let mut used = block_on(lock.lock()).0;
                         *used = used.map(|it| it + 1);
                     }
                 });
             }
         });
-        assert_eq!(*lock.lock().0, Some(4_000));
+        assert_eq!(*block_on(lock.lock()).0, Some(4_000));
         let panics = || {
-            let _used = lock.lock();
+            let _used = block_on(lock.lock());
             panic!("a callback");
         };
         assert!(std::panic::catch_unwind(std::panic::AssertUnwindSafe(panics)).is_err());
-        let (used, is_lost) = lock.lock();
+        let (used, is_lost) = block_on(lock.lock());
         assert!(used.is_none() && is_lost);
         drop(used);
-        assert!(!lock.lock().1);
+        assert!(!block_on(lock.lock()).1);
     }
 }

@@ -1,41 +1,45 @@
-//! A call's way through a server: it is executed, goes on to another server, or waits.
-use crate::connections::NotAnswered;
-use crate::fleet::FleetInner;
+//! The way of a call through a server: it is executed, forwarded to another server, or waits.
+use crate::conversation::LEAVES;
+use crate::environment::NotAnswered;
+use crate::fleet_inner::FleetInner;
 use crate::frame::{CallFrame, Request, Response, MOST};
-use crate::listener::LEAVES;
 use crate::place::Place;
-use crate::queue::Turn;
-use crate::stream::is_open;
+use crate::queue::{Turn, LOOK};
 use crate::{Destination, Enter, Mode, Permit, Service};
 use durkenzo::MOST_HOPS;
 use durkenzo_control::links::NO_SERVER;
 use std::borrow::Cow;
-use std::net::TcpStream;
 use std::sync::atomic::Ordering;
 use std::time::{Duration, Instant};
 
-/// How long a call waits until it is sent again to a server that isn't reached.
+/// The time after which a call is sent again to a server that can't be reached, or the lease is looked at again.
 const PAUSE: Duration = Duration::from_millis(5);
 
-/// Why a call doesn't wait.
+/// The reason if a call can't wait.
 const FULL: &str = "as many calls wait for the shard as may";
 
-/// What became of a look.
+/// The result of one look at a call.
 enum Step {
     /// The response is written.
     Done,
     /// Nothing was done yet, for this reason.
     Waits(Cow<'static, str>),
-    /// The record by which it was sent isn't read yet. Calls behind it may go on.
+    /// This process hasn't read the record under which the call was sent. The calls behind it may go on.
     Unread,
 }
 
 impl<S: Service> FleetInner<S> {
-    /// Executes the call, or has another server do so, and writes the response. The client is at this connection.
-    pub(crate) fn call(&self, call: &CallFrame<'_>, client: &TcpStream, out: &mut Vec<u8>) {
-        let began = Instant::now();
+    /// Executes the call, or sends it to another server, and writes the response. `is_awaited` tells whether anybody
+    /// still waits for it.
+    pub(crate) async fn call(
+        &self,
+        call: &CallFrame<'_>,
+        is_awaited: &dyn Fn() -> bool,
+        out: &mut Vec<u8>,
+    ) {
+        let began = self.environment.now();
         let budget = Duration::from_millis(u64::from(call.budget));
-        // The client hears in time that nothing was done.
+        // The client must hear in time that nothing was done.
         let patience = (budget - budget / 8).min(self.options.patience());
         let (end, waits) = (began + budget, began + patience);
         let (place, mut turn) = match self.arrived(call.shard) {
@@ -45,36 +49,39 @@ impl<S: Service> FleetInner<S> {
         let mut why = Cow::Borrowed("calls that came before wait for the shard");
         loop {
             if turn.as_ref().is_none_or(Turn::is_first) {
-                match self.look(call, client, end, &mut turn, out) {
+                match self
+                    .look(call, is_awaited, (waits, end), &mut turn, out)
+                    .await
+                {
                     Step::Done => return,
                     Step::Waits(reason) => why = reason,
                     Step::Unread => {
                         why = "the record by which it was sent isn't read yet".into();
                         drop(turn.take());
-                        let left = waits.saturating_duration_since(Instant::now());
-                        std::thread::sleep(PAUSE.min(left));
+                        self.environment.wait(PAUSE, waits).await;
                     }
                 }
             }
-            if Instant::now() >= waits || self.is_stopping() {
+            if self.environment.is_past(waits) || self.is_stopping() {
                 return Response::Again(&why).write(out);
             }
             if let Some(turn) = &turn {
-                turn.wait(waits);
+                turn.woken(self.environment.wait(LOOK, waits)).await;
             } else if !self.has_turn(place, &mut turn) {
                 return Response::Again(FULL).write(out);
             }
         }
     }
 
-    /// Returns the shard's place, with a turn if others wait, or why a call that comes now isn't made.
+    /// Returns the shard's place, with a turn if other calls wait. Fails with the reason if a call that comes now can't
+    /// be made.
     fn arrived(&self, shard: u16) -> Result<(&Place<S::Body>, Option<Turn<'_>>), &'static str> {
         let place = self.places.get(usize::from(shard));
         let place = place.ok_or("there is no such shard")?;
         if self.closing.load(Ordering::Acquire) {
             return Err(LEAVES);
         }
-        // Who comes later waits behind those who wait.
+        // A call that comes later waits behind the calls that wait already.
         let mut turn = None;
         match place.queue.is_empty() || self.has_turn(place, &mut turn) {
             true => Ok((place, turn)),
@@ -82,45 +89,49 @@ impl<S: Service> FleetInner<S> {
         }
     }
 
-    /// Takes a turn behind all others who wait. Returns whether there is room.
+    /// Takes a turn behind all other calls that wait. Returns whether there is room.
     fn has_turn<'a>(&self, place: &'a Place<S::Body>, turn: &mut Option<Turn<'a>>) -> bool {
         *turn = place.queue.enter(self.options.waiting);
         turn.is_some()
     }
 
-    /// Looks once what becomes of the call. Those behind it may look once it is decided.
-    fn look(
+    /// Looks once whether the call can be executed or must go on. As soon as that is decided, the calls behind it may
+    /// look.
+    async fn look(
         &self,
         call: &CallFrame<'_>,
-        client: &TcpStream,
-        end: Instant,
+        is_awaited: &dyn Fn() -> bool,
+        (waits, end): (Instant, Instant),
         turn: &mut Option<Turn<'_>>,
         out: &mut Vec<u8>,
     ) -> Step {
         let place = &self.places[usize::from(call.shard)];
-        if place.known().stood < call.revision {
-            return Step::Unread;
-        }
-        let (to, from) = match self.try_here(call, turn, out) {
+        // If this process executes under the record that it has read, no other process executes under a later record
+        // yet. If it doesn't, the later record tells the server to which the call goes.
+        let is_unread = place.known().stood < call.revision;
+        let (to, from) = match self.try_here(call, waits, turn, out).await {
+            Ok(_) | Err(Step::Waits(_)) if is_unread => return Step::Unread,
             Ok(onward) => onward,
             Err(step) => return step,
         };
         if call.hops >= MOST_HOPS {
             return Step::Waits("it was forwarded as often as it may be".into());
         }
-        // What lay here for long, as this process was paused, is no more to be done if nobody waits for it.
-        if !is_open(client) {
+        // If this process was paused, the call may have been here for long. If nobody waits for it any more, it must
+        // not be made.
+        if !is_awaited() {
             return Step::Done;
         }
         drop(turn.take());
-        self.send_on(call, (&to, from), end, out)
+        self.send_on(call, (&to, from), end, out).await
     }
 
-    /// Executes the call if this process may. Else returns where it goes on, and which server forwards it, or what
-    /// became of it.
-    fn try_here(
+    /// Executes the call, if this process may. If not, returns the server to which the call goes and the server that
+    /// forwards it, or the result of this look.
+    async fn try_here(
         &self,
         call: &CallFrame<'_>,
+        waits: Instant,
         turn: &mut Option<Turn<'_>>,
         out: &mut Vec<u8>,
     ) -> Result<(Destination, u16), Step> {
@@ -128,10 +139,10 @@ impl<S: Service> FleetInner<S> {
             NO_SERVER => Mode::Direct,
             from => Mode::Forwarded(from),
         };
-        match self.enter(call.shard, mode) {
+        match self.enter(call.shard, mode).await {
             Enter::Here(permit) => {
                 drop(turn.take());
-                execute(permit, call, out);
+                self.execute(permit, call, waits, out).await;
                 Err(Step::Done)
             }
             Enter::Forward(to) => Ok((to, self.server())),
@@ -144,18 +155,49 @@ impl<S: Service> FleetInner<S> {
         }
     }
 
-    /// Sends the call on, with what is left of its budget.
-    fn send_on(
+    /// Executes the call. Writes the answer only if the permit is seen to hold still, and in time. If a keep of the
+    /// lease is on its way, this waits for its answer. The answer can show that the lease hasn't ended since the call
+    /// began.
+    pub(crate) async fn execute(
+        &self,
+        mut permit: Permit<'_, S>,
+        call: &CallFrame<'_>,
+        waits: Instant,
+        out: &mut Vec<u8>,
+    ) {
+        let answer = permit.answer(call.request);
+        if answer.len() > MOST {
+            let why = format!("it was, and its answer is longer than {MOST} bytes");
+            return Response::Unsure(&why).write(out);
+        }
+        while !permit.holds() {
+            if !self.may_hold_again(&permit) || self.environment.is_past(waits) {
+                let why = "the server's lease may have ended before it answered";
+                return Response::Unsure(why).write(out);
+            }
+            self.environment.wait(PAUSE, waits).await;
+        }
+        let answered = Response::Answered {
+            server: self.server(),
+            hops: call.hops,
+            fence: permit.fence(),
+            answer: &answer,
+        };
+        answered.write(out);
+    }
+
+    /// Sends the call to another server, with the rest of its budget.
+    async fn send_on(
         &self,
         call: &CallFrame<'_>,
         (to, from): (&Destination, u16),
         end: Instant,
         out: &mut Vec<u8>,
     ) -> Step {
-        let left = end.saturating_duration_since(Instant::now());
+        let left = self.environment.left(end);
         let budget = left.as_millis() as u32;
         let Some(address) = to.address.as_deref().filter(|_| budget > 0) else {
-            std::thread::sleep(PAUSE.min(left));
+            self.environment.wait(PAUSE, end).await;
             return Step::Waits(format!("server {} isn't there", to.server).into());
         };
         let onward = CallFrame {
@@ -165,11 +207,12 @@ impl<S: Service> FleetInner<S> {
             budget,
             ..*call
         };
-        match self.connections.ask(address, &Request::Call(onward), left) {
+        let asked = Request::Call(onward).written();
+        match self.environment.ask(address, asked, end).await {
             Ok(bytes) => {
                 let step = returned(&bytes, out);
                 if matches!(step, Step::Waits(_)) {
-                    std::thread::sleep(PAUSE.min(left));
+                    self.environment.wait(PAUSE, end).await;
                 }
                 step
             }
@@ -178,34 +221,14 @@ impl<S: Service> FleetInner<S> {
                 Step::Done
             }
             Err(error @ NotAnswered::Unreached(..)) => {
-                std::thread::sleep(PAUSE.min(left));
+                self.environment.wait(PAUSE, end).await;
                 Step::Waits(error.to_string().into())
             }
         }
     }
 }
 
-/// Executes the call, and writes the answer, if the permit holds still.
-fn execute<S: Service>(mut permit: Permit<'_, S>, call: &CallFrame<'_>, out: &mut Vec<u8>) {
-    let answer = permit.answer(call.request);
-    if answer.len() > MOST {
-        let why = "the call was made, and its answer is too large to be sent";
-        return Response::Unsure(why).write(out);
-    }
-    if !permit.holds() {
-        let why = "the server's lease may have ended before it answered";
-        return Response::Unsure(why).write(out);
-    }
-    let answered = Response::Answered {
-        server: permit.fleet.server(),
-        hops: call.hops,
-        fence: permit.fence(),
-        answer: &answer,
-    };
-    answered.write(out);
-}
-
-/// Writes what another server has answered, unless nothing was done there.
+/// Writes the answer of another server, unless nothing was done there.
 fn returned(bytes: &[u8], out: &mut Vec<u8>) -> Step {
     match Response::read(bytes) {
         Ok(Response::Again(why)) => return Step::Waits(why.to_owned().into()),

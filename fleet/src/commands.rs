@@ -1,29 +1,31 @@
 //! Commands for the control, from this process, from clients, and from other processes.
-use crate::fleet::FleetInner;
+use crate::environment::before;
+use crate::fleet_inner::FleetInner;
 use crate::frame::{self, Response};
 use crate::Service;
 use durkenzo_control::control::{Asked, ControlAnswer, Refusal, ReplyTo, Words};
-use std::sync::mpsc::{sync_channel, Receiver, RecvTimeoutError, SyncSender};
 use std::sync::PoisonError;
 use std::time::Duration;
+use tokio::sync::oneshot::{self, Receiver, Sender};
 
-/// How often it is looked whether this process leaves, while a command is waited for.
+/// How often this process looks whether it is leaving, while it waits for a command.
 const LOOK: Duration = Duration::from_millis(100);
-/// How an answer begins that is a refusal.
+/// The first character of an answer that is a refusal.
 pub(crate) const REFUSED: char = '-';
 
-/// What became of a command.
+/// The outcome of a command.
+#[derive(Debug)]
 pub(crate) enum Told {
-    /// This was answered.
+    /// The control has answered this.
     Answer(Vec<u8>),
-    /// Nothing was done here, as another process leads.
+    /// Nothing was done here, because another process leads.
     NotHere,
 }
 
-/// Where the answer to a command goes.
+/// Takes the answer to a command.
 #[derive(Debug)]
 pub(crate) struct Reply {
-    pub(crate) tell: SyncSender<Told>,
+    pub(crate) tell: Sender<Told>,
     /// Whether another server passed the command on.
     pub(crate) is_passed_on: bool,
 }
@@ -44,7 +46,7 @@ impl ReplyTo for Reply {
     }
 
     fn give_back(self: Box<Self>) {
-        // Nobody may wait any more.
+        // Perhaps nobody waits any more.
         let _ = self.tell.send(Told::NotHere);
     }
 
@@ -54,9 +56,9 @@ impl ReplyTo for Reply {
 }
 
 impl<S: Service> FleetInner<S> {
-    /// Gives the control the command, and returns where its answer comes.
+    /// Gives the control the command, and returns the receiver of its answer.
     fn ask(&self, words: Words, is_passed_on: bool) -> Option<Receiver<Told>> {
-        let (tell, told) = sync_channel(1);
+        let (tell, told) = oneshot::channel();
         let reply_to = Box::new(Reply { tell, is_passed_on });
         let control = self.control.lock().unwrap_or_else(PoisonError::into_inner);
         let sent = control.as_ref()?.send(Asked { words, reply_to });
@@ -64,35 +66,39 @@ impl<S: Service> FleetInner<S> {
     }
 
     /// Waits for the answer, for as long as this process stays.
-    fn wait_for(&self, told: &Receiver<Told>) -> Option<Told> {
+    async fn wait_for(&self, mut told: Receiver<Told>) -> Option<Told> {
         loop {
-            match told.recv_timeout(LOOK) {
-                Ok(told) => return Some(told),
-                Err(RecvTimeoutError::Timeout) if !self.is_stopping() => {}
-                Err(RecvTimeoutError::Timeout | RecvTimeoutError::Disconnected) => return None,
+            let soon = self.environment.end_of(LOOK);
+            let came = before(&mut told, self.environment.wait_until(soon)).await;
+            match came {
+                Some(told) => return told.ok(),
+                None if self.is_stopping() => return None,
+                None => {}
             }
         }
     }
 
-    pub(crate) fn command(&self, words: &[&str]) -> Result<Vec<String>, String> {
-        let words = Words::of(std::iter::once("SM").chain(words.iter().copied()));
-        let told = self.ask(words, false).and_then(|it| self.wait_for(&it));
+    pub(crate) async fn command(&self, words: &[&str]) -> Result<Vec<String>, String> {
+        let told = match self.ask(Words::of(with_sm(words)), false) {
+            Some(told) => self.wait_for(told).await,
+            None => None,
+        };
         match told {
-            Some(Told::Answer(answer)) => lines(&answer),
+            Some(Told::Answer(answer)) => lines(words, &answer),
             Some(Told::NotHere) | None => {
                 Err("this process leaves: look before you try again".to_owned())
             }
         }
     }
 
-    /// Has the control answer the words of a frame.
-    pub(crate) fn answer_command(&self, bytes: &[u8], is_passed_on: bool, out: &mut Vec<u8>) {
+    /// Makes the control answer the words of a frame.
+    pub(crate) async fn answer_command(&self, bytes: &[u8], is_passed_on: bool, out: &mut Vec<u8>) {
         let words = match frame::words(bytes) {
             Ok(words) => Words::of(words),
             Err(error) => return Response::Again(&error.to_string()).write(out),
         };
         let told = match self.ask(words, is_passed_on) {
-            Some(told) => self.wait_for(&told),
+            Some(told) => self.wait_for(told).await,
             None => return Response::Again("this process leaves").write(out),
         };
         match told {
@@ -102,8 +108,8 @@ impl<S: Service> FleetInner<S> {
         }
     }
 
-    /// The settings of the fleet in two lines, and then each shard that has an owner which is there: its number, the
-    /// revision of its record, the owner and where that is.
+    /// Returns the settings of the fleet in two lines, and a line for each shard that has an owner with a known
+    /// address: the number of the shard, the revision of its record, the owner, and the owner's address.
     pub(crate) fn routes(&self) -> String {
         let mut text = format!("{}\n", self.settings);
         for (shard, place) in self.places.iter().enumerate() {
@@ -122,11 +128,30 @@ impl<S: Service> FleetInner<S> {
     }
 }
 
-/// The lines of an answer, or what is refused.
-pub(crate) fn lines(answer: &[u8]) -> Result<Vec<String>, String> {
+/// Returns the command with SM before it, because the control needs that word even if the caller left it out.
+pub(crate) fn with_sm<'a>(words: &'a [&'a str]) -> impl Iterator<Item = &'a str> {
+    std::iter::once("SM").chain(bare(words).iter().copied())
+}
+
+/// Returns the command without SM, if SM is before it.
+fn bare<'a, 'b>(words: &'a [&'b str]) -> &'a [&'b str] {
+    match words {
+        [sm, command @ ..] if sm.eq_ignore_ascii_case("SM") => command,
+        command => command,
+    }
+}
+
+/// Returns the lines of the answer to this command, or its refusal. After a resize, the answer is the number of
+/// servers.
+pub(crate) fn lines(words: &[&str], answer: &[u8]) -> Result<Vec<String>, String> {
     let text = String::from_utf8_lossy(answer);
-    match text.strip_prefix(REFUSED) {
-        Some(refusal) => Err(refusal.to_owned()),
-        None => Ok(text.lines().map(str::to_owned).collect()),
+    if let Some(refusal) = text.strip_prefix(REFUSED) {
+        return Err(refusal.to_owned());
+    }
+    match bare(words) {
+        [word, servers] if word.eq_ignore_ascii_case("RESIZE") => {
+            Ok(vec![format!("servers {servers}")])
+        }
+        _ => Ok(text.lines().map(str::to_owned).collect()),
     }
 }

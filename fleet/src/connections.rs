@@ -1,3 +1,4 @@
+use crate::environment::NotAnswered;
 use crate::frame::{self, Request, WRITTEN};
 use crate::idle_connections::{IdleConnections, Quiet};
 use crate::introduction::Introduction;
@@ -7,49 +8,38 @@ use std::collections::HashSet;
 use std::io::{self, Read, Write};
 use std::sync::{Mutex, MutexGuard, PoisonError};
 use std::time::{Duration, Instant};
-use thiserror::Error;
 
-/// How long it takes at most until both sides know each other.
+/// The longest time until both sides know each other.
 pub(crate) const MEET: Duration = Duration::from_secs(5);
-/// How long a connection isn't looked at since it was used: a server that closes it may do so behind a look, too.
+/// A connection that was used less than this time ago isn't checked, because the server could also close it just after
+/// the check.
 const MOMENT: Duration = Duration::from_micros(100);
-/// How long a request is at most that a connection takes at once, as nothing else is on its way there.
+/// The longest request that a connection takes at once, if nothing else is on its way there.
 const SHORT: usize = 4 << 10;
-/// By which part of its time a response may be waited for longer, so that the time isn't set for each.
+/// A response may take longer than its time by this part of it, so that the timeout needn't be set for each response.
 const LATER: u32 = 16;
-/// Of how many addresses it is noted at most that they refuse.
+/// The most addresses of refusing servers that are kept.
 const REFUSING: usize = 4_096;
 
-/// Connections to servers of a fleet. A call has one for itself.
+/// Connections to the servers of a fleet. Each call has a connection for itself.
 pub(crate) struct Connections {
     introduction: Introduction,
     idle: Mutex<IdleConnections<Connection>>,
-    /// Who refuses this process, of which the log tells once.
+    /// The addresses of the servers that refuse this process. The log tells of each of them once.
     refusing: Mutex<HashSet<String>>,
 }
 
-/// A connection, on which one request is under way at a time.
+/// A connection with only one request under way at a time.
 struct Connection {
     stream: Stream,
-    /// How long a response is waited for.
+    /// The longest time to wait for a response.
     within: Duration,
     /// When the last response came.
     used: Instant,
 }
 
-/// Why there is no response.
-#[derive(Debug, Error)]
-pub(crate) enum NotAnswered {
-    /// The server didn't get the request, so nothing is done.
-    #[error("{0} isn't reached: {1}")]
-    Unreached(String, MeetError),
-    /// The server may have got it.
-    #[error("{0} didn't answer: {1}")]
-    Lost(String, io::Error),
-}
-
 impl Connections {
-    /// Returns connections of who makes itself known so.
+    /// Returns connections that are made with this introduction.
     pub(crate) fn new(introduction: Introduction) -> Connections {
         Connections {
             introduction,
@@ -58,42 +48,39 @@ impl Connections {
         }
     }
 
-    /// How this side makes itself known.
+    /// Returns the introduction of this side.
     pub(crate) fn introduction(&self) -> &Introduction {
         &self.introduction
     }
 
-    /// Sends the request, and waits so long for the bytes of the response.
+    /// Sends the request, and waits at most this long for the bytes of the response.
     pub(crate) fn ask(
         &self,
         address: &str,
         request: &Request<'_>,
         within: Duration,
     ) -> Result<Vec<u8>, NotAnswered> {
-        let mut bytes = Vec::with_capacity(frame::FIRST);
-        request.write(&mut bytes);
-        self.ask_bytes(address, bytes, within)
+        self.ask_bytes(address, request.written(), Instant::now() + within)
     }
 
-    /// Sends these bytes of a request as [`Connections::ask`] does.
+    /// Sends these bytes of a request as [`Connections::ask`] does, and waits until this time.
     pub(crate) fn ask_bytes(
         &self,
         address: &str,
         mut bytes: Vec<u8>,
-        within: Duration,
+        end: Instant,
     ) -> Result<Vec<u8>, NotAnswered> {
-        let end = Instant::now() + within;
         let unreached = |error| NotAnswered::Unreached(address.to_owned(), error);
         let mut connection = match self.kept(address) {
             Some(connection) => connection,
             None => Connection::new(self.connect(address, left(end)).map_err(unreached)?),
         };
-        // A server that gets only a part of a frame does nothing of it.
-        let sent = connection.send(&bytes, left(end));
+        // If a server gets only a part of a frame, it does nothing.
+        let sent = connection.send(&bytes, end);
         sent.map_err(|error| unreached(error.into()))?;
-        let received = connection.receive(&mut bytes, left(end));
+        let received = connection.receive(&mut bytes, end);
         let is_alone = received.map_err(|error| NotAnswered::Lost(address.to_owned(), error))?;
-        // A server that says more than its answer ends the connection.
+        // If a server says more than its answer, it ends the connection.
         if is_alone {
             self.idle().keep(address, connection);
         }
@@ -114,7 +101,7 @@ impl Connections {
         }
     }
 
-    /// Reaches the server there, and has it know this side.
+    /// Connects to the server at this address, and introduces this side.
     pub(crate) fn connect(&self, address: &str, within: Duration) -> Result<Stream, MeetError> {
         let met = Stream::connect(address, &self.introduction, within.min(MEET));
         let mut refusing = self.refusing.lock().unwrap_or_else(PoisonError::into_inner);
@@ -140,23 +127,23 @@ impl Connection {
         }
     }
 
-    /// Sends a request. One that is short lies in the connection at once.
-    fn send(&mut self, bytes: &[u8], within: Duration) -> io::Result<()> {
+    /// Sends a request, until this time. A short request needs no timeout of its own, because the connection takes it
+    /// at once.
+    fn send(&mut self, bytes: &[u8], end: Instant) -> io::Result<()> {
         if bytes.len() > SHORT {
-            self.stream.set_write_timeout(within.min(WRITTEN))?;
+            self.stream.set_write_timeout(left(end).min(WRITTEN))?;
         }
         self.stream.write_all(bytes)
     }
 
-    /// Waits so long for all of a response, or a little longer. Returns whether nothing came behind it.
-    fn receive(&mut self, room: &mut Vec<u8>, within: Duration) -> io::Result<bool> {
-        let end = Instant::now() + within;
+    /// Waits for all of a response, until this time or a little longer. Returns whether nothing came behind it.
+    fn receive(&mut self, room: &mut Vec<u8>, end: Instant) -> io::Result<bool> {
         let is_alone = frame::receive_last(&mut Incoming(self, end), room)?;
         self.used = Instant::now();
         Ok(is_alone)
     }
 
-    /// Has each read end after this time, or a little later.
+    /// Makes each read end after this time, or a little later.
     fn wait_within(&mut self, within: Duration) -> io::Result<()> {
         if self.within < within || self.within > within + within / LATER {
             self.stream.set_read_timeout(within)?;
@@ -172,7 +159,7 @@ impl Quiet for Connection {
     }
 }
 
-/// What comes by a connection until this time.
+/// Reads from a connection until this time.
 struct Incoming<'a>(&'a mut Connection, Instant);
 
 impl Read for Incoming<'_> {
@@ -196,14 +183,14 @@ mod tests {
     use std::sync::Arc;
     use std::thread::{self, JoinHandle};
 
-    /// How long something is waited for that has to come, on a machine that may be busy.
+    /// The longest wait for an event that must come, on a machine that may be busy.
     const SOON: Duration = Duration::from_secs(60);
 
     fn introduction() -> Introduction {
         Introduction::of_client(&Safety::default(), 7)
     }
 
-    /// Has a server take so many connections in turn, and do so with each.
+    /// Starts a server that takes this many connections in turn, and calls `serve` with each.
     fn serving(
         count: usize,
         serve: impl Fn(&mut Stream) + Send + 'static,

@@ -1,17 +1,17 @@
-/// Which copy of a body is meant. The names that a server chooses rise, also from one of its processes to the next, so
-/// a request for an earlier copy that comes late is told apart.
+/// The name of a copy of a body. The names that a server chooses rise, even from one of its processes to the next. So a
+/// late request for an earlier copy is recognized.
 #[derive(Clone, Copy, Debug, PartialEq, Eq)]
 pub(crate) struct CopyName {
-    /// The server that chose the name: the next owner if it fetches the copy, or else the owner.
+    /// The server that chose the name. This is the next owner if it fetches the copy, or else the owner.
     pub(crate) server: u16,
-    /// The revision of the server's key then.
+    /// The revision of the server's key at that time.
     pub(crate) joined: u64,
-    /// How many copies its process had named.
+    /// How many copies its process had named before.
     pub(crate) count: u64,
 }
 
 impl CopyName {
-    /// Returns whether the server that chose the other name chose this one later.
+    /// Returns whether the same server chose both names, and chose this one later.
     pub(crate) fn is_later_than(self, other: CopyName) -> bool {
         let age = |it: CopyName| (it.joined, it.count);
         self.server == other.server && age(self) > age(other)

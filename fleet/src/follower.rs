@@ -1,116 +1,36 @@
-//! The threads that tell this process's views of shards what it learns: that its lease was kept, what it reads, and who
-//! has let go.
-use crate::fleet::{nanoseconds, FleetInner};
+//! Tells this process's views of shards the news: that its lease was kept, which records it reads, and which owners
+//! have let go.
+use crate::fleet_inner::{nanoseconds, FleetInner};
 use crate::place::Basis;
-use crate::{JoinError, Service};
-use durkenzo_driver::{KeptLease, OpenFault, ShardReading};
+use crate::Service;
+use durkenzo_driver::{KeptLease, ShardSnapshot};
 use durkenzo_store_sys::ShardView;
-use std::sync::mpsc::{sync_channel, Receiver, Sender, SyncSender};
-use std::sync::{mpsc, Arc, Mutex, PoisonError, Weak};
-use std::thread;
-use std::time::Duration;
+use std::sync::atomic::Ordering;
 
-/// How often it is looked whether the lease was kept.
-const KEPT: Duration = Duration::from_millis(10);
-/// How often it is looked what is to be read, though nobody told.
-const TICK: Duration = Duration::from_millis(20);
-/// How many shards are read at once.
+/// The number of shards that are read at once.
 const GROUP: usize = 32;
-/// How many threads do what records ask for, beside those that fetch bodies.
-const SETTLERS: u16 = 4;
-
-/// Tells the follower that something has changed.
-pub(crate) struct Notices(SyncSender<()>);
-
-impl Notices {
-    pub(crate) fn new() -> (Notices, Receiver<()>) {
-        let (tell, told) = sync_channel(1);
-        (Notices(tell), told)
-    }
-
-    /// Returns what is called when something has changed. One notice that waits is enough.
-    pub(crate) fn teller(&self) -> Box<dyn Fn() + Send + Sync> {
-        let tell = self.0.clone();
-        Box::new(move || {
-            let _ = tell.try_send(());
-        })
-    }
-}
-
-/// Begins the threads. They end when the fleet does.
-pub(crate) fn begin<S: Service>(
-    fleet: &Arc<FleetInner<S>>,
-    noticed: Receiver<()>,
-) -> Result<(), JoinError> {
-    let (jobs, handed) = mpsc::channel();
-    let handed = Arc::new(Mutex::new(handed));
-    for number in 0..SETTLERS + fleet.options.moves {
-        let (fleet, handed) = (Arc::downgrade(fleet), handed.clone());
-        spawn(format!("settler-{number}"), move || {
-            settle_all(&fleet, &handed)
-        })?;
-    }
-    let keeping = Arc::downgrade(fleet);
-    spawn("keeper".to_owned(), move || keep_all(&keeping))?;
-    let following = Arc::downgrade(fleet);
-    spawn("follower".to_owned(), move || {
-        follow_all(&following, &noticed, &jobs)
-    })
-}
-
-pub(crate) fn spawn(name: String, run: impl FnOnce() + Send + 'static) -> Result<(), JoinError> {
-    let spawned = thread::Builder::new().name(name).spawn(run);
-    spawned
-        .map(drop)
-        .map_err(|error| OpenFault::Thread(error).into())
-}
-
-/// Returns the fleet, unless it ends.
-fn running<S: Service>(fleet: &Weak<FleetInner<S>>) -> Option<Arc<FleetInner<S>>> {
-    fleet.upgrade().filter(|it| !it.is_stopping())
-}
-
-fn keep_all<S: Service>(fleet: &Weak<FleetInner<S>>) {
-    while let Some(fleet) = running(fleet) {
-        fleet.keep();
-        drop(fleet);
-        thread::sleep(KEPT);
-    }
-}
-
-fn follow_all<S: Service>(fleet: &Weak<FleetInner<S>>, noticed: &Receiver<()>, jobs: &Sender<u16>) {
-    while let Some(fleet) = running(fleet) {
-        fleet.follow();
-        fleet.hand_out(jobs);
-        drop(fleet);
-        // Whether somebody told or time has passed, it is looked.
-        let _ = noticed.recv_timeout(TICK);
-    }
-}
-
-fn settle_all<S: Service>(fleet: &Weak<FleetInner<S>>, handed: &Mutex<Receiver<u16>>) {
-    loop {
-        let next = handed.lock().unwrap_or_else(PoisonError::into_inner).recv();
-        match (next, running(fleet)) {
-            (Ok(shard), Some(fleet)) => fleet.settle(shard),
-            _ => return,
-        }
-    }
-}
 
 impl<S: Service> FleetInner<S> {
-    /// Until when this process goes by the lease, by its clock.
+    /// Returns the time until which this process may rely on the lease, by its own clock.
     fn until(&self, kept: &KeptLease) -> u64 {
         nanoseconds(self.by_clock(kept.asked) + self.options.allowed(kept.length))
     }
 
-    /// Tells the views that the lease was kept. A view of an earlier lease ends with that one. All views end if the
-    /// store says that the lease has ended.
-    fn keep(&self) {
-        let Some(kept) = self.member.kept_lease() else {
-            return self.end_views();
-        };
-        let until = self.until(&kept);
+    /// Tells the views that the lease was kept. A view of an earlier lease ends with that lease. If the store says that
+    /// the lease has ended, ends all views.
+    pub(crate) fn keep(&self) {
+        let kept = self.member.kept_lease();
+        let until = kept.as_ref().map_or(0, |it| self.until(it));
+        match kept {
+            Some(kept) => self.keep_views(&kept, until),
+            None => self.end_views(),
+        }
+        // The views must hear first, because the reader of the message may hang.
+        self.tell_of_lease(until);
+    }
+
+    /// Tells the views that this lease was kept until then.
+    fn keep_views(&self, kept: &KeptLease, until: u64) {
         for place in &self.places {
             let mut known = place.known();
             if known.view.joined() == kept.joined.0 && !self.is_stopping() {
@@ -121,8 +41,22 @@ impl<S: Service> FleetInner<S> {
         }
     }
 
-    /// Reads what has changed, and tells the views.
-    fn follow(&self) {
+    /// Tells the operator when this process is no longer sure of its lease, and when it is sure again. The process
+    /// relies on the lease until this time.
+    fn tell_of_lease(&self, until: u64) {
+        let is_sure = self.now() < until;
+        if self.is_sure.swap(is_sure, Ordering::Relaxed) != is_sure {
+            let what = match is_sure {
+                true => "is sure of its lease",
+                false => "isn't sure of its lease, so calls wait: does etcd answer?",
+            };
+            let server = self.server();
+            self.environment.tell(&format!("server {server} {what}"));
+        }
+    }
+
+    /// Reads the records that have changed, and tells the views.
+    pub(crate) fn follow(&self) {
         let Some(kept) = self.member.kept_lease() else {
             return;
         };
@@ -131,7 +65,7 @@ impl<S: Service> FleetInner<S> {
             .collect();
         for group in due.chunks(GROUP) {
             let asked: Vec<_> = group.iter().map(|it| (it.0, it.1)).collect();
-            let read = ShardReading::read(&**self.durable.store(), self.server(), &asked);
+            let read = ShardSnapshot::read(&**self.durable.store(), self.server(), &asked);
             let read = match read {
                 Ok(read) => read,
                 Err(error) => return tracing::warn!(%error, "shards aren't read for now"),
@@ -146,12 +80,14 @@ impl<S: Service> FleetInner<S> {
         (0..self.places.len() as u16).for_each(|it| self.see_ack(it));
     }
 
-    /// The shard with its owner, and what was seen of both, if that isn't what was seen at the last reading.
+    /// Returns the shard, its owner, and the facts that are seen of both, if these facts have changed since the last
+    /// reading.
     fn due(&self, shard: u16, kept: &KeptLease) -> Option<(u16, Option<u16>, Basis)> {
         let stored = self.durable.standing(shard)?;
         let owner = stored.record().and_then(|it| it.owner());
         let basis = Basis {
             stood: stored.revision(),
+            ownership: self.durable.ownership(shard)?,
             joined: kept.joined,
             is_away: self.durable.is_away(self.server()),
             owner_joined: owner.and_then(|it| self.member.members().joined_of(it)),
@@ -161,13 +97,19 @@ impl<S: Service> FleetInner<S> {
         is_due.then_some((shard, owner, basis))
     }
 
-    /// Tells the view of the shard what was read, under this lease.
-    fn take(&self, shard: u16, reading: &ShardReading, (kept, basis): (&KeptLease, Basis)) {
+    /// Takes this reading into the view of the shard, under this lease.
+    fn take(&self, shard: u16, reading: &ShardSnapshot, (kept, basis): (&KeptLease, Basis)) {
         let place = &self.places[usize::from(shard)];
         let mut known = place.known();
+        let owner = reading.stored.record().and_then(|it| it.owner());
+        if known.waits_to_see((owner, reading.stored.revision()), &basis) {
+            return;
+        }
         if known.view.joined() != kept.joined.0 {
             match ShardView::new(self.server(), kept.joined.0, self.until(kept)) {
-                Ok(view) if !self.is_stopping() => known.view = view,
+                Ok(view) if !self.is_stopping() => {
+                    (known.view, known.tenure) = (view, kept.since.0)
+                }
                 _ => return,
             }
         }
@@ -178,7 +120,8 @@ impl<S: Service> FleetInner<S> {
         place.queue.wake();
     }
 
-    /// Tells the view of the shard that the owner which forwards to this process has let go, if it was seen to say so.
+    /// Tells the view of the shard that the owner that forwards to this process has let go, if an ack of the owner was
+    /// seen.
     fn see_ack(&self, shard: u16) {
         let place = &self.places[usize::from(shard)];
         let mut known = place.known();
@@ -195,14 +138,14 @@ impl<S: Service> FleetInner<S> {
         }
     }
 
-    /// Hands out the shards of which a record asks something.
-    fn hand_out(&self, jobs: &Sender<u16>) {
+    /// Hands out the shards for which a record asks for work. `give` tells whether a shard is taken.
+    pub(crate) fn hand_out(&self, mut give: impl FnMut(u16) -> bool) {
         for (shard, place) in self.places.iter().enumerate() {
             let mut known = place.known();
-            let wanted = Some((known.word, known.view.is_freed()));
+            let wanted = Some(known.to_settle());
             if known.basis.is_some() && !known.settles && known.settled != wanted {
-                // It ends only with the fleet.
-                known.settles = jobs.send(shard as u16).is_ok();
+                // `give` fails only when the fleet ends.
+                known.settles = give(shard as u16);
             }
         }
     }

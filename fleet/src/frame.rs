@@ -1,72 +1,71 @@
-//! What clients and servers of a fleet send each other: frames with a length, a kind and fields, the greatest byte
-//! first.
+//! The messages between clients and servers of a fleet: frames with a length, a kind and fields, in big-endian order.
 use crate::copy_name::CopyName;
 use durkenzo_control::links::{Fields, WireFault};
 use durkenzo_store_sys::HandOver;
 use std::io::{self, Read};
 use std::time::Duration;
 
-/// How many bytes of a whole body one frame carries at most. One frame of a body is under way at a time.
+/// The most bytes of a whole body in one frame. Only one frame of a body is under way at a time.
 pub(crate) const CHUNK: usize = 256 << 10;
-/// How many bytes a request and an answer have at most.
+/// The most bytes of a request, and of an answer.
 pub(crate) const MOST: usize = 1 << 20;
-/// How long a frame is at most: it has fields beside its payload.
+/// The most bytes of a frame. It has fields besides its payload.
 pub(crate) const LONGEST: usize = MOST + 64;
-/// How long it takes at most until a frame is written to a connection.
+/// The longest time for writing a frame to a connection.
 pub(crate) const WRITTEN: Duration = Duration::from_secs(5);
-/// How many bytes are read at once of what has mostly fewer.
+/// The number of bytes that are read at once. Most frames are shorter.
 pub(crate) const FIRST: usize = 512;
-/// How many words a command has at most.
+/// The most words of a command.
 const WORDS: u32 = 64;
 
-/// What is asked.
+/// A request to a process.
 #[derive(Clone, Copy, Debug, PartialEq, Eq)]
 pub(crate) enum Request<'a> {
-    /// A client's call, or one that another server sends on.
+    /// A client's call, or a call that another server sends on.
     Call(CallFrame<'a>),
-    /// The next owner asks for the piece of a copy behind `at` bytes, by the record of this generation.
+    /// The next owner asks for the piece of a copy that begins after `at` bytes, under the record of this generation.
     Copy {
         shard: u16,
         generation: u64,
         name: CopyName,
         at: u64,
     },
-    /// The owner hands over a piece of what the next owner needs.
+    /// The owner hands over a piece of the body.
     Hand(HandFrame<'a>),
-    /// A command for the control. One that another server passed on goes no further.
+    /// A command for the control. If another server passed it on, it goes no further.
     Command { is_passed_on: bool, words: &'a [u8] },
-    /// A client asks which server owns each shard, and where servers are.
+    /// A client asks for the owner of each shard, and for the addresses of the servers.
     Routes,
 }
 
-/// A call on its way.
+/// A call, as it is sent.
 #[derive(Clone, Copy, Debug, PartialEq, Eq)]
 pub(crate) struct CallFrame<'a> {
     pub(crate) shard: u16,
-    /// The server that forwarded it as the shard's owner or previous owner, or 0.
+    /// The server that forwarded the call as the shard's owner or previous owner, or 0.
     pub(crate) from: u16,
     pub(crate) hops: u8,
-    /// The revision of the shard's record by which it was sent here.
+    /// The revision of the shard's record under which the call was sent here.
     pub(crate) revision: u64,
-    /// How many milliseconds are left of its budget.
+    /// The rest of the call's budget, in milliseconds.
     pub(crate) budget: u32,
     pub(crate) request: &'a [u8],
 }
 
-/// A piece of what is handed over, and what it names.
+/// A piece of a body that is handed over, and the hand-over to which it belongs.
 #[derive(Clone, Copy, Debug, PartialEq, Eq)]
 pub(crate) struct HandFrame<'a> {
     pub(crate) shard: u16,
     pub(crate) hand: HandOver,
-    /// The copy that it is a piece of; none if it is of the bytes of a whole body.
+    /// The copy to which the piece belongs. There is none if it belongs to the bytes of a whole body.
     pub(crate) copy: Option<CopyName>,
-    /// How many bytes came before it.
+    /// The number of bytes that came before the piece.
     pub(crate) at: u64,
     pub(crate) is_last: bool,
     pub(crate) bytes: &'a [u8],
 }
 
-/// What is answered.
+/// The response of a process.
 #[derive(Clone, Copy, Debug, PartialEq, Eq)]
 pub(crate) enum Response<'a> {
     /// The call was made.
@@ -76,17 +75,17 @@ pub(crate) enum Response<'a> {
         fence: u64,
         answer: &'a [u8],
     },
-    /// Nothing was done: it may be asked again.
+    /// Nothing was done. The request may be sent again.
     Again(&'a str),
-    /// It may have been done.
+    /// The call or the command may have been done.
     Unsure(&'a str),
     /// A piece of a copy, and about how many bytes are left.
     Piece { left: u64, bytes: &'a [u8] },
-    /// It was taken.
+    /// The piece was taken.
     Taken,
-    /// What the control answers, or a map of routes.
+    /// The control's answer, or a map of routes.
     Text(&'a [u8]),
-    /// It isn't taken, because it continues no copy that is here.
+    /// The piece isn't taken, because this process has no copy that it continues.
     NoCopy(&'a str),
 }
 
@@ -136,6 +135,13 @@ impl HandFrame<'_> {
 }
 
 impl<'a> Request<'a> {
+    /// Returns the bytes of the frame, with room for the bytes of a response.
+    pub(crate) fn written(&self) -> Vec<u8> {
+        let mut bytes = Vec::with_capacity(FIRST);
+        self.write(&mut bytes);
+        bytes
+    }
+
     pub(crate) fn write(&self, out: &mut Vec<u8>) {
         framed(out, |out| match self {
             Request::Call(call) => call.write(out),
@@ -275,12 +281,12 @@ fn text(bytes: &[u8]) -> Result<&str, WireFault> {
     std::str::from_utf8(bytes).map_err(|_| WireFault::Text)
 }
 
-/// Writes a frame whose fields this writes.
+/// Writes a frame. `write` writes its fields.
 fn framed(out: &mut Vec<u8>, write: impl FnOnce(&mut Vec<u8>)) {
     let begin = out.len();
     out.extend([0; 4]);
     write(out);
-    // What is longer than a frame may be is refused before it is written.
+    // A request, an answer or a piece that is too long was refused before, so the length fits.
     let length = (out.len() - begin - 4) as u32;
     out[begin..begin + 4].copy_from_slice(&length.to_be_bytes());
 }
@@ -309,8 +315,8 @@ pub(crate) fn words(bytes: &[u8]) -> Result<Vec<&[u8]>, WireFault> {
     Ok(words)
 }
 
-/// Reads the frame with which these bytes begin as a request and as a response, with a command's words. Returns the
-/// bytes of each that it is, spelled anew. Only fuzzing asks for it.
+/// Reads the first frame of these bytes both as a request, with the words of a command, and as a response. For each of
+/// the two, returns the bytes written anew, if the frame can be read so. Only fuzzing uses this.
 #[doc(hidden)]
 pub fn respelled(mut bytes: &[u8]) -> [Option<Vec<u8>>; 2] {
     let mut room = Vec::new();
@@ -343,7 +349,7 @@ pub fn respelled(mut bytes: &[u8]) -> [Option<Vec<u8>>; 2] {
     [request, response]
 }
 
-/// Reads a frame into the room. One that is longer than [`LONGEST`] is refused before there is room for it.
+/// Reads a frame into the room. If the frame is longer than [`LONGEST`], refuses it before making room for it.
 pub(crate) fn receive(from: &mut impl Read, room: &mut Vec<u8>) -> io::Result<()> {
     let mut length = [0; 4];
     from.read_exact(&mut length)?;
@@ -355,7 +361,7 @@ pub(crate) fn receive(from: &mut impl Read, room: &mut Vec<u8>) -> io::Result<()
         ));
     }
     room.clear();
-    // There is room for what has come, not for what is said to come.
+    // This makes room only for the bytes that have come, because the length may be false.
     from.take(length as u64).read_to_end(room)?;
     match room.len() == length {
         true => Ok(()),
@@ -363,8 +369,8 @@ pub(crate) fn receive(from: &mut impl Read, room: &mut Vec<u8>) -> io::Result<()
     }
 }
 
-/// Reads a frame into the room, as [`receive`] does, but most are read at once. Returns whether nothing was read behind
-/// the frame. If something was, it is dropped, and so nothing more may be read from there.
+/// Reads a frame into the room, as [`receive`] does, but reads most frames at once. Returns whether nothing was read
+/// behind the frame. If something was, it is dropped, so the caller must not read from there again.
 pub(crate) fn receive_last(from: &mut impl Read, room: &mut Vec<u8>) -> io::Result<bool> {
     room.clear();
     room.resize(FIRST, 0);

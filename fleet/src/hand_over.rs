@@ -1,6 +1,7 @@
-//! What a shard's owner gives the next owner: a copy while it answers calls, and the rest once it has let go.
+//! The work of a shard's owner for the next owner: it gives a copy while it answers calls, and the rest once it has let
+//! go.
 use crate::copy_name::CopyName;
-use crate::fleet::FleetInner;
+use crate::fleet_inner::FleetInner;
 use crate::frame::{HandFrame, Request, Response, CHUNK};
 use crate::outgoing_copy::OutgoingCopy;
 use crate::place::Place;
@@ -9,10 +10,10 @@ use durkenzo::Stand;
 use durkenzo_store_sys::HandOver;
 use std::time::Duration;
 
-/// How long another server may take for a piece.
+/// The longest time that another server may take for a piece.
 pub(crate) const PIECE: Duration = Duration::from_secs(5);
 
-/// What is handed over, and to whom.
+/// A hand-over, and the server that gets it.
 #[derive(Clone, Copy)]
 struct Recipient {
     shard: u16,
@@ -20,28 +21,35 @@ struct Recipient {
     hand: HandOver,
 }
 
-/// What became of what was sent.
+/// The result of sending a body or a piece of it.
 #[derive(Clone, Copy, Debug, PartialEq, Eq)]
 enum Sent {
     /// The next owner has all of it.
     All,
-    /// The next owner doesn't take it for now, or isn't reached: it is sent again.
+    /// The next owner doesn't take it for now, or can't be reached. It must be sent again.
     NotYet,
-    /// The next owner has no copy that this continues, or the service makes no piece that can be sent.
+    /// The next owner has no copy that this continues, or the service can't make a piece that can be sent.
     NoCopy,
 }
 
 impl<S: Service> FleetInner<S> {
-    /// Answers the piece of this copy behind `at` bytes. The first piece begins the copy, if it is a later one.
-    pub(crate) fn copy(&self, shard: u16, named: (u64, CopyName), at: u64, out: &mut Vec<u8>) {
-        if let Err(why) = self.copied(shard, named, at, out) {
+    /// Answers with the piece of this copy that begins after `at` bytes. If the first piece of a later copy is asked
+    /// for, begins that copy.
+    pub(crate) async fn copy(
+        &self,
+        shard: u16,
+        named: (u64, CopyName),
+        at: u64,
+        out: &mut Vec<u8>,
+    ) {
+        if let Err(why) = self.copied(shard, named, at, out).await {
             Response::Again(why).write(out);
         }
     }
 
-    /// Writes such a piece, if this process is the owner by the record of this generation, and the next owner named the
-    /// copy.
-    fn copied(
+    /// Writes such a piece, if this process is the owner under the record of this generation, and if the next owner
+    /// chose the name of the copy.
+    async fn copied(
         &self,
         shard: u16,
         (generation, name): (u64, CopyName),
@@ -52,8 +60,8 @@ impl<S: Service> FleetInner<S> {
         let place = place.ok_or("there is no such shard")?;
         let changes = self.service.changes();
         let changes = changes.ok_or("the owner's service notes no changes")?;
-        self.await_record(place, generation);
-        let mut body = place.body();
+        self.await_record(place, generation).await;
+        let mut body = place.body().await;
         let record = place.known().record();
         let stand = Stand::Prepared {
             owner: self.server(),
@@ -81,15 +89,16 @@ impl<S: Service> FleetInner<S> {
         written.ok_or("there is no such piece, or it can't be sent")
     }
 
-    /// Stops executing, gives the next owner what it needs, and forwards from then on. Returns whether that was done.
-    pub(crate) fn hand_over(
+    /// Stops executing, gives the next owner everything that it needs, and forwards calls from then on. Returns whether
+    /// that is done.
+    pub(crate) async fn hand_over(
         &self,
         shard: u16,
         place: &Place<S::Body>,
         next: u16,
         generation: u64,
     ) -> bool {
-        let mut body = place.body();
+        let mut body = place.body().await;
         if place.known().record().generation != generation {
             return true;
         }
@@ -97,14 +106,15 @@ impl<S: Service> FleetInner<S> {
             return false;
         };
         self.drop_stale(shard, place, &mut body);
-        #[cfg(any(test, feature = "plants"))]
+        #[cfg(any(test, feature = "plants", feature = "simulated"))]
         if self.options.plant == Some(crate::plant::Plant::EarlyAck) {
             self.member.ack(shard, generation);
-            std::thread::sleep(Duration::from_millis(300));
+            let end = self.environment.end_of(Duration::from_millis(300));
+            self.environment.wait_until(end).await;
         }
         let to = Recipient { shard, next, hand };
         let sent = match body.as_mut() {
-            Some(body) => self.send(place, body, to),
+            Some(body) => self.send(place, body, to).await,
             None => Sent::All,
         };
         drop(body);
@@ -116,10 +126,10 @@ impl<S: Service> FleetInner<S> {
         sent == Sent::All
     }
 
-    /// Lets go of the record, which nothing is executed by any more. Returns what is named by what is handed over.
+    /// Lets go of the record. Nothing is executed under it any more. Returns the hand-over, which each piece must name.
     fn let_go(&self, place: &Place<S::Body>, generation: u64) -> Option<HandOver> {
         let mut known = place.known();
-        // The control may have taken the record back meanwhile.
+        // The control may have taken the record back in the meantime.
         if known.record().generation != generation {
             return None;
         }
@@ -132,11 +142,11 @@ impl<S: Service> FleetInner<S> {
         })
     }
 
-    /// Sends the next owner the rest of the copy, or a copy from its beginning. If the next owner takes no copies, this
+    /// Sends the next owner the rest of the copy, or a copy from its beginning. If the next owner takes no copies,
     /// sends the whole body.
-    fn send(&self, place: &Place<S::Body>, body: &mut S::Body, to: Recipient) -> Sent {
+    async fn send(&self, place: &Place<S::Body>, body: &mut S::Body, to: Recipient) -> Sent {
         let Some(changes) = self.service.changes() else {
-            return self.send_whole(place, body, to);
+            return self.send_whole(place, body, to).await;
         };
         let begun = place.known().copy.take();
         let is_begun = begun.is_some();
@@ -145,22 +155,22 @@ impl<S: Service> FleetInner<S> {
             let name = self.named_copy(to.hand.joined);
             OutgoingCopy::new(to.hand.generation - 1, name)
         });
-        let sent = self.send_pieces((changes, body), &mut copy, to);
+        let sent = self.send_pieces((changes, body), &mut copy, to).await;
         if sent != Sent::NoCopy {
-            // It ends with the body, or if the shard stays here.
+            // The copy ends with the body, or when the shard stays here.
             place.known().copy = Some(copy);
             return sent;
         }
         changes.end_copy(body);
         match is_begun {
-            // A copy from the beginning is sent at once.
+            // The next try sends a copy from its beginning.
             true => Sent::NotYet,
-            false => self.send_whole(place, body, to),
+            false => self.send_whole(place, body, to).await,
         }
     }
 
-    /// Sends one piece of the copy after the other.
-    fn send_pieces(
+    /// Sends the pieces of the copy, one after another.
+    async fn send_pieces(
         &self,
         (changes, body): (&dyn Changes<S::Body>, &mut S::Body),
         copy: &mut OutgoingCopy,
@@ -183,7 +193,7 @@ impl<S: Service> FleetInner<S> {
                 is_last,
                 bytes: copy.bytes(),
             };
-            match self.send_frame(to.next, frame) {
+            match self.send_frame(to.next, frame).await {
                 Sent::All if is_last => return Sent::All,
                 Sent::All => copy.note_taken(),
                 Sent::NotYet => return Sent::NotYet,
@@ -192,13 +202,14 @@ impl<S: Service> FleetInner<S> {
         }
     }
 
-    /// Sends the body as the service hands it over. What the next owner doesn't take yet is kept until it does.
-    fn send_whole(&self, place: &Place<S::Body>, body: &mut S::Body, to: Recipient) -> Sent {
+    /// Sends the body as the service hands it over. If the next owner doesn't take it yet, keeps the bytes for the next
+    /// try.
+    async fn send_whole(&self, place: &Place<S::Body>, body: &mut S::Body, to: Recipient) -> Sent {
         let generation = to.hand.generation;
         let kept = place.known().spelled.take();
         let kept = kept.filter(|it| it.0 == generation);
         let bytes = kept.map_or_else(|| self.service.hand_over(body), |it| it.1);
-        let sent = self.send_bytes(&bytes, to);
+        let sent = self.send_bytes(&bytes, to).await;
         if sent != Sent::All {
             place.known().spelled = Some((generation, bytes));
         }
@@ -206,7 +217,7 @@ impl<S: Service> FleetInner<S> {
     }
 
     /// Sends the bytes of a whole body, in frames.
-    fn send_bytes(&self, bytes: &[u8], to: Recipient) -> Sent {
+    async fn send_bytes(&self, bytes: &[u8], to: Recipient) -> Sent {
         let mut at = 0;
         loop {
             let end = (at + CHUNK).min(bytes.len());
@@ -218,7 +229,7 @@ impl<S: Service> FleetInner<S> {
                 is_last: end == bytes.len(),
                 bytes: &bytes[at..end],
             };
-            let sent = self.send_frame(to.next, frame);
+            let sent = self.send_frame(to.next, frame).await;
             if sent != Sent::All || end == bytes.len() {
                 return sent;
             }
@@ -226,11 +237,13 @@ impl<S: Service> FleetInner<S> {
         }
     }
 
-    fn send_frame(&self, next: u16, frame: HandFrame<'_>) -> Sent {
+    async fn send_frame(&self, next: u16, frame: HandFrame<'_>) -> Sent {
         let Some(address) = self.address_of(next) else {
             return Sent::NotYet;
         };
-        let response = self.connections.ask(&address, &Request::Hand(frame), PIECE);
+        let asked = Request::Hand(frame).written();
+        let end = self.environment.end_of(PIECE);
+        let response = self.environment.ask(&address, asked, end).await;
         let shard = frame.shard;
         match response.as_deref().map(Response::read) {
             Ok(Ok(Response::Taken)) => Sent::All,

@@ -1,10 +1,10 @@
-//! The control of this process: it leads, or has the process that leads answer.
+//! The control of this process. Either it leads, or it passes commands on to the process that leads.
 use crate::commands::{Reply, Told, REFUSED};
-use crate::connections::{Connections, NotAnswered};
-use crate::fleet::FleetInner;
-use crate::follower::spawn;
+use crate::environment::NotAnswered;
+use crate::fleet_inner::FleetInner;
 use crate::frame::{spelled, Request, Response};
 use crate::settings::line;
+use crate::threads::{block_on, spawn, Threads};
 use crate::{JoinError, Service};
 use durkenzo_control::control::{
     is_decided, Again, Asked, Campaigner, ControlAnswer, ControlHost, Doing, OtherControls,
@@ -12,30 +12,34 @@ use durkenzo_control::control::{
 };
 use durkenzo_driver::{ControlCommand, Durable, Member, ServerState};
 use std::sync::atomic::{AtomicBool, Ordering};
-use std::sync::mpsc::{channel, sync_channel};
+use std::sync::mpsc::channel;
 use std::sync::{Arc, PoisonError};
 use std::time::Duration;
+use tokio::sync::oneshot;
 
-/// How long the process that leads may take for a command: a drain of many shards takes long.
+/// The longest time for a command at the process that leads. A drain of many shards takes long.
 const COMMAND: Duration = Duration::from_secs(600);
 
-/// This process, as its control sees it, and the others.
+/// This process and the other ones, as its control sees them.
 struct Host {
     durable: Arc<Durable>,
     member: Arc<Member>,
-    connections: Arc<Connections>,
+    threads: Arc<Threads>,
     stopping: Arc<AtomicBool>,
     settings: String,
 }
 
 /// Begins the control.
-pub(crate) fn begin<S: Service>(fleet: &Arc<FleetInner<S>>) -> Result<(), JoinError> {
+pub(crate) fn begin<S: Service>(
+    fleet: &Arc<FleetInner<S>>,
+    threads: &Arc<Threads>,
+) -> Result<(), JoinError> {
     let (tell, asked) = channel();
     *fleet.control.lock().unwrap_or_else(PoisonError::into_inner) = Some(tell);
     let host = Arc::new(Host {
         durable: fleet.durable.clone(),
         member: fleet.member.clone(),
-        connections: fleet.connections.clone(),
+        threads: threads.clone(),
         stopping: fleet.stopping.clone(),
         settings: fleet.settings.clone(),
     });
@@ -54,7 +58,7 @@ impl ControlHost for Host {
     }
 
     fn note_state(&self, server: u16, state: ServerState) {
-        tracing::debug!(server, standing = state.name(), "server");
+        tracing::info!(server, standing = state.name(), "server");
     }
 
     fn note_progress(&self, server: u16, doing: Option<Doing>) {
@@ -63,9 +67,7 @@ impl ControlHost for Host {
         }
     }
 
-    fn note_change(&self, command: ControlCommand) {
-        tracing::debug!(?command, "made");
-    }
+    fn note_change(&self, _: ControlCommand) {}
 
     fn note_load(&self) {}
 
@@ -108,8 +110,18 @@ impl ControlHost for Host {
             .collect()
     }
 
+    fn follows_settings(&self) -> bool {
+        true
+    }
+
     fn settings_lines(&self) -> Vec<String> {
-        self.settings.lines().map(str::to_owned).collect()
+        let rule = self.settings.lines().next().unwrap_or_default();
+        let (server, shards) = (self.member.server(), self.durable.shards());
+        vec![
+            format!("server {server} leads"),
+            format!("shards {shards}"),
+            format!("keys by {rule}"),
+        ]
     }
 
     fn route_lines(&self) -> Vec<String> {
@@ -117,7 +129,7 @@ impl ControlHost for Host {
     }
 
     fn compact(&self, reply_to: Box<dyn ReplyTo>) {
-        // Such a fleet writes no logs.
+        // A fleet writes no logs that could be compacted.
         reply_to.send(Ok(ControlAnswer::Done));
     }
 }
@@ -136,16 +148,16 @@ impl OtherControls for Host {
     fn ask(&self, server: u16, asked: Asked, again: Option<Again>) {
         let members = self.member.members();
         let address = members.get(&server).map(|it| it.addresses.servers.clone());
-        let connections = self.connections.clone();
-        let pass_on = move || pass_on(&connections, address.as_deref(), asked, again);
-        // Without a thread the command is dropped, which tells whoever asked that nobody answers.
+        let threads = self.threads.clone();
+        let pass_on = move || pass_on(&threads, address.as_deref(), asked, again);
+        // If there is no thread, the command is dropped. That tells the caller that nobody answers.
         if let Err(error) = spawn("command".to_owned(), pass_on) {
             tracing::warn!(%error, "a command isn't passed on");
         }
     }
 
     fn ask_to_be_back(&self, leader: u16, tell: Box<dyn FnOnce(bool) + Send>) {
-        let (answer, told) = sync_channel(1);
+        let (answer, told) = oneshot::channel();
         let asked = Asked {
             words: Words::of(["SM", "BACK", &self.member.server().to_string()]),
             reply_to: Box::new(Reply {
@@ -155,7 +167,7 @@ impl OtherControls for Host {
         };
         self.ask(leader, asked, None);
         let decided = move || {
-            let is_decided = match told.recv() {
+            let is_decided = match block_on(told) {
                 Ok(Told::Answer(answer)) => is_decided(&answer),
                 Ok(Told::NotHere) | Err(_) => false,
             };
@@ -167,14 +179,15 @@ impl OtherControls for Host {
     }
 }
 
-/// Gives the command to the control of the process there. If nothing is done of it, it waits again, if it may.
-fn pass_on(connections: &Connections, address: Option<&str>, asked: Asked, again: Option<Again>) {
+/// Gives the command to the control of the process at this address. If nothing was done there, the command waits again,
+/// if it may.
+fn pass_on(threads: &Threads, address: Option<&str>, asked: Asked, again: Option<Again>) {
     let words = spelled(asked.words.iter().map(|it| &**it));
     let request = Request::Command {
         is_passed_on: true,
         words: &words,
     };
-    let response = address.map(|it| connections.ask(it, &request, COMMAND));
+    let response = address.map(|it| threads.connections().ask(it, &request, COMMAND));
     let lost = |asked: Asked, why: String| {
         let text = format!("{REFUSED}UNKNOWN {why}: look before you try again");
         asked.reply_to.pass_on(text.into_bytes());

@@ -1,18 +1,23 @@
 use std::collections::HashMap;
+use std::thread::{self, ThreadId};
 
-/// How many connections to a server are kept.
+/// The most connections to a server that are kept.
 const EACH: usize = 64;
-/// How many servers have such connections at most.
+/// The most servers that have such connections.
 const SERVERS: usize = 4_096;
+
+thread_local! {
+    static OWN: ThreadId = thread::current().id();
+}
 
 /// A connection that may be kept for the next calls.
 pub(crate) trait Quiet {
-    /// Whether nothing has come that wasn't read, nor the end.
+    /// Returns whether no unread bytes have come, and the connection hasn't ended.
     fn is_quiet(&self) -> bool;
 }
 
-/// Connections that are kept for the next calls, by the addresses of servers. A server that is begun again may have
-/// another address each time: connections to addresses that aren't called any more are dropped.
+/// Connections that are kept for the next calls, by the address of the server. A server that is started again may have
+/// another address each time. So connections to addresses that are no longer called are dropped.
 pub(crate) struct IdleConnections<C> {
     by_address: HashMap<String, Kept<C>>,
     /// How often a connection was kept.
@@ -20,8 +25,9 @@ pub(crate) struct IdleConnections<C> {
 }
 
 struct Kept<C> {
-    connections: Vec<C>,
-    /// The count when one was kept last.
+    /// Each connection, with the thread that kept it.
+    connections: Vec<(ThreadId, C)>,
+    /// The value of the count when a connection was kept last.
     last: u64,
 }
 
@@ -36,35 +42,40 @@ impl<C> Default for IdleConnections<C> {
 }
 
 impl<C: Quiet> IdleConnections<C> {
-    /// Keeps the connection to the server there, if there are fewer than [`EACH`].
+    /// Keeps the connection to the server at this address, if fewer than [`EACH`] are kept.
     pub(crate) fn keep(&mut self, address: &str, connection: C) {
         self.count += 1;
-        if !self.by_address.contains_key(address) {
-            self.make_room();
-        }
-        let last = self.count;
-        let Some(kept) = self.by_address.get_mut(address) else {
-            let connections = vec![connection];
-            let kept = Kept { connections, last };
-            self.by_address.insert(address.to_owned(), kept);
+        let (connection, last) = ((OWN.with(|it| *it), connection), self.count);
+        if let Some(kept) = self.by_address.get_mut(address) {
+            kept.last = last;
+            if kept.connections.len() < EACH {
+                kept.connections.push(connection);
+            }
             return;
-        };
-        kept.last = last;
-        if kept.connections.len() < EACH {
-            kept.connections.push(connection);
         }
+        self.make_room();
+        let connections = vec![connection];
+        let kept = Kept { connections, last };
+        self.by_address.insert(address.to_owned(), kept);
     }
 
-    /// Takes the connection to the server there that was kept last.
+    /// Takes the connection to the server at this address that this thread kept last, so that the threads of both sides
+    /// stay together. If there is none, takes the connection that any thread kept last.
     pub(crate) fn take(&mut self, address: &str) -> Option<C> {
-        self.by_address.get_mut(address)?.connections.pop()
+        let connections = &mut self.by_address.get_mut(address)?.connections;
+        let own = OWN.with(|it| *it);
+        let taken = match connections.iter().rposition(|it| it.0 == own) {
+            Some(at) => Some(connections.remove(at)),
+            None => connections.pop(),
+        };
+        taken.map(|it| it.1)
     }
 
-    /// Drops connections that servers have closed, and all to the server that hasn't been called for longest, if there
-    /// are as many as may be.
+    /// Drops the connections that servers have closed. If the number of servers is at its limit, drops all connections
+    /// to the server that wasn't called for the longest time.
     fn make_room(&mut self) {
         for kept in self.by_address.values_mut() {
-            kept.connections.retain(C::is_quiet);
+            kept.connections.retain(|it| it.1.is_quiet());
         }
         if self.by_address.len() < SERVERS {
             return;
@@ -81,13 +92,23 @@ mod tests {
     use super::*;
     use std::cell::Cell;
     use std::rc::Rc;
+    use std::sync::Mutex;
 
-    /// A connection of this number, until the server closes it.
+    /// A connection with this number, until the server closes it.
     struct Numbered(usize, Rc<Cell<bool>>);
 
     impl Quiet for Numbered {
         fn is_quiet(&self) -> bool {
             !self.1.get()
+        }
+    }
+
+    /// A connection with this number that nobody closes.
+    struct Plain(usize);
+
+    impl Quiet for Plain {
+        fn is_quiet(&self) -> bool {
+            true
         }
     }
 
@@ -100,6 +121,20 @@ mod tests {
         let taken = std::iter::from_fn(|| idle.take("a").map(|it| it.0));
         assert!(taken.eq((0..EACH).rev()));
         assert!(idle.take("b").is_none());
+    }
+
+    #[test]
+    fn a_thread_takes_its_own_connection_first_and_else_that_of_another() {
+        let idle = Mutex::new(IdleConnections::default());
+        let keep = |number| idle.lock().unwrap().keep("a", Plain(number));
+        let take = || idle.lock().unwrap().take("a").map(|it| it.0);
+        keep(1);
+        let taken = thread::scope(|scope| {
+            scope.spawn(|| (2..4).for_each(keep)).join().unwrap();
+            scope.spawn(take).join().unwrap()
+        });
+        assert_eq!(taken, Some(3));
+        assert_eq!([take(), take(), take()], [Some(1), Some(2), None]);
     }
 
     #[test]

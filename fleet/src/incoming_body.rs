@@ -5,18 +5,19 @@ use std::sync::Arc;
 use thiserror::Error;
 use tokio::sync::OwnedSemaphorePermit;
 
-/// What comes of a shard's body from its owner to its next owner, piece by piece.
+/// A shard's body that comes from its owner to its next owner, piece by piece.
 pub(crate) struct IncomingBody<B> {
-    /// The generation of the record by which this process prepares. It is handed over by the record behind.
+    /// The generation of the record under which this process prepares. The body is handed over under the record after
+    /// that.
     generation: u64,
-    /// How many bytes have come.
+    /// The number of bytes that have come.
     bytes: u64,
     content: Content<B>,
-    /// As many bodies come to this process at once as may.
+    /// The room that this body takes, because only so many bodies may come to this process at once.
     room: Arc<OwnedSemaphorePermit>,
 }
 
-/// What has come.
+/// The part of a body that has come.
 pub(crate) enum Content<B> {
     /// A part of the bytes of [`Service::hand_over`](crate::Service::hand_over).
     Whole(Vec<u8>),
@@ -36,7 +37,7 @@ pub(crate) enum PieceFault {
 }
 
 impl<B> IncomingBody<B> {
-    /// Returns what comes by the record of this generation, and that behind it.
+    /// Returns a body that comes under the record of this generation, and under the record after it.
     pub(crate) fn new(
         generation: u64,
         content: Content<B>,
@@ -50,7 +51,7 @@ impl<B> IncomingBody<B> {
         }
     }
 
-    /// Returns room for a body of which nothing has come.
+    /// Returns the room for a body. Nothing of the body has come yet.
     pub(crate) fn reserved(generation: u64, room: Arc<OwnedSemaphorePermit>) -> IncomingBody<B> {
         IncomingBody::new(generation, Content::Whole(Vec::new()), room)
     }
@@ -59,23 +60,23 @@ impl<B> IncomingBody<B> {
         self.generation
     }
 
-    /// Returns the room that it has. It is given back once nobody has it.
+    /// Returns the room that the body takes. The room is free again once nobody has it.
     pub(crate) fn room(&self) -> Arc<OwnedSemaphorePermit> {
         self.room.clone()
     }
 
-    /// Returns how many bytes have come.
+    /// Returns the number of bytes that have come.
     pub(crate) fn bytes(&self) -> u64 {
         self.bytes
     }
 
-    /// Returns whether the piece that is handed over is of this body.
+    /// Returns whether this piece of a hand-over belongs to this body.
     pub(crate) fn is_of(&self, frame: &HandFrame<'_>) -> bool {
         self.generation + 1 == frame.hand.generation && self.name() == frame.copy
     }
 
-    /// Returns whether the first piece that is handed over begins a body anew. One of the same copy, or of an earlier
-    /// one, has come late.
+    /// Returns whether this first piece of a hand-over begins a new body. If it is of the same copy, or of an earlier
+    /// one, it has come late.
     pub(crate) fn is_before(&self, frame: &HandFrame<'_>) -> bool {
         let is_late = match (self.name(), frame.copy) {
             (Some(own), Some(other)) => own.server == other.server && !other.is_later_than(own),
@@ -91,8 +92,8 @@ impl<B> IncomingBody<B> {
         }
     }
 
-    /// Takes the piece behind `at` bytes, if it is the next one, and no more than `most` bytes have come then. A piece
-    /// that was taken last is taken again, without effect.
+    /// Takes the piece that begins after `at` bytes. It must be the next one, and no more than `most` bytes may have
+    /// come with it. If it is the piece that was taken last, nothing changes.
     pub(crate) fn take(
         &mut self,
         at: u64,
@@ -118,7 +119,7 @@ impl<B> IncomingBody<B> {
         Ok(())
     }
 
-    /// Returns what has come.
+    /// Returns the part of the body that has come.
     pub(crate) fn into_content(self) -> Content<B> {
         self.content
     }
@@ -204,7 +205,7 @@ mod tests {
         assert!(!before(copy(7), Some(named(7))) && !before(copy(7), Some(named(6))));
         assert!(before(Content::Whole(Vec::new()), Some(named(1))));
         assert!(body(copy(7)).is_before(&frame(9, Some(named(6)))));
-        // The owner sends a copy, because the one that was fetched isn't continued.
+        // The owner sends a copy of its own, because the copy that was fetched can't be continued.
         let name = CopyName {
             server: 4,
             ..named(1)

@@ -3,14 +3,14 @@ use crate::Safety;
 use durkenzo_control::links::{Admission, Identity, Terms, FIRST_TABLE, NO_SERVER};
 use durkenzo_control::tls::{Caller, FleetTls};
 
-/// How a process of a fleet, or a client, makes itself known to others.
+/// How a process of a fleet, or a client, introduces itself to others.
 #[derive(Clone, Debug)]
 pub(crate) struct Introduction {
     pub(crate) terms: Terms,
     pub(crate) tls: Option<FleetTls>,
 }
 
-/// Whoever has made itself known.
+/// A process or a client that has introduced itself.
 #[derive(Clone, Copy, Debug, PartialEq, Eq)]
 pub(crate) enum Guest {
     /// The process of this server.
@@ -19,12 +19,12 @@ pub(crate) enum Guest {
 }
 
 impl Introduction {
-    /// Returns that of a client, to a fleet of settings with this checksum.
+    /// Returns the introduction of a client, to a fleet whose settings have this checksum.
     pub(crate) fn of_client(safety: &Safety, settings: u64) -> Introduction {
         Introduction::of_process(safety, settings, (NO_SERVER, 0))
     }
 
-    /// Returns that of the process of this number which runs this server.
+    /// Returns the introduction of the process with this number. The process runs as this server.
     pub(crate) fn of_process(
         safety: &Safety,
         settings: u64,
@@ -39,7 +39,7 @@ impl Introduction {
         let terms = Terms {
             identity,
             secret: safety.secret.clone(),
-            // Clients come to the same port, by certificates of their own.
+            // Clients come to the same port, with certificates of their own.
             tls: None,
             admits: Admission::Clients,
         };
@@ -49,7 +49,8 @@ impl Introduction {
 }
 
 impl Guest {
-    /// Returns who greets so, and has shown this certificate, if there is TLS. A client's shows no server.
+    /// Returns the guest that sends this greeting, with this certificate if there is TLS. If the certificate is that of
+    /// a client, the guest isn't a server.
     pub(crate) fn of(identity: Identity, caller: Option<Caller>) -> Guest {
         match (identity.server, caller) {
             (NO_SERVER, _) | (_, Some(Caller::Client)) => Guest::Client,
@@ -57,7 +58,8 @@ impl Guest {
         }
     }
 
-    /// Whether it may ask so: nobody speaks for another server, and a client for none.
+    /// Returns whether the guest may send this request. A server must not speak for another server, and a client must
+    /// not speak for any.
     pub(crate) fn may_ask(self, request: &Request<'_>) -> bool {
         let is_server = self != Guest::Client;
         match request {

@@ -1,8 +1,8 @@
-//! A service of your own on several machines. Its shards move between processes without a stop, and one process at a
-//! time executes for each.
+//! Runs a service of your own on several machines. The service is divided into shards, and for each shard one process
+//! at a time executes. Shards move between processes while calls go on.
 //!
-//! You write a [`Service`]: what it keeps of a shard, how it answers, and what it hands over. Each process joins a
-//! [`Fleet`] and serves. Clients call by a [`Router`].
+//! You write a [`Service`]. It says which state it keeps for a shard (the body), how it answers a call, and which bytes
+//! it hands over when a shard moves. Each process joins a [`Fleet`] and serves. Clients call with a [`Router`].
 //!
 //! ```no_run
 //! use durkenzo_fleet::{Call, Came, Fault, Fleet, Options, Service, Shard};
@@ -35,11 +35,15 @@
 //! # Ok::<(), Box<dyn std::error::Error>>(())
 //! ```
 //!
-//! Nothing here decides who may execute. Each such decision is a proved call: a view of the shard, which knows the
-//! lease and what was read ([`durkenzo_store_sys::ShardView`]), the word of the shard's record, or the control.
+//! This crate never decides by itself which process may execute. Each such decision is a call of proved code. It asks a
+//! view of the shard, or the word of the shard's record, or the control. The view ([`durkenzo_store_sys::ShardView`])
+//! knows the lease and the records that were read.
 #![forbid(unsafe_code)]
 #![deny(missing_docs)]
 
+// The modules that decide are marked with `deny` here. They must get the time from an environment and wait only for
+// that environment, so that a simulation can run them. clippy.toml names the functions that they must not call.
+#[deny(clippy::disallowed_methods)]
 mod adoption;
 #[cfg(feature = "tokio")]
 mod async_enter;
@@ -49,18 +53,36 @@ mod async_router;
 mod async_stream;
 #[cfg(all(test, feature = "tokio"))]
 mod async_trial;
+#[deny(clippy::disallowed_methods)]
 mod body_lock;
 mod call_error;
+#[deny(clippy::disallowed_methods)]
+mod call_routes;
+#[deny(clippy::disallowed_methods)]
 mod calls;
 mod changes;
+#[deny(clippy::disallowed_methods)]
 mod commands;
 mod connections;
+#[deny(clippy::disallowed_methods)]
+mod conversation;
 mod copy_name;
 mod copy_progress;
+#[deny(clippy::disallowed_methods)]
+mod departure;
 mod enter;
+#[deny(clippy::disallowed_methods)]
+mod environment;
 mod fleet;
+#[deny(clippy::disallowed_methods)]
+mod fleet_inner;
+#[deny(clippy::disallowed_methods)]
 mod follower;
+mod follower_threads;
 mod frame;
+#[deny(clippy::disallowed_methods)]
+mod guests;
+#[deny(clippy::disallowed_methods)]
 mod hand_over;
 mod host;
 mod idle_connections;
@@ -72,9 +94,11 @@ mod meet_error;
 mod options;
 mod outgoing_copy;
 mod permit;
+#[deny(clippy::disallowed_methods)]
 mod place;
-#[cfg(any(test, feature = "plants"))]
+#[cfg(any(test, feature = "plants", feature = "simulated"))]
 mod plant;
+#[deny(clippy::disallowed_methods)]
 mod queue;
 mod retry;
 mod router;
@@ -85,9 +109,16 @@ mod service;
 mod settings;
 #[cfg(test)]
 mod settings_trial;
+#[deny(clippy::disallowed_methods)]
 mod settler;
 mod shard;
+#[cfg(feature = "simulated")]
+#[doc(hidden)]
+pub mod simulated;
 mod stream;
+#[cfg(feature = "tokio")]
+mod tasks;
+mod threads;
 #[cfg(test)]
 mod trial;
 
@@ -96,6 +127,7 @@ pub use async_router::AsyncRouter;
 pub use call_error::CallError;
 pub use changes::{Changes, Piece};
 pub use durkenzo::Mode;
+pub use durkenzo_store::KeyPrefix;
 pub use enter::{Destination, Enter, Refused};
 pub use fleet::Fleet;
 #[doc(hidden)]

@@ -4,16 +4,16 @@ use crate::{JoinError, Safety, SafetyOptions, Sharding};
 use clap::{Args, Parser};
 use durkenzo::LayoutFault;
 use durkenzo_control::links::Secret;
-use durkenzo_store::{Access, Etcd, Store};
+use durkenzo_store::{Access, Etcd, KeyPrefix, PrefixedStore, Store};
 use std::net::{SocketAddr, TcpListener};
 use std::path::PathBuf;
 use std::sync::Arc;
 use std::time::Duration;
 
-/// How a process is a server of a fleet, by flags or by `DURKENZO_*`.
+/// Runs this process as a server of a fleet. Each option is a flag or a variable `DURKENZO_*`.
 #[derive(Clone, Debug, Parser)]
 pub struct Options {
-    /// Members of etcd, in which the fleet's records lie
+    /// Addresses of etcd's members, which store the fleet's records
     #[arg(
         long,
         env = "DURKENZO_ETCD",
@@ -23,11 +23,11 @@ pub struct Options {
     )]
     pub etcd: Vec<String>,
 
-    /// Who this process is for etcd
+    /// Which part of etcd this process uses, and who it is there
     #[command(flatten)]
     pub etcd_access: EtcdOptions,
 
-    /// The server that this process is, 1 to --servers
+    /// Number of the server that this process runs as, from 1 to the number of servers
     #[arg(
         long,
         env = "DURKENZO_NAME",
@@ -36,7 +36,7 @@ pub struct Options {
     )]
     pub name: u16,
 
-    /// File with the settings of ./sm serve --settings: capacities, groups, domains, caps and bounds [default: none]
+    /// File with settings as for ./sm serve --settings: capacities, groups, domains, caps and bounds [default: none]
     #[arg(
         long,
         env = "DURKENZO_SETTINGS",
@@ -45,11 +45,11 @@ pub struct Options {
     )]
     pub settings: Option<PathBuf>,
 
-    /// Keys go to shards by hash, also if settings or bounds are given, of which there are as many
+    /// Spread keys over shards by hash even if settings or bounds are given, which then give the number of shards
     #[arg(long, env = "DURKENZO_HASH")]
     pub hash: bool,
 
-    /// How many servers the fleet has
+    /// Number of servers, if this process is the first one of the fleet: later, RESIZE changes it
     #[arg(
         long,
         env = "DURKENZO_SERVERS",
@@ -58,7 +58,7 @@ pub struct Options {
     )]
     pub servers: u16,
 
-    /// How many shards keys are spread over by hash
+    /// Number of shards over which keys are spread by hash
     #[arg(
         long,
         env = "DURKENZO_SHARDS",
@@ -67,7 +67,7 @@ pub struct Options {
     )]
     pub shards: u16,
 
-    /// The first key of each shard but the first one, in order: keys go to shards by ranges, and not by hash
+    /// First key of each shard except the first one, in order: keys then go to shards by ranges, and not by hash
     #[arg(
         long,
         env = "DURKENZO_BOUNDS",
@@ -76,7 +76,7 @@ pub struct Options {
     )]
     pub bounds: Vec<String>,
 
-    /// Where clients and other servers reach this process; port 0 takes a free one
+    /// Address at which clients and other servers reach this process; port 0 takes a free one
     #[arg(
         long,
         env = "DURKENZO_LISTEN",
@@ -85,23 +85,23 @@ pub struct Options {
     )]
     pub listen: SocketAddr,
 
-    /// How they reach it, if that is another way
+    /// Address at which they reach this process, if it is another one
     #[arg(long, env = "DURKENZO_ADVERTISE", value_name = "ADDRESS:PORT")]
     pub advertise: Option<String>,
 
-    /// Where clients reach what the service answers by frames of its own, which other servers are told
+    /// Address for clients of a service with frames of its own; the other servers are told of it
     #[arg(long, env = "DURKENZO_CLIENTS", value_name = "ADDRESS:PORT")]
     pub clients: Option<String>,
 
-    /// Lets other machines connect, though they need neither a secret nor TLS: for a private network
+    /// Let other machines connect even if they need neither a secret nor TLS: for a private network
     #[arg(long, env = "DURKENZO_OPEN")]
     pub open: bool,
 
-    /// What others have to show
+    /// The proof that other processes and clients must give
     #[command(flatten)]
     pub safety: SafetyOptions,
 
-    /// How long after a process was heard of last it has failed
+    /// Time after the last sign of life until a process counts as failed
     #[arg(
         long,
         env = "DURKENZO_LEASE",
@@ -111,7 +111,7 @@ pub struct Options {
     )]
     pub lease: u64,
 
-    /// By how much clocks may differ in speed, in parts of a thousand
+    /// Greatest difference in speed of two clocks, in parts of a thousand
     #[arg(
         long,
         env = "DURKENZO_DRIFT",
@@ -121,7 +121,7 @@ pub struct Options {
     )]
     pub drift: u64,
 
-    /// How long before the end of its lease a process stops, for answers that are on their way
+    /// Time before the end of its lease at which a process stops executing, so that its last answers arrive
     #[arg(
         long,
         env = "DURKENZO_MARGIN",
@@ -130,7 +130,7 @@ pub struct Options {
     )]
     pub margin: u64,
 
-    /// How long a stop by SIGTERM takes at most, until the process leaves with the shards that it still has
+    /// Longest time for a stop by SIGTERM; after that, the process leaves with the shards that it still has
     #[arg(
         long,
         env = "DURKENZO_GRACE",
@@ -139,7 +139,7 @@ pub struct Options {
     )]
     pub grace: u64,
 
-    /// How long a call waits at a server for a shard that nobody executes, within its budget
+    /// Longest time that a call waits at a server while nobody executes for its shard, within the call's budget
     #[arg(
         long,
         env = "DURKENZO_WAIT",
@@ -148,7 +148,7 @@ pub struct Options {
     )]
     pub wait: u64,
 
-    /// How many calls wait for a shard at most
+    /// Most calls that wait for one shard
     #[arg(
         long,
         env = "DURKENZO_WAITING",
@@ -157,7 +157,7 @@ pub struct Options {
     )]
     pub waiting: usize,
 
-    /// How many bytes a shard's body should have at most that comes here, and what changes of it meanwhile
+    /// Most bytes that should come here for a shard's body, including its changes while it is copied
     #[arg(
         long,
         env = "DURKENZO_BODY",
@@ -166,11 +166,11 @@ pub struct Options {
     )]
     pub body: u64,
 
-    /// How many bytes of a body are under way at once, if the service moves bodies in pieces
+    /// Most bytes of a body that are on their way at once, if the service moves bodies in pieces
     #[arg(long, env = "DURKENZO_PIECE", value_name = "BYTES", default_value_t = 256 << 10, value_parser = piece)]
     pub piece: usize,
 
-    /// How many bodies come to this process at once; others wait with their owners
+    /// Most bodies that come to this process at once; others wait with their owners
     #[arg(
         long,
         env = "DURKENZO_MOVES",
@@ -180,7 +180,7 @@ pub struct Options {
     )]
     pub moves: u16,
 
-    /// How many connections of clients are served at once, and how many of others
+    /// Most connections of clients that are served at once; as many connections of others are served besides
     #[arg(
         long,
         env = "DURKENZO_CONNECTIONS",
@@ -189,13 +189,13 @@ pub struct Options {
     )]
     pub connections: usize,
 
-    /// A wrong rule, which tests and trials plant.
-    #[cfg(any(test, feature = "plants"))]
+    /// The wrong rule that a test or a trial plants.
+    #[cfg(any(test, feature = "plants", feature = "simulated"))]
     #[arg(long, env = "DURKENZO_PLANT", hide = true)]
     pub(crate) plant: Option<crate::plant::Plant>,
 
-    /// By how many parts of a thousand the clock that judges the lease is slow, in a trial.
-    #[cfg(any(test, feature = "plants"))]
+    /// By how many parts in a thousand a trial slows down the clock that judges the lease.
+    #[cfg(any(test, feature = "plants", feature = "simulated"))]
     #[arg(
         long,
         env = "DURKENZO_SLOW_CLOCK",
@@ -206,10 +206,14 @@ pub struct Options {
     pub(crate) slow_clock: i16,
 }
 
-/// Who a process is for etcd, if etcd asks for that.
+/// The part of etcd that a process uses, and its identity for etcd, if etcd asks for one.
 #[derive(Args, Clone, Debug, Default)]
 pub struct EtcdOptions {
-    /// The user's name, if etcd asks for one [default: none]
+    /// Prefix of the fleet's keys, such as /orders/, in an etcd that others use too [default: nothing]
+    #[arg(long, env = "DURKENZO_PREFIX", value_name = "/NAME/")]
+    pub prefix: Option<KeyPrefix>,
+
+    /// Name of the user, if etcd asks for one [default: none]
     #[arg(
         long,
         env = "DURKENZO_ETCD_USER",
@@ -227,7 +231,7 @@ pub struct EtcdOptions {
     )]
     pub etcd_password_file: Option<PathBuf>,
 
-    /// File in PEM with who vouches for etcd's members [default: the system's]
+    /// File in PEM with the authority that signed the certificates of etcd's members [default: the system's]
     #[arg(long, env = "DURKENZO_ETCD_CA", value_name = "FILE")]
     pub etcd_ca: Option<PathBuf>,
 
@@ -240,7 +244,7 @@ pub struct EtcdOptions {
     )]
     pub etcd_cert: Option<PathBuf>,
 
-    /// File in PEM with its key
+    /// File in PEM with the certificate's key
     #[arg(
         long,
         env = "DURKENZO_ETCD_KEY",
@@ -251,9 +255,16 @@ pub struct EtcdOptions {
 }
 
 impl EtcdOptions {
-    /// Returns how these members of etcd are reached.
-    fn access(&self, members: &[String]) -> Result<Access, JoinError> {
-        // No variable of the environment has a password of etcd.
+    /// Opens the fleet's part of the etcd that has these members.
+    pub(crate) fn store(&self, members: &[String]) -> Result<Arc<dyn Store>, JoinError> {
+        let etcd = Etcd::new(self.access(members)?)?;
+        let prefix = self.prefix.clone().unwrap_or_default();
+        Ok(Arc::new(PrefixedStore::new(etcd, prefix)))
+    }
+
+    /// Returns the access to these members of etcd.
+    pub(crate) fn access(&self, members: &[String]) -> Result<Access, JoinError> {
+        // The password of etcd is never in a variable of the environment.
         let file = self.etcd_password_file.as_deref();
         let password = file.map(|it| Secret::given(Some(it), "")).transpose()?;
         let text = |it: Secret| String::from_utf8_lossy(it.reveal()).into_owned();
@@ -267,8 +278,8 @@ impl EtcdOptions {
 }
 
 impl Options {
-    /// Reads the flags of this program, and the environment. Prints the help, or what is wrong, and ends the program if
-    /// that is asked for.
+    /// Reads the flags of this program and the environment. If the flags ask for help, or are wrong, prints that and
+    /// ends the program.
     pub fn parse() -> Options {
         <Options as Parser>::parse()
     }
@@ -277,13 +288,12 @@ impl Options {
     ///
     /// # Errors
     ///
-    /// An address or a file can't be read, or the system gives no thread.
+    /// If an address or a file can't be read, or the system gives no thread.
     pub fn store(&self) -> Result<Arc<dyn Store>, JoinError> {
-        let access = self.etcd_access.access(&self.etcd)?;
-        Ok(Arc::new(Etcd::new(access)?))
+        self.etcd_access.store(&self.etcd)
     }
 
-    /// Returns what others have to show, if this process may listen so.
+    /// Returns the proof that other processes and clients must give, if this process may listen with it.
     pub(crate) fn guarded(&self) -> Result<Safety, JoinError> {
         let safety = Safety::of(&self.safety)?;
         if !self.listen.ip().is_loopback() && !self.open && !safety.is_guarded() {
@@ -295,12 +305,13 @@ impl Options {
         }
     }
 
-    /// Listens for clients of frames of the service's own: at `--clients`, or else at a free port of this machine,
-    /// which is noted there, so that other servers are told. Comes before [`Fleet::join`](crate::Fleet::join).
+    /// Listens for the clients of a service with frames of its own, at `--clients`. If `--clients` isn't given, listens
+    /// at a free port of this machine, and notes it in these options, so that the other servers are told of it. This
+    /// must be called before [`Fleet::join`](crate::Fleet::join).
     ///
     /// # Errors
     ///
-    /// The address isn't of this machine, or is taken.
+    /// If the address isn't one of this machine, or is in use.
     pub fn listen_for_clients(&mut self) -> Result<TcpListener, JoinError> {
         let at = self.clients.as_deref().unwrap_or("127.0.0.1:0");
         let listener = TcpListener::bind(at).and_then(|it| Ok((it.local_addr()?, it)));
@@ -317,12 +328,12 @@ impl Options {
             None => Settings::of_servers(self.sharding()?, self.servers),
         };
         let (servers, most) = (settings.servers, durkenzo::MAX_SERVER);
-        if !(1..=most).contains(&servers) || !(1..=servers).contains(&self.name) {
-            let why = format!(
-                "--name {} of {servers} servers: they are 1 to {most}",
-                self.name
-            );
-            return Err(JoinError::Options(why));
+        // Only the settings in force say whether such a server exists.
+        for (flag, given) in [("--servers", servers), ("--name", self.name)] {
+            if !(1..=most).contains(&given) {
+                let why = format!("{flag} {given}: servers are 1 to {most}");
+                return Err(JoinError::Options(why));
+            }
         }
         if self.connections == 0 {
             let why = "--connections 0 lets nobody connect: it is at least 1";
@@ -335,30 +346,31 @@ impl Options {
         Ok(settings)
     }
 
-    /// Returns how keys go to shards if no file says it.
+    /// Returns the sharding, if no file of settings gives it.
     fn sharding(&self) -> Result<Sharding, LayoutFault> {
         let bounds = std::iter::once(String::new()).chain(self.bounds.iter().cloned());
         match (self.bounds.is_empty(), self.hash) {
             (true, _) => Sharding::hashes(self.shards),
-            // A layout has at most 4,096.
+            // A layout has at most 4,096 shards.
             (false, true) => Sharding::hashes(u16::try_from(bounds.count()).unwrap_or(u16::MAX)),
             (false, false) => Sharding::ranges(bounds.collect()),
         }
     }
 
-    /// Returns how long a process goes by a lease of this length, by its own clock, since it asked.
+    /// Returns how long a process may rely on a lease of this length, by its own clock. The time begins when the
+    /// process asks for the lease to be kept.
     pub(crate) fn allowed(&self, length: Duration) -> Duration {
         let slow = length / 1_000 * self.drift as u32;
         length.saturating_sub(slow + Duration::from_millis(self.margin))
     }
 
-    /// Returns how long a call waits here at most.
+    /// Returns the longest time that a call waits here.
     pub(crate) fn patience(&self) -> Duration {
         Duration::from_millis(self.wait)
     }
 }
 
-/// Reads how long a piece is: a frame carries it.
+/// Reads the size of a piece. One frame must be able to carry it.
 fn piece(text: &str) -> Result<usize, String> {
     let is_meant = |it: &usize| (1..=MOST).contains(it);
     let read = text.parse().ok().filter(is_meant);
@@ -404,7 +416,10 @@ mod tests {
     fn what_is_out_of_bounds_is_named() {
         for (words, named) in [
             ("--connections 0", "--connections"),
-            ("--name 4", "--name"),
+            ("--name 0", "--name"),
+            ("--name 4096", "--name"),
+            ("--servers 0", "--servers"),
+            ("--servers 4096", "--servers"),
             ("--margin 3000", "--margin"),
         ] {
             let told = parsed(words).unwrap().settings().map(drop).unwrap_err();

@@ -2,21 +2,21 @@ use crate::copy_name::CopyName;
 use crate::frame::MOST;
 use crate::Piece;
 
-/// A copy of a body, as its owner makes it piece by piece.
+/// A copy of a body, which its owner makes piece by piece.
 pub(crate) struct OutgoingCopy {
-    /// The generation of the record by which the next owner prepares.
+    /// The generation of the record under which the next owner prepares.
     generation: u64,
     name: CopyName,
-    /// The piece that was made last, which is kept until the next owner has it.
+    /// The piece that was made last. It is kept until the next owner has it.
     piece: Piece,
-    /// How many bytes came before that piece.
+    /// The number of bytes that came before that piece.
     at: u64,
     /// Whether that piece is sent unasked, and isn't known to be taken.
     is_pending: bool,
 }
 
 impl OutgoingCopy {
-    /// Returns a copy of this name without pieces, for the next owner by the record of this generation.
+    /// Returns a copy with this name and without pieces, for the next owner under the record of this generation.
     pub(crate) fn new(generation: u64, name: CopyName) -> OutgoingCopy {
         OutgoingCopy {
             generation,
@@ -35,17 +35,17 @@ impl OutgoingCopy {
         self.name
     }
 
-    /// Returns whether it is this copy, for the next owner by the record of this generation.
+    /// Returns whether this is the copy with that name, for the next owner under the record of that generation.
     pub(crate) fn is(&self, (generation, name): (u64, CopyName)) -> bool {
         self.generation == generation && self.name == name
     }
 
-    /// Returns whether that copy is a later one. A request for an earlier one has come late.
+    /// Returns whether that copy is a later one. If it is an earlier one, the request for it has come late.
     pub(crate) fn is_before(&self, (generation, name): (u64, CopyName)) -> bool {
         self.generation != generation || name.is_later_than(self.name)
     }
 
-    /// Returns how many bytes came before the piece that was made last.
+    /// Returns the number of bytes that came before the piece that was made last.
     pub(crate) fn at(&self) -> u64 {
         self.at
     }
@@ -55,8 +55,8 @@ impl OutgoingCopy {
         &self.piece.bytes
     }
 
-    /// Returns the piece behind so many bytes, which the next owner asks for: the last one again, or a next one, which
-    /// this makes. Returns nothing if the copy has neither, or if the piece can't be sent.
+    /// Returns the piece after this many bytes, for a request of the next owner. It is the last piece again, or a new
+    /// piece from `make`. Returns nothing if the copy has neither, or if the piece can't be sent.
     pub(crate) fn piece_at(&mut self, at: u64, make: impl FnOnce() -> Piece) -> Option<&Piece> {
         if at == self.end() {
             self.make(make);
@@ -64,8 +64,9 @@ impl OutgoingCopy {
         (at == self.at).then(|| self.sendable())?
     }
 
-    /// Returns the next piece for the next owner, which has all that it asked for: the last one that this returned, if
-    /// that isn't taken yet, or another one, which this makes. Returns nothing if the piece can't be sent.
+    /// Returns the next piece to send unasked, once the next owner has all pieces that it asked for. It is the piece
+    /// that this returned last, if that isn't taken yet, or a new piece from `make`. Returns nothing if the piece can't
+    /// be sent.
     pub(crate) fn piece(&mut self, make: impl FnOnce() -> Piece) -> Option<&Piece> {
         if !self.is_pending {
             self.make(make);
@@ -74,7 +75,7 @@ impl OutgoingCopy {
         self.sendable()
     }
 
-    /// Notes that the next owner has the piece that was made last. It lies here no more.
+    /// Notes that the next owner has the piece that was made last, and frees the bytes of that piece.
     pub(crate) fn note_taken(&mut self) {
         self.at = self.end();
         self.piece = Piece::default();
@@ -133,7 +134,7 @@ mod tests {
         let second = piece(b"de", 0);
         assert_eq!(copy.piece_at(3, || second.clone()), Some(&second));
         assert_eq!(copy.piece_at(0, again), None);
-        // The next owner has that one, and what has changed since comes unasked.
+        // The next owner has that piece. The changes since then are sent unasked.
         let third = piece(b"f", 0);
         assert_eq!(copy.piece(|| third.clone()), Some(&third));
         assert_eq!(copy.piece(again), Some(&third));

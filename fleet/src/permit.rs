@@ -1,22 +1,22 @@
 use crate::body_lock::BodyInUse;
-use crate::fleet::FleetInner;
+use crate::fleet_inner::FleetInner;
 use crate::{Call, Service, Shard};
 use durkenzo_store_sys::ShardView;
 use std::fmt;
 use std::ops::{Deref, DerefMut};
 
-/// The right to execute a call of a shard, and the shard's body. No other call uses the body meanwhile. A task may take
-/// it from thread to thread.
+/// The right to execute a call of a shard, together with the shard's body. No other call uses the body as long as the
+/// permit exists. A task may take the permit from thread to thread.
 pub struct Permit<'a, S: Service> {
     pub(crate) fleet: &'a FleetInner<S>,
     pub(crate) body: BodyGuard<'a, S::Body>,
-    /// What this process knew as the call began. It lets go of nothing while the body is in use.
+    /// What this process knew when the call began. It lets go of no record while the body is in use.
     pub(crate) view: ShardView,
     pub(crate) from: u16,
     pub(crate) shard: Shard,
 }
 
-/// A body that is there, in use.
+/// A body in use that is there.
 pub(crate) struct BodyGuard<'a, B>(BodyInUse<'a, B>);
 
 impl<'a, B> BodyGuard<'a, B> {
@@ -50,7 +50,7 @@ impl<S: Service> Permit<'_, S> {
         self.shard
     }
 
-    /// Returns the fencing token, as [`Shard::fence`] has it.
+    /// Returns the fencing token, as [`Shard::fence`] does.
     pub fn fence(&self) -> u64 {
         self.shard.fence()
     }
@@ -60,14 +60,14 @@ impl<S: Service> Permit<'_, S> {
         &mut self.body
     }
 
-    /// Has the service answer the request.
+    /// Makes the service answer the request.
     pub fn answer(&mut self, request: &[u8]) -> Vec<u8> {
         let call = Call::new(self.shard, request);
         self.fleet.service.answer(&mut self.body, call)
     }
 
-    /// Looks again whether this process may still execute. If it may not, as its lease may have ended, another process
-    /// may have the shard by now: tell the caller that the call may have been made, and nothing else.
+    /// Returns whether this process may still execute. If it may not, its lease may have ended, and another process may
+    /// have the shard by now. In that case you must tell the caller only that the call may have been made.
     pub fn holds(&self) -> bool {
         self.fleet.still_holds(self)
     }

@@ -1,14 +1,12 @@
 use std::collections::VecDeque;
-#[cfg(feature = "tokio")]
-use std::future::poll_fn;
+use std::future::{poll_fn, Future};
+use std::pin::pin;
 use std::sync::{Mutex, MutexGuard, PoisonError};
-#[cfg(feature = "tokio")]
 use std::task::{Poll, Waker};
-use std::thread::{self, Thread};
-use std::time::{Duration, Instant};
+use std::time::Duration;
 
-/// How long a call sleeps at most before it looks again, though nobody woke it.
-const LOOK: Duration = Duration::from_millis(10);
+/// The longest time that a call sleeps before it looks again, if nobody wakes it.
+pub(crate) const LOOK: Duration = Duration::from_millis(10);
 
 /// Calls that wait for a shard, in the order in which they came.
 #[derive(Default)]
@@ -19,43 +17,38 @@ pub(crate) struct Queue {
 #[derive(Default)]
 struct Waiting {
     next: u64,
-    calls: VecDeque<(u64, Waiter)>,
+    calls: VecDeque<Waiter>,
 }
 
-/// Who waits for the look of a call.
-enum Waiter {
-    Thread(Thread),
-    /// A task; none as long as it hasn't waited yet.
-    #[cfg(feature = "tokio")]
-    Task(Option<Waker>),
+/// A call that waits to look again.
+struct Waiter {
+    number: u64,
+    /// How to wake the call. There is none if it hasn't waited yet.
+    waker: Option<Waker>,
+    /// Whether the call was woken since it looked last.
+    is_woken: bool,
 }
 
-/// A place in the queue, which it leaves when it is dropped.
+/// A place in the queue. The place is given back when this is dropped.
 pub(crate) struct Turn<'a> {
     queue: &'a Queue,
     number: u64,
 }
 
 impl Queue {
-    /// Returns a place behind all others, if fewer than so many wait.
+    /// Returns a place behind all others, if fewer than this many calls wait.
     pub(crate) fn enter(&self, most: usize) -> Option<Turn<'_>> {
-        self.enter_as(Waiter::Thread(thread::current()), most)
-    }
-
-    /// Returns a place for a task as [`Queue::enter`] does for a thread.
-    #[cfg(feature = "tokio")]
-    pub(crate) fn enter_task(&self, most: usize) -> Option<Turn<'_>> {
-        self.enter_as(Waiter::Task(None), most)
-    }
-
-    fn enter_as(&self, waiter: Waiter, most: usize) -> Option<Turn<'_>> {
         let mut waiting = self.waiting();
         if waiting.calls.len() >= most {
             return None;
         }
         let number = waiting.next;
         waiting.next += 1;
-        waiting.calls.push_back((number, waiter));
+        waiting.calls.push_back(Waiter {
+            number,
+            waker: None,
+            is_woken: false,
+        });
         Some(Turn {
             queue: self,
             number,
@@ -67,21 +60,19 @@ impl Queue {
         self.waiting().calls.is_empty()
     }
 
-    /// Returns how many wait.
-    #[cfg(all(test, feature = "tokio"))]
+    /// Returns the number of calls that wait.
+    #[cfg(any(feature = "simulated", all(test, feature = "tokio")))]
     pub(crate) fn count(&self) -> usize {
         self.waiting().calls.len()
     }
 
-    /// Has the first call look again.
+    /// Makes the first call look again.
     pub(crate) fn wake(&self) {
-        match self.waiting().calls.front() {
-            Some((_, Waiter::Thread(thread))) => thread.unpark(),
-            #[cfg(feature = "tokio")]
-            Some((_, Waiter::Task(Some(waker)))) => waker.wake_by_ref(),
-            #[cfg(feature = "tokio")]
-            Some((_, Waiter::Task(None))) => {}
-            None => {}
+        if let Some(first) = self.waiting().calls.front_mut() {
+            first.is_woken = true;
+            if let Some(waker) = first.waker.take() {
+                waker.wake();
+            }
         }
     }
 
@@ -91,41 +82,43 @@ impl Queue {
 }
 
 impl Turn<'_> {
-    /// Returns whether all that came before have left.
+    /// Returns whether all calls that came before have left.
     pub(crate) fn is_first(&self) -> bool {
         let waiting = self.queue.waiting();
-        waiting.calls.front().is_some_and(|it| it.0 == self.number)
+        waiting
+            .calls
+            .front()
+            .is_some_and(|it| it.number == self.number)
     }
 
-    /// Blocks until somebody wakes the call, for a short while, and not beyond this time.
-    pub(crate) fn wait(&self, end: Instant) {
-        thread::park_timeout(end.saturating_duration_since(Instant::now()).min(LOOK));
-    }
-
-    /// Waits as [`Turn::wait`] does, and blocks no thread meanwhile.
-    #[cfg(feature = "tokio")]
-    pub(crate) async fn woken(&self, end: Instant) {
-        let mut has_waited = false;
-        let woken = poll_fn(|context| {
-            if std::mem::replace(&mut has_waited, true) {
-                return Poll::Ready(());
-            }
+    /// Waits until somebody wakes the call, or until that future ends.
+    pub(crate) async fn woken(&self, end: impl Future<Output = ()>) {
+        let mut end = pin!(end);
+        poll_fn(|context| {
             let mut waiting = self.queue.waiting();
-            let mut own = waiting.calls.iter_mut().filter(|it| it.0 == self.number);
-            if let Some((_, waiter)) = own.next() {
-                *waiter = Waiter::Task(Some(context.waker().clone()));
+            let mut own = waiting
+                .calls
+                .iter_mut()
+                .filter(|it| it.number == self.number);
+            if let Some(own) = own.next() {
+                if std::mem::take(&mut own.is_woken) {
+                    return Poll::Ready(());
+                }
+                own.waker = Some(context.waker().clone());
             }
-            Poll::Pending
-        });
-        let soon = end.min(Instant::now() + LOOK);
-        // Whether somebody told or time has passed, it is looked.
-        let _ = tokio::time::timeout_at(soon.into(), woken).await;
+            drop(waiting);
+            end.as_mut().poll(context)
+        })
+        .await;
     }
 }
 
 impl Drop for Turn<'_> {
     fn drop(&mut self) {
-        self.queue.waiting().calls.retain(|it| it.0 != self.number);
+        self.queue
+            .waiting()
+            .calls
+            .retain(|it| it.number != self.number);
         self.queue.wake();
     }
 }

@@ -5,13 +5,15 @@ use durkenzo_control::tls::FleetTls;
 use std::env;
 use std::path::{Path, PathBuf};
 
-/// The variable of the environment with the secret, if no file has it.
+/// The variable of the environment that has the secret, if no file has it.
 const SECRET: &str = "DURKENZO_SECRET";
 
-/// What the processes and clients of a fleet show each other, by flags or by `DURKENZO_*`.
+/// The proof that the processes and clients of a fleet give each other. Each option is a flag or a variable
+/// `DURKENZO_*`.
 #[derive(Args, Clone, Debug, Default)]
 pub struct SafetyOptions {
-    /// File whose first line all processes and clients of the fleet know [default: DURKENZO_SECRET, else none]
+    /// File whose first line is the secret of all processes and clients of the fleet [default: DURKENZO_SECRET, else
+    /// none]
     #[arg(
         long,
         alias = "secret",
@@ -20,7 +22,7 @@ pub struct SafetyOptions {
     )]
     pub secret_file: Option<PathBuf>,
 
-    /// File in PEM with the authority of processes and clients, which speak TLS alone then [default: none]
+    /// File in PEM with the authority of processes and clients, which then speak only TLS [default: none]
     #[arg(
         long,
         env = "DURKENZO_TLS_CA",
@@ -29,7 +31,7 @@ pub struct SafetyOptions {
     )]
     pub tls_ca: Option<PathBuf>,
 
-    /// File in PEM with the certificate of it that is shown; a process's is for the name peer.durkenzo
+    /// File in PEM with a certificate of that authority; that of a process must have the name peer.durkenzo
     #[arg(
         long,
         env = "DURKENZO_TLS_CERT",
@@ -38,7 +40,7 @@ pub struct SafetyOptions {
     )]
     pub tls_cert: Option<PathBuf>,
 
-    /// File in PEM with its key
+    /// File in PEM with the certificate's key
     #[arg(
         long,
         env = "DURKENZO_TLS_KEY",
@@ -49,7 +51,7 @@ pub struct SafetyOptions {
 }
 
 impl SafetyOptions {
-    /// Reads the environment alone, as `DURKENZO_TLS_CA`: for a client that has flags of its own.
+    /// Reads only the environment, such as `DURKENZO_TLS_CA`. This is for a client that has flags of its own.
     pub fn given() -> SafetyOptions {
         let file = |it: &str| env::var_os(it).map(PathBuf::from);
         SafetyOptions {
@@ -61,7 +63,8 @@ impl SafetyOptions {
     }
 }
 
-/// What a process or a client of a fleet shows others, and has them show. By default that is nothing.
+/// The proof that a process or a client of a fleet gives to others, and asks of them: a secret, TLS, both or neither.
+/// By default there is none.
 #[derive(Clone, Debug, Default)]
 pub struct Safety {
     pub(crate) secret: Option<Secret>,
@@ -69,11 +72,11 @@ pub struct Safety {
 }
 
 impl Safety {
-    /// Reads the files and the variable of the environment that these options name.
+    /// Reads the files that these options name, and the variable of the environment with the secret.
     ///
     /// # Errors
     ///
-    /// [`JoinError::Secret`] or [`JoinError::Tls`] if a file can't be read or hasn't what it should have.
+    /// [`JoinError::Secret`] or [`JoinError::Tls`] if a file can't be read or doesn't have the right content.
     pub fn of(options: &SafetyOptions) -> Result<Safety, JoinError> {
         let secret = Secret::given_for_greetings(options.secret_file.as_deref(), SECRET)?;
         let safety = Safety { secret, tls: None };
@@ -83,11 +86,12 @@ impl Safety {
         }
     }
 
-    /// Shows this secret to whoever is reached, so only TLS hides it from who reads the network.
+    /// Uses this secret, which is sent to each process that is reached. Without TLS, anybody who reads the network can
+    /// read it.
     ///
     /// # Errors
     ///
-    /// [`JoinError::Secret`] if it is longer than 256 bytes. An empty one is none.
+    /// [`JoinError::Secret`] if the secret is longer than 256 bytes. If it is empty, there is no secret.
     pub fn with_secret(self, secret: &[u8]) -> Result<Safety, JoinError> {
         if secret.len() > MAX_SECRET {
             return Err(SecretFault::TooLong("the secret".to_owned()).into());
@@ -96,18 +100,19 @@ impl Safety {
         Ok(Safety { secret, ..self })
     }
 
-    /// Speaks TLS, by these files in PEM: the fleet's authority, a certificate of it, and its key. Either side checks
-    /// the other one's. A process's certificate has the name `peer.durkenzo`.
+    /// Speaks TLS with these files in PEM: the fleet's authority, a certificate of that authority, and its key. Each
+    /// side checks the certificate of the other. The certificate of a process must have the name `peer.durkenzo`.
     ///
     /// # Errors
     ///
-    /// [`JoinError::Tls`] if a file can't be read or hasn't what it should have, or the key isn't the certificate's.
+    /// [`JoinError::Tls`] if a file can't be read or doesn't have the right content, or if the key doesn't belong to
+    /// the certificate.
     pub fn with_tls(self, authority: &Path, chain: &Path, key: &Path) -> Result<Safety, JoinError> {
         let tls = Some(FleetTls::new(authority, chain, key)?);
         Ok(Safety { tls, ..self })
     }
 
-    /// Whether others have to show something.
+    /// Returns whether others must give a proof.
     pub fn is_guarded(&self) -> bool {
         self.secret.is_some() || self.tls.is_some()
     }

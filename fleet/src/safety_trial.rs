@@ -1,13 +1,13 @@
-//! Who may reach a fleet, over sockets: by a secret, by TLS, by both and by neither. What isn't taken has a name, and
-//! has nothing executed.
+//! Tests of who may reach a fleet over sockets: with a secret, with TLS, with both and with neither. A refusal must
+//! have a name, and nothing may be executed.
 use crate::connections::Connections;
 use crate::frame::{receive, CallFrame, Request, Response, LONGEST};
 use crate::introduction::Introduction;
+use crate::settings::identity;
 use crate::{
     Call, CallError, Came, Fault, Fleet, JoinError, MeetError, Options, Retry, Router, Safety,
     SafetyOptions, Service, Shard,
 };
-use durkenzo_control::links::checksum;
 use durkenzo_control::tls::PEER_NAME;
 use durkenzo_store::{Embedded, Store};
 use std::io::{Read, Write};
@@ -19,13 +19,13 @@ use std::sync::Arc;
 use std::time::{Duration, Instant};
 use std::{env, fs, process, thread};
 
-/// How long something is waited for that has to come, on a machine that may be busy.
+/// The longest wait for an event that must come, on a machine that may be busy.
 const SOON: Duration = Duration::from_secs(60);
-/// How long a call is tried that isn't made.
+/// The time for a call that must not be made.
 const BRIEF: Duration = Duration::from_millis(500);
 const KEY: &str = "-newkey ec -pkeyopt ec_paramgen_curve:P-256 -nodes";
 
-/// Counts what is executed.
+/// Counts the calls that are executed.
 struct Executing(Arc<AtomicUsize>);
 
 impl Service for Executing {
@@ -45,7 +45,7 @@ impl Service for Executing {
     }
 }
 
-/// A fleet of two servers, which ask to be shown this.
+/// A fleet of two processes, which ask for a proof.
 struct Guarded {
     store: Arc<dyn Store>,
     fleets: Vec<Fleet<Executing>>,
@@ -92,7 +92,7 @@ impl Guarded {
         Router::of_with(&self.address(), safety)
     }
 
-    /// Why who shows this isn't met, by its name. Nothing is executed.
+    /// Returns why a client with this proof is refused. Checks that nothing is executed.
     fn refusal(&self, safety: Safety) -> MeetError {
         let before = self.executed.load(Ordering::SeqCst);
         let watching = Router::watch_with(&*self.store, safety.clone()).unwrap();
@@ -113,7 +113,7 @@ impl Guarded {
         }
     }
 
-    /// Calls, and has the shard go to and fro, with calls by old maps meanwhile.
+    /// Calls, and moves the shard to and fro. In the meantime, calls go by old maps too.
     fn works(&self, safety: &Safety) {
         let watching = Router::watch_with(&*self.store, safety.clone()).unwrap();
         let until = Retry::Until(SOON);
@@ -133,7 +133,7 @@ impl Guarded {
         self.works_for_tasks(safety);
     }
 
-    /// Calls from a task, of more bytes than a record of TLS has.
+    /// Calls from a task. Some calls have more bytes than a record of TLS.
     #[cfg(feature = "tokio")]
     fn works_for_tasks(&self, safety: &Safety) {
         let calling = async {
@@ -159,7 +159,7 @@ fn by_secret(secret: &str) -> Safety {
     Safety::default().with_secret(secret.as_bytes()).unwrap()
 }
 
-/// A folder with secrets, authorities and certificates of them, which goes with the test.
+/// A folder with secrets, and with authorities and their certificates. It is removed after the test.
 struct Folder(PathBuf);
 
 impl Drop for Folder {
@@ -198,7 +198,7 @@ impl Folder {
         );
     }
 
-    /// Makes a certificate of this authority for this name, with these words. Returns what shows it.
+    /// Makes a certificate of this authority for this name, with these words. Returns the options that use it.
     fn certify(&self, authority: &str, name: &str, dns: &str, words: &str) -> SafetyOptions {
         if !self.0.join(format!("{authority}.pem")).exists() {
             let out = format!("-keyout {authority}.key -out {authority}.pem");
@@ -221,7 +221,7 @@ impl Folder {
     }
 }
 
-/// Whether there is openssl, by which tests make certificates.
+/// Returns whether openssl is installed. The tests make certificates with it.
 fn is_openssl_there() -> bool {
     Command::new("openssl").arg("version").output().is_ok()
 }
@@ -242,7 +242,7 @@ fn who_shows_another_secret_or_none_is_refused_by_name() {
         assert!(is_named, "{refused}");
     }
     drop(guarded.join(3, folder.secret("right")).unwrap());
-    // Who shows a secret though there is none learns that too.
+    // A client that gives a secret must learn it too if the fleet has none.
     let open = Guarded::new(&SafetyOptions::default());
     let why = open.refusal(by_secret("right"));
     assert!(matches!(why, MeetError::OtherSecret), "{why}");
@@ -259,7 +259,7 @@ fn by_tls_only_certificates_of_the_authority_are_taken_within_their_time() {
     let client = folder.certify("fleet", "client", "client.example", "");
     let foreign = folder.certify("foreign", "other", PEER_NAME, "");
     let late = folder.certify("fleet", "late", PEER_NAME, "-days -1");
-    // It trusts the fleet, and shows a certificate of another authority.
+    // This side trusts the fleet, but has a certificate of another authority.
     let mixed = SafetyOptions {
         tls_ca: own.tls_ca.clone(),
         ..foreign.clone()
@@ -284,7 +284,7 @@ fn by_tls_only_certificates_of_the_authority_are_taken_within_their_time() {
     let refused = guarded.join(3, client.clone()).map(drop).unwrap_err();
     assert!(matches!(refused, JoinError::NoProcess), "{refused}");
     drop(guarded.join(3, own.clone()).unwrap());
-    // Who speaks TLS though nobody else does learns that too.
+    // A client that speaks TLS must learn it too if the fleet doesn't.
     let open = Guarded::new(&SafetyOptions::default());
     let why = open.refusal(of(&client));
     assert!(matches!(why, MeetError::Tls(_)), "{why:?}");
@@ -303,7 +303,7 @@ fn by_tls_too_whoever_loses_its_place_learns_that_nothing_was_done() {
         connections: 1,
         ..options(it, own.clone())
     });
-    let settings = checksum(guarded.fleets[0].inner.settings.as_bytes());
+    let settings = identity(&guarded.fleets[0].inner.settings);
     let client = || Connections::new(Introduction::of_client(&shown, settings));
     let (mut asked, mut room) = (Vec::new(), Vec::new());
     Request::Routes.write(&mut asked);
@@ -317,7 +317,7 @@ fn by_tls_too_whoever_loses_its_place_learns_that_nothing_was_done() {
         let answered = other.ask(&guarded.address(), &Request::Routes, SOON);
         matches!(Response::read(&answered.unwrap()), Ok(Response::Text(_)))
     };
-    // The first one is idle a moment after it was answered.
+    // The first client becomes idle a moment after it was answered.
     while !is_answered() {
         assert!(Instant::now() < end, "it has its place still");
     }
@@ -353,9 +353,9 @@ fn a_client_never_speaks_for_a_server() {
     let guarded = Guarded::new(&folder.certify("fleet", "one", PEER_NAME, ""));
     let client = Safety::of(&folder.certify("fleet", "client", "client.example", "")).unwrap();
     guarded.works(&client);
-    let settings = checksum(guarded.fleets[0].inner.settings.as_bytes());
+    let settings = identity(&guarded.fleets[0].inner.settings);
     let before = guarded.executed.load(Ordering::SeqCst);
-    // It says that it is server 2, which its certificate doesn't.
+    // The client says that it is server 2, but its certificate is one of a client.
     let introduction = Introduction::of_process(&client, settings, (2, 9));
     let call = CallFrame {
         shard: 0,
@@ -380,19 +380,19 @@ fn strangers_keep_nobody_out_and_fill_no_memory() {
     let folder = Folder::made("strangers");
     let guarded = Guarded::new(&folder.secret("right"));
     guarded.works(&by_secret("right"));
-    // They say nothing, or begin a frame as long as may be without a greeting.
+    // Half of these say nothing. The others begin a frame of the greatest length, without a greeting.
     let strangers: Vec<_> = (0..600)
         .map(|turn| {
             let mut stranger = TcpStream::connect(guarded.fleets[0].address()).unwrap();
             if turn % 2 == 0 {
-                // It may be ended already.
+                // The connection may have been ended already.
                 let _ = stranger.write_all(&(LONGEST as u32).to_be_bytes());
             }
             stranger
         })
         .collect();
     guarded.works(&by_secret("right"));
-    // Those that came first gave way.
+    // The connections that came first gave way.
     let mut first = &strangers[1];
     first.set_read_timeout(Some(SOON)).unwrap();
     let ended = first.read(&mut [0; 16]);
@@ -409,7 +409,7 @@ fn who_greets_byte_by_byte_has_no_more_time() {
     let guarded = Guarded::new(&folder.secret("right"));
     let mut slow = TcpStream::connect(guarded.fleets[0].address()).unwrap();
     let began = Instant::now();
-    // It would take minutes, and fails once the other side has gone.
+    // The whole greeting would take almost a minute. It fails as soon as the other side has ended the connection.
     let mut bytes = b"SMP\0\x02\0\0\x04\0".iter().chain(&[0; 1_024]);
     while bytes
         .next()

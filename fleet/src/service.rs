@@ -1,38 +1,42 @@
 use crate::{Changes, Shard};
 use std::error::Error;
 
-/// Why a shard isn't added: it is tried again.
+/// Why the service can't add a shard, or a piece of its body. The process tries again.
 pub type Fault = Box<dyn Error + Send + Sync>;
 
-/// What a user writes. Each process of a fleet has one value of it, which all threads share.
+/// The trait that a user implements. Each process of a fleet has one value of it, which all its threads share.
 pub trait Service: Send + Sync + 'static {
-    /// What the service keeps of a shard. One call at a time uses it.
+    /// The state that the service keeps for a shard. Only one call at a time uses it.
     type Body: Send + 'static;
 
-    /// Returns what is kept of a shard that comes to this process.
+    /// Returns the body of a shard that comes to this process.
     ///
     /// # Errors
     ///
-    /// The shard's calls wait, and this is called again a little later.
+    /// If the service can't make the body yet. The shard's calls wait, and `add` is called again a little later.
     fn add(&self, shard: Shard, came: Came<'_>) -> Result<Self::Body, Fault>;
 
-    /// Answers a call.
+    /// Answers a call. An answer must have at most 1 MiB. If it is longer, the caller doesn't get it: it hears only
+    /// that the call may have been made, and why.
     fn answer(&self, body: &mut Self::Body, call: Call<'_>) -> Vec<u8>;
 
-    /// Returns all that the next owner needs. No call is answered by this body from here on, unless the next owner
-    /// fails before it is the owner: then calls go on by the body as it is.
+    /// Returns all bytes that the next owner needs. After that, no call is answered with this body, unless the next
+    /// owner fails before it becomes the owner. In that case calls go on with the body as it is, so this must leave the
+    /// body usable.
     fn hand_over(&self, body: &mut Self::Body) -> Vec<u8>;
 
-    /// Prepares for a shard that will come from that server. Its owner answers calls meanwhile.
+    /// Prepares for a shard that will come from that server. The server owns the shard, and answers its calls in the
+    /// meantime.
     fn prepare_add(&self, _shard: Shard, _from: Option<u16>) {}
 
-    /// Drops what was kept of a shard that is another server's now.
+    /// Drops the body of a shard that belongs to another server now.
     fn dropped(&self, _shard: Shard, body: Self::Body) {
         drop(body);
     }
 
-    /// Returns how the service moves a body in pieces while it answers calls, if it can. A large body then moves with
-    /// hardly a stop, and `hand_over` is called only if the next owner takes no pieces.
+    /// Returns how the service moves a body in pieces while it answers calls, if the service supports that. A large
+    /// body then moves with hardly a stop. `hand_over` is called only if the next owner takes no pieces, or if a piece
+    /// can't be sent.
     fn changes(&self) -> Option<&dyn Changes<Self::Body>> {
         None
     }
@@ -41,13 +45,14 @@ pub trait Service: Send + Sync + 'static {
 /// How a shard comes to a process.
 #[derive(Clone, Copy, Debug, PartialEq, Eq)]
 pub enum Came<'a> {
-    /// The shard begins by the first record that it ever had, which was written while this process was there. Nobody
-    /// had it before.
+    /// Nobody had the shard before. It begins under the first record that it ever had, and that record was written
+    /// while this process was already there.
     New,
-    /// The previous owner handed this over by [`Service::hand_over`].
+    /// The previous owner handed over these bytes with [`Service::hand_over`].
     Handed(&'a [u8]),
-    /// The previous owner has failed, or this process can't know that there was none: what was kept in memory is lost.
-    /// A service with a database reads it there.
+    /// The body that was in memory is lost, for example because the previous owner failed or because a callback
+    /// panicked. A process also gets this if it can't know whether anybody had the shard before. A service with a
+    /// database reads the state there.
     Lost,
 }
 
@@ -68,12 +73,12 @@ impl<'a> Call<'a> {
         self.shard
     }
 
-    /// Returns the fencing token, as [`Shard::fence`] has it.
+    /// Returns the fencing token, as [`Shard::fence`] does.
     pub fn fence(&self) -> u64 {
         self.shard.fence()
     }
 
-    /// Returns what the client asks.
+    /// Returns the bytes of the client's request.
     pub fn request(&self) -> &'a [u8] {
         self.request
     }

@@ -1,6 +1,8 @@
-//! Which shards and servers a fleet has, and which shard a key is of. All processes agree on it by the store.
+//! The settings of a fleet: its shards and servers, and the rule that gives the shard of a key. All processes agree on
+//! them through the store.
 use crate::JoinError;
 use durkenzo::{Board, Layout, LayoutFault};
+use durkenzo_control::links::checksum;
 use durkenzo_driver::keys;
 use durkenzo_store::{Outcome, Revision, Store, Transaction};
 use serde_json::{json, Map, Value};
@@ -8,22 +10,23 @@ use std::fmt;
 use std::fs;
 use std::path::Path;
 
-/// How many differences of settings are told.
+/// The most differences of settings that a message names.
 const TOLD: usize = 5;
-/// How many characters of a value are told.
+/// The most characters of a value that a message shows.
 const CUT: usize = 80;
 
 /// The settings of a fleet: the rule by which keys go to shards, and the line that the proved control reads.
 #[derive(Debug)]
 pub(crate) struct Settings {
     pub(crate) sharding: Sharding,
-    /// Servers are 1 to this one.
+    /// The number of servers. They are numbered from 1.
     pub(crate) servers: u16,
     line: String,
 }
 
 impl Settings {
-    /// Returns those of a fleet of so many servers which take turns, with the room that they need if one is away.
+    /// Returns the settings of a fleet of this many servers that restart in turn. They have enough room for all shards
+    /// if one server is away.
     pub(crate) fn of_servers(sharding: Sharding, servers: u16) -> Settings {
         let line = sharding.line(servers);
         Settings {
@@ -33,23 +36,23 @@ impl Settings {
         }
     }
 
-    /// Reads those of this file, which is a script or has settings alone. Keys go by hash to as many shards as it has,
-    /// or by its bounds.
+    /// Reads the settings in this file. The file is a script, or has only settings. If `hashes` is set, keys go by hash
+    /// to as many shards as the file has. If it isn't, keys go by the bounds in the file.
     ///
     /// # Errors
     ///
-    /// The file can't be read, or its settings break a rule, as the proved library finds.
+    /// If the file can't be read, or its settings break a rule of the proved library.
     pub(crate) fn of_file(file: &Path, hashes: bool) -> Result<Settings, JoinError> {
         let text = fs::read_to_string(file);
         let text = text.map_err(|error| JoinError::Unreadable(file.to_owned(), error))?;
-        // Of a script its first line is taken.
+        // If the file is a script, its first line has the settings.
         let first = text.lines().next().unwrap_or_default();
         let text = if first.ends_with('}') { first } else { &text };
         Settings::of_text(text.trim_end(), hashes).map_err(|why| why.of_file(file))
     }
 
     fn of_text(text: &str, hashes: bool) -> Result<Settings, SettingsError> {
-        // No text in JSON has an end of line in it as it is.
+        // A text in JSON never contains an unescaped end of line, so this changes only the space between the values.
         let line = text.replace(['\r', '\n'], " ");
         let members = serde_json::from_str(&line).unwrap_or(Value::Null);
         let rows = |name: &str| members[name].as_array().map_or(&[][..], Vec::as_slice);
@@ -67,32 +70,30 @@ impl Settings {
                 bounds: Vec::new(),
             },
         };
-        // The library takes at most 4,095.
-        let servers = rows("servers").len() as u16;
         Ok(Settings {
             sharding,
-            servers,
+            servers: servers_of(&members),
             line,
         })
     }
 
-    /// Returns them as they lie in the store.
+    /// Returns the settings in the form that the store has.
     pub(crate) fn written(&self) -> String {
         let rule = if self.sharding.hashes { HASHES } else { RANGES };
         format!("{rule}\n{}", self.line)
     }
 }
 
-/// Why a text has no settings of a fleet.
+/// Why a text isn't the settings of a fleet.
 #[derive(Debug, thiserror::Error)]
 pub enum SettingsError {
-    /// They break a rule of the library's.
+    /// The settings break a rule of the library.
     #[error(transparent)]
     Fault(#[from] durkenzo::SettingsFault),
-    /// Servers have other numbers than 1, 2 and so on.
+    /// The servers aren't numbered 1, 2 and so on.
     #[error("BadServers: servers have the numbers 1, 2 and so on, without gaps")]
     Gaps,
-    /// There are as many shards as no hash spreads over.
+    /// Keys can't be spread over this many shards by hash.
     #[error(transparent)]
     Layout(#[from] LayoutFault),
 }
@@ -103,39 +104,32 @@ impl SettingsError {
     }
 }
 
-/// How keys go to shards, by the proved layout.
+/// The rule by which keys go to shards, with the proved layout.
 pub struct Sharding {
     layout: Layout,
-    /// Whether a key's hash is looked up, and not the key.
+    /// Whether the layout looks up the hash of a key, and not the key itself.
     hashes: bool,
     bounds: Vec<String>,
 }
 
 impl Sharding {
-    /// Spreads keys over so many shards by their hashes.
+    /// Spreads keys over this many shards by their hashes.
     ///
     /// # Errors
     ///
-    /// There are 1 to 4,096 shards.
+    /// If the number of shards isn't 1 to 4,096.
     pub(crate) fn hashes(shards: u16) -> Result<Sharding, LayoutFault> {
-        let steps = (0..u64::from(shards)).map(|it| (it << 32) / u64::from(shards.max(1)));
-        let bounds: Vec<String> = steps
-            .map(|it| {
-                if it == 0 {
-                    String::new()
-                } else {
-                    hexadecimal(it)
-                }
-            })
-            .collect();
-        Sharding::of(bounds, true)
+        let steps = (1..u64::from(shards)).map(|it| (it << 32) / u64::from(shards));
+        let text = |it: u64| String::from_utf8_lossy(&hexadecimal(it as u32)).into_owned();
+        let bounds = std::iter::once(String::new()).chain(steps.map(text));
+        Sharding::of(bounds.take(usize::from(shards)).collect(), true)
     }
 
-    /// Gives each shard the keys from its bound on, up to the next one. The first bound is empty.
+    /// Gives each shard the keys from its bound up to the next bound. The first bound must be empty.
     ///
     /// # Errors
     ///
-    /// The bounds must rise.
+    /// If the bounds don't rise, or the first one isn't empty.
     pub(crate) fn ranges(bounds: Vec<String>) -> Result<Sharding, LayoutFault> {
         Sharding::of(bounds, false)
     }
@@ -149,13 +143,14 @@ impl Sharding {
         })
     }
 
-    /// Returns the sharding of a fleet by what lies in the store, if that is of a fleet.
+    /// Reads the sharding from the settings of a fleet, as they are in the store. Returns nothing if the text isn't
+    /// such settings.
     pub(crate) fn written(settings: &str) -> Option<Result<Sharding, LayoutFault>> {
         let (rule, line) = settings.split_once('\n')?;
         let line: Value = serde_json::from_str(line).ok()?;
         let bounds = line.get("bounds")?.as_array()?;
         if rule == HASHES {
-            // A layout has at most 4,096.
+            // A layout has at most 4,096 shards.
             return Some(Sharding::hashes(u16::try_from(bounds.len()).ok()?));
         }
         let bounds = bounds.iter();
@@ -165,24 +160,24 @@ impl Sharding {
         Some(Sharding::of(bounds, false))
     }
 
-    /// Returns how many shards there are.
+    /// Returns the number of shards.
     pub fn shards(&self) -> u16 {
-        // A layout has at most 4,096.
+        // A layout has at most 4,096 shards.
         self.layout.count() as u16
     }
 
-    /// Returns the shard of a key, which may be any bytes.
+    /// Returns the shard of a key. The key may be any bytes.
     pub fn shard_of(&self, key: &[u8]) -> u16 {
         match self.hashes {
-            true => self.layout.shard_of(hexadecimal(u64::from(hash(key)))),
+            true => self.layout.shard_of(hexadecimal(hash(key))),
             false => self.layout.shard_of(key),
         }
     }
 
-    /// Returns the line that says this of a fleet of so many servers.
+    /// Returns the line of settings for this sharding and this many servers.
     fn line(&self, servers: u16) -> String {
         let shards = self.shards();
-        // Whatever server is away, the others have room.
+        // If any one server is away, the others have room for all shards.
         let capacity = shards.div_ceil(servers.saturating_sub(1).max(1));
         let rows: Vec<Value> = (1..=servers)
             .map(|it| json!({"id": it, "domain": it, "capacity": capacity}))
@@ -219,28 +214,73 @@ impl fmt::Debug for Sharding {
 const HASHES: &str = "hash";
 const RANGES: &str = "ranges";
 
-/// Writes the settings if the store has none. Returns them as they lie there.
+/// Writes the settings, if the store has none and they have a row for this server. Returns the settings in force. This
+/// process must use those, even if its own settings differ.
 ///
 /// # Errors
 ///
-/// The store has others, or can't be read or written.
-pub(crate) fn agree(store: &dyn Store, wanted: String) -> Result<String, JoinError> {
+/// If a part that never changes is different in the store, if the store's settings have no row for this server, or if
+/// the store can't be read or written.
+pub(crate) fn agree(store: &dyn Store, wanted: &str, server: u16) -> Result<String, JoinError> {
+    let servers = servers_of(&read(wanted).1);
+    if server > servers && store.read(&[keys::SETTINGS])?.get(keys::SETTINGS).is_none() {
+        return Err(JoinError::NotFirst { server, servers });
+    }
     let first = Transaction::new()
         .compare(keys::SETTINGS, Revision::NEVER)
-        .put(keys::SETTINGS, &*wanted)
+        .put(keys::SETTINGS, wanted)
         .or_read(keys::SETTINGS);
     let Outcome::Lost(reading) = store.make(first)? else {
-        return Ok(wanted);
+        return Ok(wanted.to_owned());
     };
     let found = reading.get(keys::SETTINGS).map_or(&[][..], |it| &it.value);
     let found = String::from_utf8_lossy(found).into_owned();
-    match differences(&found, &wanted) {
-        none if none.is_empty() => Ok(found),
-        some => Err(JoinError::OtherSettings(some)),
+    let differences = differences(&found, wanted);
+    if lasting(&found) != lasting(wanted) {
+        return Err(JoinError::OtherSettings(differences));
     }
+    if server > servers_of(&read(&found).1) {
+        return Err(JoinError::NotNamed(server));
+    }
+    if !differences.is_empty() {
+        let advice = "SM CONFIGURE has other settings come in force";
+        tracing::warn!(
+            differences,
+            advice,
+            "other settings are in force than this process has"
+        );
+    }
+    Ok(found)
 }
 
-/// Returns in what these settings differ, by name, and nothing if they say the same.
+/// Returns a checksum of the part of a fleet's settings that never changes. Processes and clients of the same fleet
+/// have the same number.
+pub(crate) fn identity(settings: &str) -> u64 {
+    checksum(lasting(settings).as_bytes())
+}
+
+/// Returns the part of the settings that never changes: the rule, the shards and the ceiling.
+fn lasting(settings: &str) -> String {
+    let (rule, members) = read(settings);
+    let of = |name: &str| members.get(name).cloned().unwrap_or_default();
+    let shards = of("shards").as_array().map_or(0, Vec::len);
+    json!([rule, of("bounds"), shards, of("ceiling")]).to_string()
+}
+
+/// Returns the rule, and the members of the line.
+fn read(settings: &str) -> (&str, Value) {
+    let (rule, line) = settings.split_once('\n').unwrap_or((settings, ""));
+    (rule, serde_json::from_str(line).unwrap_or_default())
+}
+
+/// Returns the number of servers in these settings.
+fn servers_of(members: &Value) -> u16 {
+    let rows = members["servers"].as_array().map_or(0, Vec::len);
+    // The library takes at most 4,095 servers.
+    u16::try_from(rows).unwrap_or(u16::MAX)
+}
+
+/// Returns the first differences of these settings, by name. Returns an empty text if the settings say the same.
 fn differences(found: &str, wanted: &str) -> String {
     let read = |text: &str| {
         let (rule, line) = text.split_once('\n').unwrap_or((text, ""));
@@ -258,7 +298,7 @@ fn differences(found: &str, wanted: &str) -> String {
     told.join("; ")
 }
 
-/// Returns in what a member differs: by how many rows, or by the first one of them.
+/// Returns how a member differs: the numbers of rows, or the first row that differs.
 fn difference(name: &str, there: &Value, here: &Value) -> Option<String> {
     match (there, here) {
         (there, here) if there == here => None,
@@ -284,12 +324,16 @@ pub(crate) fn line(settings: &str) -> &str {
     settings.split_once('\n').map_or("", |it| it.1)
 }
 
-/// A number of 32 bits as text that is in the order of numbers.
-fn hexadecimal(number: u64) -> String {
-    format!("{number:08x}")
+/// Returns a number of 32 bits as a text. The texts are in the order of the numbers.
+fn hexadecimal(number: u32) -> [u8; 8] {
+    std::array::from_fn(|at| {
+        let digit = number >> (28 - 4 * at) & 0xf;
+        b"0123456789abcdef"[digit as usize]
+    })
 }
 
-/// The hash of a key: FNV-1a, whose upper bits are mixed once more. It is part of the format, and never changes.
+/// Returns the hash of a key: FNV-1a, with its upper bits mixed once more. The hash is part of the format, and must
+/// never change.
 fn hash(key: &[u8]) -> u32 {
     let mixed = key.iter().fold(0xcbf2_9ce4_8422_2325_u64, |hash, byte| {
         (hash ^ u64::from(*byte)).wrapping_mul(0x0100_0000_01b3)

@@ -1,85 +1,95 @@
-//! What a record asks of this process: to prepare for a shard, to hand it over, to begin it, or to drop it.
-use crate::fleet::FleetInner;
+//! The work that a record asks of this process: to prepare for a shard, to hand it over, to begin it, or to drop it.
+use crate::fleet_inner::FleetInner;
 use crate::outgoing_copy::OutgoingCopy;
 use crate::place::Place;
-use crate::{Came, Service, Shard};
+use crate::{Came, Fault, Service, Shard};
 use durkenzo::{Record, Stand};
+use std::future::{poll_fn, Future};
 use std::panic::{catch_unwind, AssertUnwindSafe};
+use std::pin::pin;
 use std::sync::atomic::Ordering;
-use std::time::{Duration, Instant};
+use std::task::Poll;
+use std::time::Duration;
 
-/// How long a piece waits until the record has been read by which it is sent.
+/// The longest time that a piece waits until this process has read the record under which the piece was sent.
 const READ: Duration = Duration::from_millis(500);
-/// How often that is looked.
+/// How often this process looks whether it has read the record.
 const LOOK: Duration = Duration::from_millis(2);
 
 impl<S: Service> FleetInner<S> {
-    /// Does what the shard's record asks for. What can't be done yet is tried again.
-    pub(crate) fn settle(&self, shard: u16) {
+    /// Does the work that the shard's record asks for. If it can't be done yet, it is tried again.
+    pub(crate) async fn settle(&self, shard: u16) {
         let place = &self.places[usize::from(shard)];
-        let (word, is_freed, record) = {
+        let (by, record) = {
             let known = place.known();
-            (known.word, known.view.is_freed(), known.record())
+            (known.to_settle(), known.record())
         };
-        let settled = AssertUnwindSafe(|| self.settled(shard, place, record, is_freed));
-        let is_done = catch_unwind(settled).unwrap_or_else(|_| {
+        let settled = unless_panicked(self.settled(shard, place, record, by.is_freed));
+        let is_done = settled.await.unwrap_or_else(|| {
             tracing::warn!(shard, "a callback of the service has panicked");
             false
         });
         let mut known = place.known();
         known.settles = false;
-        known.settled = is_done.then_some((word, is_freed));
+        known.settled = is_done.then_some(by);
         drop(known);
         place.queue.wake();
     }
 
-    fn settled(&self, shard: u16, place: &Place<S::Body>, record: Record, is_freed: bool) -> bool {
+    async fn settled(
+        &self,
+        shard: u16,
+        place: &Place<S::Body>,
+        record: Record,
+        is_freed: bool,
+    ) -> bool {
         let (own, generation) = (self.server(), record.generation);
         match record.stand {
             Stand::Serving(owner) | Stand::Prepared { owner, .. } | Stand::Taken { owner, .. }
                 if owner == own =>
             {
-                self.begin(shard, place)
+                self.begin(shard, place).await
             }
-            // A process that leaves takes no shard.
+            // A process that leaves must not take a shard.
             Stand::Prepared { next, .. } if next == own && self.closing.load(Ordering::Acquire) => {
                 false
             }
             Stand::Prepared { owner, next } if next == own => {
-                // A body of before is of no use, and the control waits for the ack.
-                self.drop_body(shard, place, generation);
-                self.prepare(shard, place, (owner, generation))
-                    && self.ack(shard, place, generation)
+                // A body from before is of no use, and the control waits for the ack.
+                self.drop_body(shard, place, generation).await;
+                self.prepare(shard, place, (owner, generation)).await
+                    && self.ack(shard, place, generation).await
             }
             Stand::Forwarding { owner, next } if owner == own => {
-                self.hand_over(shard, place, next, generation)
+                self.hand_over(shard, place, next, generation).await
             }
             Stand::Forwarding { next, .. } if next == own => {
-                #[cfg(any(test, feature = "plants"))]
+                #[cfg(any(test, feature = "plants", feature = "simulated"))]
                 let is_freed =
                     is_freed || self.options.plant == Some(crate::plant::Plant::NextBeginsAnew);
-                // The owner let go of it, and what it had isn't here: another process of this server had it, or none.
-                !is_freed || self.begin(shard, place)
+                // The owner has let go of it. If its body isn't here, another process of this server had got it, or no
+                // process had.
+                !is_freed || self.begin(shard, place).await
             }
-            // The process that waits for it may go on: nothing is under way here.
-            Stand::Paused(owner) if owner == own => self.ack(shard, place, generation),
+            // Nothing is under way here any more, so the process that waits for this ack may go on.
+            Stand::Paused(owner) if owner == own => self.ack(shard, place, generation).await,
             Stand::Vacant
             | Stand::Serving(_)
             | Stand::Prepared { .. }
             | Stand::Forwarding { .. }
             | Stand::Taken { .. }
             | Stand::Paused(_) => {
-                self.drop_body(shard, place, generation);
+                self.drop_body(shard, place, generation).await;
                 true
             }
         }
     }
 
-    /// Begins the shard, if what is kept of it isn't here, or is of before others may have executed.
-    fn begin(&self, shard: u16, place: &Place<S::Body>) -> bool {
-        let mut body = place.body();
+    /// Begins the shard, if its body isn't here, or is from before others may have executed.
+    async fn begin(&self, shard: u16, place: &Place<S::Body>) -> bool {
+        let mut body = place.body().await;
         self.drop_stale(shard, place, &mut body);
-        // What came from another owner is of no use here.
+        // A body that came from another owner is of no use here.
         *place.incoming() = None;
         let (holding, is_new, fence, copy) = {
             let mut known = place.known();
@@ -101,19 +111,33 @@ impl<S: Service> FleetInner<S> {
                 tracing::info!(shard, fence, ?came, "a shard begins here");
                 *body = Some(made);
                 let mut known = place.known();
-                known.had_body = true;
-                // If the record and the lease have changed meanwhile, it begins again.
+                (known.had_body, known.failed_adds) = (true, 0);
+                // If the record and the lease have changed in the meantime, the shard begins again.
                 known.body_is_of = known.held_on(holding);
                 known.body_is_of.is_some()
             }
             Err(error) => {
-                tracing::warn!(shard, %error, "a shard isn't added");
+                self.tell_failed_add(shard, place, &error);
                 false
             }
         }
     }
 
-    /// Drops the body if it is of before another process may have executed.
+    /// Tells the operator that the service failed to add the shard, the more seldom the more often it failed.
+    fn tell_failed_add(&self, shard: u16, place: &Place<S::Body>, error: &Fault) {
+        let count = {
+            let mut known = place.known();
+            known.failed_adds += 1;
+            known.failed_adds
+        };
+        if count.is_power_of_two() {
+            let told =
+                format!("shard {shard} isn't added, try {count}, so its calls wait: {error}");
+            self.environment.tell(&told);
+        }
+    }
+
+    /// Drops the body if it is from before another process may have executed.
     pub(crate) fn drop_stale(
         &self,
         shard: u16,
@@ -126,27 +150,33 @@ impl<S: Service> FleetInner<S> {
         };
         if let Some(stale) = body.take_if(|_| !is_held) {
             tracing::warn!(shard, "what was kept of the shard is too old");
+            let mut known = place.known();
+            (known.copy, known.spelled) = (None, None);
+            drop(known);
             self.service.dropped(Shard::new(shard, fence), stale);
         }
     }
 
-    /// Lets go of the record, once nothing is under way, and acks it. Returns whether that was done, or is no more to be.
-    fn ack(&self, shard: u16, place: &Place<S::Body>, generation: u64) -> bool {
-        let _body = place.body();
+    /// Lets go of the record, after the call that is under way, and acks it. Returns whether that is done, or is no
+    /// longer needed.
+    async fn ack(&self, shard: u16, place: &Place<S::Body>, generation: u64) -> bool {
+        let _body = place.body().await;
         let mut known = place.known();
         if known.record().generation != generation {
             return true;
         }
         let may_ack = known.view.may_ack().unwrap_or(false);
         if may_ack && known.let_go().is_ok() {
+            known.acked = known.acked.max(generation);
             self.member.ack(shard, generation);
         }
         may_ack
     }
 
-    /// Drops what is kept of a shard that is another server's.
-    fn drop_body(&self, shard: u16, place: &Place<S::Body>, generation: u64) {
-        let (mut body, mut incoming) = (place.body(), place.incoming());
+    /// Drops the body of a shard that belongs to another server.
+    async fn drop_body(&self, shard: u16, place: &Place<S::Body>, generation: u64) {
+        let mut body = place.body().await;
+        let mut incoming = place.incoming();
         let mut known = place.known();
         if known.record().generation != generation {
             return;
@@ -160,11 +190,22 @@ impl<S: Service> FleetInner<S> {
         }
     }
 
-    /// Waits a little until the record of this generation was read, if it wasn't yet.
-    pub(crate) fn await_record(&self, place: &Place<S::Body>, generation: u64) {
-        let end = Instant::now() + READ;
-        while place.known().record().generation < generation && Instant::now() < end {
-            std::thread::sleep(LOOK);
+    /// Waits a little until this process has read the record of this generation, if it hasn't yet.
+    pub(crate) async fn await_record(&self, place: &Place<S::Body>, generation: u64) {
+        let end = self.environment.end_of(READ);
+        let is_read = || place.known().record().generation >= generation;
+        while !is_read() && !self.environment.is_past(end) {
+            self.environment.wait(LOOK, end).await;
         }
     }
+}
+
+/// Returns the result of the work. Returns nothing if the work panics.
+async fn unless_panicked<T>(work: impl Future<Output = T>) -> Option<T> {
+    let mut work = pin!(work);
+    poll_fn(|context| {
+        let polled = catch_unwind(AssertUnwindSafe(|| work.as_mut().poll(context)));
+        polled.map_or(Poll::Ready(None), |it| it.map(Some))
+    })
+    .await
 }

@@ -1,4 +1,4 @@
-/// A shard, as this process has it.
+/// A shard and its fencing token, as this process knows them.
 #[derive(Clone, Copy, Debug, PartialEq, Eq)]
 pub struct Shard {
     number: u16,
@@ -10,14 +10,14 @@ impl Shard {
         Shard { number, fence }
     }
 
-    /// Returns its number, from 0.
+    /// Returns the shard's number, from 0.
     pub fn number(self) -> u16 {
         self.number
     }
 
-    /// Returns the fencing token: a revision of the store that never goes back, and by which one process executes. A
-    /// database that refuses writes with a smaller token keeps out whoever is late, an earlier process of the same
-    /// server too.
+    /// Returns the fencing token. It is a revision of the store that never goes back, and only one process executes
+    /// under it. If a database refuses writes with a smaller token, it keeps out each late process, including an
+    /// earlier process of the same server.
     pub fn fence(self) -> u64 {
         self.fence
     }

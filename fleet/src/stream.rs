@@ -1,8 +1,9 @@
-//! Connections between servers and clients of a fleet: the only place that makes them, and takes them.
+//! Blocking connections between servers and clients of a fleet. Only this module and `async_stream` make connections
+//! that can send requests, and only this one accepts them.
 use crate::frame::WRITTEN;
 use crate::introduction::{Guest, Introduction};
 use crate::meet_error::{MeetError, SPEAKS_TLS};
-use durkenzo_control::links::{Greeting, Meeting, NO_SERVER, VERSION};
+use durkenzo_control::links::{Greeting, SocketHandshake, NO_SERVER, VERSION};
 use durkenzo_control::tls::{Caller, ReadHalf, WriteHalf};
 use rustix::io::{poll, PollFd, PollFlags};
 use std::io::{self, ErrorKind, Read, Write};
@@ -10,9 +11,9 @@ use std::net::{TcpStream, ToSocketAddrs};
 use std::sync::Arc;
 use std::time::{Duration, Instant};
 
-/// How long it takes at most until a server is reached.
+/// The longest time for reaching one address of a server.
 const REACH: Duration = Duration::from_millis(500);
-/// What begins each connection by TLS: the type of a record with a handshake.
+/// The first byte of each connection with TLS: the type of a record with a handshake.
 const HANDSHAKE: u8 = 0x16;
 
 /// A connection whose sides know each other.
@@ -22,7 +23,7 @@ pub(crate) struct Stream {
 }
 
 impl Stream {
-    /// Reaches the server at this address, in this time in all.
+    /// Connects to the server at this address, in at most this time in all.
     pub(crate) fn connect(
         address: &str,
         introduction: &Introduction,
@@ -46,8 +47,8 @@ impl Stream {
         Ok(stream)
     }
 
-    /// Takes whoever connected, if it makes itself known in this time, and there is a place for it. Returns who it is,
-    /// too.
+    /// Accepts a connection, if its other side introduces itself in this time and there is a place for it. Returns the
+    /// guest too.
     pub(crate) fn accept<T>(
         socket: Arc<TcpStream>,
         introduction: &Introduction,
@@ -73,12 +74,14 @@ impl Stream {
     fn meet<T>(
         &mut self,
         end: Instant,
-        meet: impl FnOnce(&mut Meeting<'_>) -> io::Result<T>,
+        meet: impl FnOnce(&mut SocketHandshake<'_>) -> io::Result<T>,
     ) -> io::Result<T> {
         let socket = &*self.socket;
         match &mut self.tls {
-            Some((reader, writer)) => meet(&mut Meeting::new((reader, writer), socket, end)),
-            None => meet(&mut Meeting::new(
+            Some((reader, writer)) => {
+                meet(&mut SocketHandshake::new((reader, writer), socket, end))
+            }
+            None => meet(&mut SocketHandshake::new(
                 (&mut &*socket, &mut &*socket),
                 socket,
                 end,
@@ -86,7 +89,7 @@ impl Stream {
         }
     }
 
-    /// Has each read end after this time.
+    /// Makes each read end after this time.
     pub(crate) fn set_read_timeout(&self, within: Duration) -> io::Result<()> {
         self.socket.set_read_timeout(Some(within))
     }
@@ -99,12 +102,12 @@ impl Stream {
         }
     }
 
-    /// Has each write end after this time.
+    /// Makes each write end after this time.
     pub(crate) fn set_write_timeout(&self, within: Duration) -> io::Result<()> {
         self.socket.set_write_timeout(Some(within))
     }
 
-    /// Whether nothing has come that wasn't read, nor the end.
+    /// Returns whether no unread bytes have come, and the connection hasn't ended.
     pub(crate) fn is_quiet(&self) -> bool {
         is_quiet(&self.socket)
     }
@@ -132,19 +135,19 @@ impl Write for Stream {
     }
 }
 
-/// Returns how much time is left, which is never none, as sockets take none for all.
+/// Returns the time that is left, which is never zero, because a socket refuses a timeout of zero.
 pub(crate) fn left(end: Instant) -> Duration {
     let left = end.saturating_duration_since(Instant::now());
     left.max(Duration::from_millis(1))
 }
 
-/// Returns whether the other side hasn't closed the connection. By TLS it says so before that, in bytes that nobody has
-/// read yet: so it isn't looked for these.
+/// Returns whether the other side hasn't closed the connection. With TLS, the other side says so first in bytes that
+/// nobody has read yet. So this doesn't look for unread bytes.
 pub(crate) fn is_open(socket: &TcpStream) -> bool {
     polled(socket, PollFlags::RDHUP).is_empty()
 }
 
-/// Returns whether nothing has come that wasn't read, nor the end.
+/// Returns whether no unread bytes have come, and the connection hasn't ended.
 pub(crate) fn is_quiet(socket: &TcpStream) -> bool {
     polled(socket, PollFlags::IN | PollFlags::RDHUP).is_empty()
 }
@@ -168,7 +171,7 @@ fn reach(address: &str, end: Instant) -> io::Result<TcpStream> {
     Err(last)
 }
 
-/// Tells whoever speaks no TLS that it has to.
+/// Tells the other side that it must speak TLS, if it doesn't.
 fn refuse_plain(socket: &TcpStream, within: Duration) -> io::Result<()> {
     socket.set_read_timeout(Some(within))?;
     let mut first = [HANDSHAKE];
@@ -181,7 +184,8 @@ fn refuse_plain(socket: &TcpStream, within: Duration) -> io::Result<()> {
     socket.set_write_timeout(Some(within))?;
     let mut socket = socket;
     socket.write_all(&told)?;
-    // What it has sent is read, so that its end doesn't come before what it is told.
+    // This reads the bytes that the other side has sent. Unread bytes could end the connection before the other side
+    // gets the message.
     let _ = socket.read(&mut [0; 1 << 10]);
     Err(io::Error::new(
         ErrorKind::InvalidData,

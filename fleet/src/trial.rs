@@ -1,15 +1,18 @@
-//! Several processes of a service that counts, in one process of a test. Its clients know which count comes next, so a
-//! count that is lost or made twice is found, and so is each wrong rule that is planted.
-use crate::connections::{Connections, NotAnswered};
+//! Tests with several processes of a service that counts, all in one process of a test. The clients know which count
+//! comes next. So they find each count that is lost or made twice, and each wrong rule that is planted.
+use crate::connections::Connections;
 use crate::copy_name::CopyName;
+use crate::environment::NotAnswered;
 use crate::frame::{CallFrame, HandFrame, Request, Response};
 use crate::introduction::Introduction;
 use crate::plant::Plant;
+use crate::settings::identity;
+use crate::threads::block_on;
 use crate::{
     Call, CallError, Came, Changes, Enter, Fault, Fleet, Mode, Options, Piece, Refused, Retry,
     Router, Safety, Service, Shard,
 };
-use durkenzo_control::links::{checksum, NO_SERVER};
+use durkenzo_control::links::NO_SERVER;
 use durkenzo_store::{
     CompactError, Done, Embedded, LeaseError, LeaseId, ReadError, Reading, Seen, Store,
     Transaction, Watch, Watcher, WriteError,
@@ -25,13 +28,13 @@ use std::time::{Duration, Instant};
 const SERVERS: u16 = 3;
 const SHARDS: u16 = 6;
 const CLIENTS: usize = 6;
-/// How many keys a piece has.
+/// The number of keys in a piece.
 const KEYS: usize = 3;
-/// A request by which the service panics.
+/// A request that makes the service panic.
 const PANICS: &[u8] = b"panic";
-/// How long a client waits for an answer.
+/// The longest time that a client waits for an answer.
 const PATIENCE: Duration = Duration::from_secs(20);
-/// How long the test waits for what comes.
+/// The longest time that the test waits for an event that must come.
 const SOON: Duration = Duration::from_secs(30);
 
 /// Counts by key.
@@ -44,7 +47,7 @@ struct Counts {
 
 struct Counter {
     keeps_changes: bool,
-    /// How a body came, each time.
+    /// How each body came, in order.
     came: Arc<Mutex<Vec<&'static str>>>,
 }
 
@@ -139,7 +142,7 @@ impl Changes<Counts> for Counter {
     }
 }
 
-/// A store that a process can be cut from. What it would have seen it sees once it isn't cut any more.
+/// A store from which a process can be cut. Changes during the cut are seen when the cut ends.
 struct Cuttable {
     store: Arc<dyn Store>,
     cut: Arc<Cut>,
@@ -148,7 +151,7 @@ struct Cuttable {
 #[derive(Default)]
 struct Cut {
     is_cut: AtomicBool,
-    /// Whether what is read isn't answered for now.
+    /// Whether reads aren't answered for now.
     hangs: AtomicBool,
     held: Mutex<Vec<Box<dyn FnOnce() + Send>>>,
 }
@@ -234,14 +237,14 @@ impl Store for Cuttable {
     }
 }
 
-/// What clients saw.
+/// The results that clients saw.
 #[derive(Debug, Default)]
 struct Tally {
     answered: u64,
     forwarded: u64,
     unsure: u64,
     not_made: Vec<String>,
-    /// Counts that began anew, and counts that were neither that nor the next one.
+    /// Counts that began anew, and other counts that weren't the next one.
     lost: u64,
     wrong: u64,
 }
@@ -256,7 +259,7 @@ impl Tally {
         self.wrong += other.wrong;
     }
 
-    /// Whether each call was made once, and nothing was lost.
+    /// Returns whether each call was made once, and nothing was lost.
     fn is_clean(&self) -> bool {
         self.unsure == 0 && self.not_made.is_empty() && self.lost == 0 && self.wrong == 0
     }
@@ -277,14 +280,14 @@ fn options(server: u16, lease: u64, plant: Option<Plant>) -> Options {
     let mut options = <Options as clap::Parser>::parse_from(words);
     (options.name, options.servers, options.shards) = (server, SERVERS, SHARDS);
     (options.lease, options.plant) = (lease, plant);
-    // What is left of a body comes in several pieces, before it stops and after.
+    // The rest of a body then comes in several pieces, before its shard stops and after.
     options.piece = 1;
     options.moves = 1;
     options
 }
 
 impl Trial {
-    /// Begins a fleet with leases of so many seconds, each process of which has this wrong rule planted.
+    /// Begins a fleet with leases of this many seconds. Each of its processes has this wrong rule planted.
     fn new(lease: u64, keeps_changes: bool, plant: Option<Plant>) -> Trial {
         Trial::over(Arc::new(Embedded::in_memory()), lease, keeps_changes, plant)
     }
@@ -294,7 +297,7 @@ impl Trial {
         Trial::with(store, keeps_changes, |server| options(server, lease, plant))
     }
 
-    /// Begins a fleet over this store, each process of which has these options.
+    /// Begins a fleet over this store. Each of its processes has these options.
     fn with(store: Arc<dyn Store>, keeps_changes: bool, options: impl Fn(u16) -> Options) -> Trial {
         let came = Arc::<Mutex<Vec<_>>>::default();
         let cuts: Vec<Arc<Cut>> = (0..SERVERS).map(|_| Arc::default()).collect();
@@ -338,7 +341,8 @@ impl Trial {
         record.other().is_none().then(|| record.owner()).flatten()
     }
 
-    /// Begins clients. Each calls by a map that is of the store, or of a server's process.
+    /// Begins clients. Each of them calls in turn by a map of the store, and by a map that is cut from the store
+    /// together with a server's process.
     fn begin(&mut self) {
         for number in 0..CLIENTS {
             let seen = Cuttable {
@@ -363,13 +367,13 @@ impl Trial {
         all
     }
 
-    /// Has the shard go to the server, step by step, each once the server that it waits for has acked.
+    /// Moves the shard to the server, step by step. Each step waits until the server that must ack it has done so.
     fn migrate(&self, shard: u16, server: u16) {
         self.hand_over(shard, server);
         self.add(shard);
     }
 
-    /// Has the shard's owner hand it over to the server, which isn't the owner yet.
+    /// Makes the shard's owner hand it over to the server, which isn't the owner yet.
     fn hand_over(&self, shard: u16, server: u16) {
         let owner = self.owner(shard).unwrap();
         let (named, to) = (shard.to_string(), server.to_string());
@@ -377,14 +381,14 @@ impl Trial {
         self.step(shard, &["PREPARE_DROP", &named], Some(owner));
     }
 
-    /// Has the server be the owner to which the shard was handed over.
+    /// Makes the server to which the shard was handed over its owner.
     fn add(&self, shard: u16) {
         let named = shard.to_string();
         self.step(shard, &["ADD", &named], None);
         self.step(shard, &["DROP", &named], None);
     }
 
-    /// Gives the control the command of a step, and waits until the server has acked that.
+    /// Gives the control the command of a step, and waits until the server has acked the step.
     fn step(&self, shard: u16, words: &[&str], acks: Option<u16>) {
         let member = &self.fleets[0].inner.member;
         let before = self.generation(shard);
@@ -399,7 +403,7 @@ impl Trial {
         stored.record().unwrap().generation
     }
 
-    /// Gives the control a command, again while a process hasn't read what it has to.
+    /// Gives the control a command. Repeats it as long as a process hasn't read the records that it must read.
     fn command(&self, words: &[&str]) {
         loop {
             match self.fleets[0].command(words) {
@@ -411,7 +415,7 @@ impl Trial {
         }
     }
 
-    /// Has each shard go from server to server for so long. Returns how many migrations there were.
+    /// Moves each shard from server to server for this long. Returns the number of migrations.
     fn migrate_for(&self, time: Duration) -> usize {
         let (end, mut count) = (Instant::now() + time, 0);
         while Instant::now() < end {
@@ -424,7 +428,7 @@ impl Trial {
     }
 }
 
-/// Calls in turn by these maps, with keys of its own.
+/// Calls by these maps in turn, with keys of its own.
 fn client(number: usize, routers: &[Router; 2], stops: &AtomicBool) -> Tally {
     let (mut tally, mut last) = (Tally::default(), HashMap::<Vec<u8>, Option<u64>>::new());
     for turn in 0.. {
@@ -437,7 +441,7 @@ fn client(number: usize, routers: &[Router; 2], stops: &AtomicBool) -> Tally {
                 let count = u64::from_be_bytes(answer.bytes.try_into().unwrap());
                 let before = last.insert(key, Some(count)).unwrap_or(Some(0));
                 match before {
-                    // What is next isn't known after a call that may have been made.
+                    // After a call that may have been made, the next count isn't known.
                     None => {}
                     Some(before) if count == before + 1 => {}
                     Some(_) if count == 1 => tally.lost += 1,
@@ -462,7 +466,7 @@ fn migrations_under_load_refuse_no_call_and_lose_nothing() {
     let mut trial = Trial::new(30, false, None);
     trial.begin();
     let migrations = trial.migrate_for(Duration::from_secs(3));
-    // Of a process that has left, others have lost the shards.
+    // This is read before the processes leave, because the shards of a process that has left are lost.
     let came = trial.came.lock().unwrap().clone();
     let tally = trial.end();
     println!("{migrations} migrations, {tally:?}");
@@ -487,27 +491,27 @@ fn bodies_move_in_pieces_and_by_what_has_changed_since() {
     assert!(count("copied") == migrations, "{came:?} {migrations}");
 }
 
-/// Begins a fleet whose bodies move in pieces, each with a count of one key. Returns a shard of each of the first two
-/// servers, for both of which the third one has room.
+/// Begins a fleet whose bodies move in pieces, with a count of one key in each body. Returns a shard of each of the
+/// first two servers. The third server has room for both.
 fn copying() -> (Trial, [u16; 2]) {
     let trial = Trial::new(30, true, None);
     let router = Router::watch(&*trial.store).unwrap();
     (0..SHARDS).for_each(|it| assert_eq!(count(&router, &key_of(&router, it)), 1));
     let of = |owner| (0..SHARDS).find(|it| trial.owner(*it) == Some(owner));
     let [first, second, third] = [1, 2, 3].map(|it| of(it).unwrap());
-    // So that the third one has room for both.
+    // After this, the third server has room for both.
     trial.migrate(third, 1);
     (trial, [first, second])
 }
 
 impl Trial {
-    /// Whether the server has a copy of the shard's body.
+    /// Returns whether the server has a copy of the shard's body, or room for one.
     fn has_copy(&self, shard: u16, server: u16) -> bool {
         let places = &self.fleets[usize::from(server) - 1].inner.places;
         places[usize::from(shard)].incoming().is_some()
     }
 
-    /// Has the shard's copy be made for the server, or asks only for it.
+    /// Makes the server prepare for the shard. Waits until the server `acks` has acked that, if one is given.
     fn prepare(&self, shard: u16, server: u16, acks: Option<u16>) {
         let (named, to) = (shard.to_string(), server.to_string());
         self.step(shard, &["PREPARE_ADD", &named, &to], acks);
@@ -527,7 +531,7 @@ fn a_migration_that_is_given_up_leaves_no_copy_and_ends_the_owners() {
     trial.wait_until("the owner ends its copy", ended);
     let router = Router::watch(&*trial.store).unwrap();
     assert_eq!(count(&router, &key_of(&router, shard)), 2);
-    // It moves by another copy, for which there is room again.
+    // The shard moves with another copy, for which there is room again.
     trial.migrate(shard, 3);
     assert_eq!(count(&router, &key_of(&router, shard)), 3);
     trial.end();
@@ -538,7 +542,7 @@ fn a_request_for_an_earlier_copy_that_comes_late_forgets_no_change() {
     let (trial, [shard, _]) = copying();
     let router = Router::watch(&*trial.store).unwrap();
     trial.prepare(shard, 3, Some(3));
-    // The copy has the first count, and this one has changed since.
+    // The copy has the first count, which has changed since.
     assert_eq!(count(&router, &key_of(&router, shard)), 2);
     let owner = &trial.fleets[0].inner;
     let name = {
@@ -547,12 +551,12 @@ fn a_request_for_an_earlier_copy_that_comes_late_forgets_no_change() {
     };
     let ask = |name| {
         let mut out = Vec::new();
-        owner.copy(shard, (trial.generation(shard), name), 0, &mut out);
+        block_on(owner.copy(shard, (trial.generation(shard), name), 0, &mut out));
         matches!(Response::read(&out[4..]), Ok(Response::Piece { .. }))
     };
     let (joined, server) = (name.joined - 1, 2);
     assert!(!ask(CopyName { joined, ..name }) && !ask(CopyName { server, ..name }));
-    // It is the piece that was made last, and is told again.
+    // This is the piece that was made last, so it is told again.
     assert!(ask(name));
     trial.step(shard, &["PREPARE_DROP", &shard.to_string()], Some(1));
     trial.add(shard);
@@ -561,7 +565,8 @@ fn a_request_for_an_earlier_copy_that_comes_late_forgets_no_change() {
     trial.end();
 }
 
-/// Begins a fleet that takes bodies of so many bytes, with a shard of the first server that has a longer one.
+/// Begins a fleet that takes bodies of at most this many bytes. Returns a shard of the first server too, whose body is
+/// written with about ten bytes.
 fn with_long_body(keeps_changes: bool, body: u64) -> (Trial, Router, u16) {
     let trial = Trial::with(Arc::new(Embedded::in_memory()), keeps_changes, |server| {
         let options = options(server, 30, None);
@@ -594,6 +599,43 @@ fn a_whole_body_that_is_too_long_is_taken_because_its_owner_has_let_go() {
     let (trial, router, shard) = with_long_body(false, 2);
     trial.migrate(shard, 3);
     assert_eq!(count(&router, &key_of(&router, shard)), 2);
+    trial.end();
+}
+
+impl Trial {
+    /// Makes the shard's body at this server so long that more than this many bytes are written for it.
+    fn lengthen(&self, (shard, server): (u16, u16), bytes: usize) {
+        let fleet = &self.fleets[usize::from(server) - 1];
+        let Enter::Here(mut permit) = fleet.enter(shard, Mode::Direct) else {
+            panic!("it doesn't execute for the shard")
+        };
+        // For each key, its length and its count are written too.
+        let key = |number: usize| [&number.to_be_bytes()[..], &[0; 240]].concat();
+        let keys = (0..=bytes / (key(0).len() + 9)).map(|it| (key(it), 1));
+        permit.body().counts.extend(keys);
+    }
+}
+
+#[test]
+fn a_whole_body_above_four_times_the_bound_stops_its_shard_until_the_next_owner_ends() {
+    // Besides four times the bound, as many bytes may come as two pieces may have.
+    let (body, most) = (1 << 20, (4 << 20) + (2 << 20));
+    let (trial, router, shard) = with_long_body(false, body);
+    let key = key_of(&router, shard);
+    trial.lengthen((shard, 1), most / 2);
+    trial.migrate(shard, 3);
+    assert_eq!(count(&router, &key), 2);
+    trial.lengthen((shard, 3), most);
+    let generation = trial.generation(shard);
+    trial.prepare(shard, 2, Some(2));
+    trial.step(shard, &["PREPARE_DROP", &shard.to_string()], None);
+    let place = &trial.fleets[2].inner.places[usize::from(shard)];
+    trial.wait_until("it isn't taken", || place.known().spelled.is_some());
+    let called = router.call(&key, &key, Retry::Until(Duration::from_millis(500)));
+    assert!(matches!(called, Err(CallError::NotMade(_))), "{called:?}");
+    assert!(place.known().handed < generation);
+    trial.fleets[1].leave();
+    assert_eq!(count(&router, &key), 3);
     trial.end();
 }
 
@@ -657,7 +699,7 @@ fn no_more_bodies_come_at_once_than_may_and_the_next_one_follows() {
     let member = &trial.fleets[0].inner.member;
     let has_acked = |shard| member.acked(shard, 3) == Some(trial.generation(shard));
     assert!(trial.has_copy(first, 3));
-    // Calls of the second one are answered by its owner for as long as it waits.
+    // As long as the second shard waits, its owner answers its calls.
     let router = Router::watch(&*trial.store).unwrap();
     for next in 2..30 {
         assert_eq!(count(&router, &key_of(&router, second)), next);
@@ -672,7 +714,7 @@ fn no_more_bodies_come_at_once_than_may_and_the_next_one_follows() {
     trial.end();
 }
 
-/// What clients see of migrations while this wrong rule is planted.
+/// Returns the results that clients see of migrations while this wrong rule is planted.
 fn planted(plant: Plant) -> Tally {
     let mut trial = Trial::new(30, false, Some(plant));
     trial.begin();
@@ -698,7 +740,7 @@ fn an_ack_before_the_next_owner_has_the_body_is_found() {
     assert!(tally.lost > 0, "{tally:?}");
 }
 
-/// What clients see while a process is cut from the store for longer than its lease.
+/// Returns the results that clients see while a process is cut from the store for longer than its lease.
 fn cut(plant: Option<Plant>) -> Tally {
     let mut trial = Trial::new(2, false, plant);
     let server = 2;
@@ -733,7 +775,64 @@ fn a_process_that_goes_on_without_a_lease_is_found() {
     assert!(tally.wrong > 0, "{tally:?}");
 }
 
-/// A key of this shard.
+#[test]
+fn a_call_is_answered_if_the_lease_is_kept_late_and_is_unsure_if_it_is_not() {
+    // After a keep, a process may rely on its lease for 2.4 seconds. It asks for a keep only every 20 seconds.
+    let trial = Trial::with(Arc::new(Embedded::in_memory()), false, |server| {
+        let mut options = options(server, 60, None);
+        options.margin = 57_000;
+        options
+    });
+    let shard = (0..SHARDS).find(|it| trial.owner(*it) == Some(2)).unwrap();
+    let fleet = &trial.fleets[1];
+    // Returns a permit. Its lease was kept, but the process isn't sure of the lease any more.
+    let permit = || loop {
+        fleet.inner.member.keep_lease();
+        thread::sleep(Duration::from_millis(20));
+        if let Enter::Here(permit) = fleet.enter(shard, Mode::Direct) {
+            trial.wait_until("it isn't sure", || !permit.holds());
+            return permit;
+        }
+    };
+    let executed = |permit, within| {
+        let (waits, mut out) = (Instant::now() + within, Vec::new());
+        let call = CallFrame {
+            shard,
+            from: NO_SERVER,
+            hops: 0,
+            revision: 0,
+            budget: 0,
+            request: b"key",
+        };
+        block_on(fleet.inner.execute(permit, &call, waits, &mut out));
+        let is_answered = match Response::read(&out[4..]) {
+            Ok(Response::Answered { .. }) => true,
+            Ok(Response::Unsure(_)) => false,
+            other => panic!("{other:?}"),
+        };
+        is_answered
+    };
+    thread::scope(|scope| {
+        let late = permit();
+        scope.spawn(|| {
+            thread::sleep(Duration::from_millis(100));
+            fleet.inner.member.keep_lease();
+        });
+        assert!(executed(late, SOON));
+    });
+    assert!(!executed(permit(), Duration::from_millis(50)));
+    // If a process leaves, its lease isn't kept any more.
+    thread::scope(|scope| {
+        let last = permit();
+        scope.spawn(|| fleet.leave());
+        trial.wait_until("it leaves", || fleet.inner.is_stopping());
+        let began = Instant::now();
+        assert!(!executed(last, SOON) && began.elapsed() < SOON);
+    });
+    trial.end();
+}
+
+/// Returns a key of this shard.
 fn key_of(router: &Router, shard: u16) -> Vec<u8> {
     let keys = (0_u32..).map(|it| it.to_string().into_bytes());
     let mut of_shard = keys.filter(|it| router.sharding().shard_of(it) == shard);
@@ -746,12 +845,13 @@ fn a_call_of_a_paused_shard_ends_with_its_budget_and_fences_rise() {
     let router = Router::watch(&*trial.store).unwrap();
     let key = key_of(&router, 0);
     let first = router.call(&key, &key, Retry::Until(PATIENCE)).unwrap();
-    trial.command(&["PAUSE", "0"]);
+    // The owner may answer until it has read the record.
+    trial.step(0, &["PAUSE", "0"], trial.owner(0));
     let began = Instant::now();
     let late = router.call(&key, &key, Retry::Until(Duration::from_millis(300)));
     assert!(matches!(late, Err(CallError::NotMade(_))), "{late:?}");
     assert!(began.elapsed() >= Duration::from_millis(290));
-    // The server tells in time that it did nothing.
+    // The server must tell in time that it did nothing.
     let once = router.call(&key, &key, Retry::Once(Duration::from_millis(300)));
     assert!(matches!(once, Err(CallError::NotMade(_))), "{once:?}");
     trial.command(&["RESUME", "0"]);
@@ -789,9 +889,38 @@ fn a_process_says_where_calls_go_and_gives_permits_of_its_own_shards() {
     trial.end();
 }
 
-/// Connections of the process of this server, or of a client, to the fleet.
+#[test]
+fn whoever_executes_answers_a_call_by_a_record_that_it_has_not_read_yet() {
+    let trial = Trial::new(30, false, None);
+    let owner = trial.owner(0).unwrap();
+    let frame = CallFrame {
+        shard: 0,
+        from: NO_SERVER,
+        hops: 0,
+        revision: u64::MAX,
+        budget: 2_000,
+        request: b"key",
+    };
+    for fleet in &trial.fleets {
+        let mut out = Vec::new();
+        block_on(fleet.inner.call(&frame, &|| true, &mut out));
+        // The first four bytes are the length.
+        let response = Response::read(&out[4..]).unwrap();
+        match fleet.server() == owner {
+            true => assert!(
+                matches!(response, Response::Answered { .. }),
+                "{response:?}"
+            ),
+            // Only that record would tell this process the server to which the call must go.
+            false => assert!(matches!(response, Response::Again(_)), "{response:?}"),
+        }
+    }
+    trial.end();
+}
+
+/// Returns connections to the fleet, from the process of this server or from a client.
 fn connections(fleet: &Fleet<Counter>, server: u16) -> Connections {
-    let settings = checksum(fleet.inner.settings.as_bytes());
+    let settings = identity(&fleet.inner.settings);
     let introduction = Introduction::of_process(&Safety::default(), settings, (server, 1));
     Connections::new(introduction)
 }
@@ -818,7 +947,7 @@ fn what_another_process_hands_over_is_refused() {
     let response = connections.ask(&fleet.address().to_string(), &Request::Hand(frame), SOON);
     let response = response.unwrap();
     assert!(matches!(Response::read(&response), Ok(Response::Again(_))));
-    // A client of another fleet isn't answered.
+    // A client of another fleet must not be answered.
     let other = Connections::new(Introduction::of_client(&Safety::default(), 7));
     let refused = other.ask(&fleet.address().to_string(), &Request::Routes, SOON);
     assert!(refused.is_err());
@@ -837,7 +966,7 @@ fn a_process_that_is_stopped_as_soon_as_it_has_joined_loses_no_shard_that_comes_
         };
         let options = options(2, 30, None);
         let again = Fleet::join_over(counter, options, trial.store.clone()).unwrap();
-        // It is away until the control has it be back, and has its shards come home.
+        // The server is away until the control takes it back and moves its shards home.
         again.stop(SOON);
     }
     let came = trial.came.lock().unwrap().clone();
@@ -851,7 +980,7 @@ fn whoever_is_connected_to_a_process_that_leaves_learns_that_nothing_was_done() 
     let trial = Trial::new(30, false, None);
     let fleet = &trial.fleets[1];
     let address = fleet.address().to_string();
-    let settings = checksum(fleet.inner.settings.as_bytes());
+    let settings = identity(&fleet.inner.settings);
     let asks = || {
         let introduction = Introduction::of_client(&Safety::default(), settings);
         let connections = Connections::new(introduction);
@@ -887,10 +1016,7 @@ fn whoever_loses_its_place_learns_that_nothing_was_done() {
     };
     let trial = Trial::with(Arc::new(Embedded::in_memory()), false, one);
     let fleet = &trial.fleets[1];
-    let (address, settings) = (
-        fleet.address().to_string(),
-        checksum(fleet.inner.settings.as_bytes()),
-    );
+    let (address, settings) = (fleet.address().to_string(), identity(&fleet.inner.settings));
     let client = || Connections::new(Introduction::of_client(&Safety::default(), settings));
     let (mut asked, mut room) = (Vec::new(), Vec::new());
     Request::Routes.write(&mut asked);
@@ -899,7 +1025,7 @@ fn whoever_loses_its_place_learns_that_nothing_was_done() {
     idle.write_all(&asked).unwrap();
     receive(&mut idle, &mut room).unwrap();
     assert!(matches!(Response::read(&room), Ok(Response::Text(_))));
-    // A client that is answered is idle a moment later.
+    // The first client becomes idle a moment after it was answered.
     let other = client();
     trial.wait_until("another client has its place", || {
         let answered = other.ask(&address, &Request::Routes, SOON).unwrap();
@@ -912,7 +1038,7 @@ fn whoever_loses_its_place_learns_that_nothing_was_done() {
     trial.end();
 }
 
-/// Has the service count by this key, and returns the count.
+/// Makes the service count with this key, and returns the count.
 fn count(router: &Router, key: &[u8]) -> u64 {
     let answer = router.call(key, key, Retry::Until(PATIENCE)).unwrap();
     u64::from_be_bytes(answer.bytes.try_into().unwrap())
@@ -928,7 +1054,7 @@ fn a_body_of_before_isnt_kept_when_the_shard_comes_back() {
     let key = key_of(&router, shard);
     assert_eq!(count(&router, &key), 1);
     trial.hand_over(shard, other);
-    // The owner before doesn't learn that the shard is the other one's, and so it drops nothing.
+    // The previous owner must not learn that the shard belongs to the other server. So it drops nothing.
     let hangs = &trial.cuts[usize::from(owner) - 1].hangs;
     hangs.store(true, Ordering::SeqCst);
     trial.add(shard);
@@ -959,7 +1085,7 @@ fn an_owner_that_gets_a_shard_back_after_it_handed_over_begins_without_its_body(
         (answer.server, answer.bytes),
         (2, 2_u64.to_be_bytes().to_vec())
     );
-    // What was sent by an earlier record is too late.
+    // A hand-over under an earlier record comes too late.
     let next = &trial.fleets[1].inner;
     let late = HandFrame {
         shard,
@@ -973,7 +1099,7 @@ fn an_owner_that_gets_a_shard_back_after_it_handed_over_begins_without_its_body(
         is_last: true,
         bytes: b"",
     };
-    assert!(next.take_hand_over(&late).is_err());
+    assert!(block_on(next.take_hand_over(&late)).is_err());
     trial.fleets[1].leave();
     trial.wait_until("the owner has it back", || trial.owner(shard) == Some(1));
     assert_eq!(count(&router, &key), 1);
@@ -1015,26 +1141,34 @@ fn a_body_with_which_the_service_panicked_is_lost() {
 fn calls_by_records_that_are_never_read_stop_nobody() {
     let trial = Trial::new(30, false, None);
     let router = Router::watch(&*trial.store).unwrap();
-    let key = key_of(&router, 0);
-    count(&router, &key);
-    let owner = &trial.fleets[usize::from(trial.owner(0).unwrap()) - 1];
-    let (at, connections) = (owner.address().to_string(), connections(owner, NO_SERVER));
-    let call = CallFrame {
+    count(&router, &key_of(&router, 0));
+    let owner = trial.owner(0).unwrap();
+    // The process that executes would answer these calls, so another process is asked.
+    let mut others = trial.fleets.iter().filter(|it| it.server() != owner);
+    let other = others.next().unwrap();
+    let (at, connections) = (other.address().to_string(), connections(other, NO_SERVER));
+    let call = |revision, budget| CallFrame {
         shard: 0,
         from: 0,
         hops: 0,
-        revision: u64::MAX,
-        budget: 2_000,
-        request: b"never",
+        revision,
+        budget,
+        request: b"key",
     };
+    let never = Request::Call(call(u64::MAX, 2_000));
     thread::scope(|scope| {
         for _ in 0..3 {
-            scope.spawn(|| connections.ask(&at, &Request::Call(call), SOON).unwrap());
+            scope.spawn(|| connections.ask(&at, &never, SOON).unwrap());
         }
         thread::sleep(Duration::from_millis(200));
-        let soon = Retry::Until(Duration::from_millis(400));
         for _ in 0..20 {
-            router.call(&key, &key, soon).unwrap();
+            let asked = Request::Call(call(0, 400));
+            let response = connections.ask(&at, &asked, SOON).unwrap();
+            let response = Response::read(&response);
+            assert!(
+                matches!(response, Ok(Response::Answered { .. })),
+                "{response:?}"
+            );
         }
     });
     trial.end();

@@ -1,4 +1,5 @@
-//! The example of a cache as three processes: a key is loaded once, is kept as its shard moves, and is never old.
+//! Tests the example of a cache with three processes. A key is loaded once, is kept when its shard moves, and is never
+//! old.
 #[allow(dead_code)]
 #[path = "../examples/cache.rs"]
 mod cache;
@@ -27,7 +28,7 @@ fn memory_is_bounded_and_what_is_used_stays() {
     assert!(warm.get("key-4999").is_some() && warm.get("key-0").is_none());
 }
 
-/// Returns what is answered to a request for the key.
+/// Returns the answer to this request for the key.
 fn asked(fleet: &ExampleFleet, key: &str, request: &str) -> String {
     let request = format!("{key} {request}");
     let answer = fleet

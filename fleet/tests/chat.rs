@@ -1,4 +1,5 @@
-//! The example of chat rooms as three processes: members hear each line once and in order, as their room moves.
+//! Tests the example of chat rooms with three processes. Members hear each line once and in order while their room
+//! moves.
 mod example_fleet;
 mod processes;
 
@@ -14,15 +15,15 @@ use std::time::{Duration, Instant};
 
 const ROOM: &str = "lobby";
 const LINES: usize = 60;
-/// How long a member waits for a line, or to ask again.
+/// How long a member waits for a line, and how long until it asks again.
 const SOON: Duration = Duration::from_millis(50);
 
-/// A member of the room, who connects again whenever that is needed.
+/// A member of the room. It connects again if it must.
 struct Member {
-    /// The servers' addresses, the one to be asked next first.
+    /// The servers' addresses. The first one is the next to be asked.
     addresses: Vec<String>,
     connection: Option<BufReader<TcpStream>>,
-    /// Lines with their numbers.
+    /// The lines that it heard, with their numbers.
     heard: Vec<(u64, String)>,
 }
 
@@ -35,7 +36,7 @@ impl Member {
         }
     }
 
-    /// Sends a line, and returns the answer to it, or why the connection is of no use.
+    /// Sends a line, and returns the answer to it. If the connection is of no use, returns why.
     fn asked(&mut self, line: &str) -> io::Result<String> {
         let connection = self
             .connection
@@ -97,7 +98,7 @@ impl Member {
         panic!("the room wasn't joined");
     }
 
-    /// Asks there next, where it is said so, or a little later.
+    /// Follows an answer: asks at the address that it names, or waits a little if it names none.
     fn follow(&mut self, told: &str) {
         match told.strip_prefix("> ") {
             Some(there) => {
@@ -108,7 +109,7 @@ impl Member {
         }
     }
 
-    /// Says the text. Returns whether that is sure.
+    /// Says the text. Returns whether it surely was said.
     fn say(&mut self, text: &str) -> bool {
         let end = Instant::now() + PATIENCE;
         while Instant::now() < end {
@@ -130,7 +131,7 @@ impl Member {
         panic!("{text} wasn't said");
     }
 
-    /// Hears what comes until a line has this text.
+    /// Hears lines until one has this text.
     fn hear(&mut self, text: &str) {
         let end = Instant::now() + PATIENCE;
         while self.heard.last().is_none_or(|it| it.1 != text) {
@@ -192,7 +193,7 @@ fn members_hear_each_line_once_and_in_order_while_their_room_moves() {
             .get(usize::from(shard))
             .is_some_and(|it| *it != owner)
     });
-    // What was said is lost with the process, and what is said next has a greater number.
+    // The earlier lines are lost with the process. The next line has a greater number.
     while !ada.say("again") {}
     bob.hear("again");
     assert!(bob.heard.is_sorted(), "{:?}", bob.heard);

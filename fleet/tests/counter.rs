@@ -1,5 +1,5 @@
-//! The example of a counter in SQLite: what is late writes nothing, and no count is lost or made twice, whatever
-//! becomes of processes.
+//! Tests the example of a counter in SQLite. A late process writes nothing, and no count is lost or made twice, even if
+//! processes are stopped or killed.
 #[allow(dead_code)]
 #[path = "../examples/counter.rs"]
 mod counter;
@@ -39,7 +39,7 @@ fn a_late_holder_writes_nothing() {
     assert_eq!(count(&mut later, 9), Some(2));
     assert_eq!(count(&mut earlier, 7), None);
     assert_eq!(counted(&file, "visits"), 2);
-    // Another shard's fences are apart, and a fence that is no later goes on.
+    // Each shard has fences of its own. A fence that is the same as the latest one may write too.
     assert_eq!(
         counter::count(&mut earlier, (SHARD + 1, 7), b"others").unwrap(),
         Some(1)
@@ -66,7 +66,7 @@ fn a_late_holder_waits_for_the_later_one_and_then_writes_nothing() {
     assert_eq!(counted(&file, "visits"), 1);
 }
 
-/// What a client saw of its counter, which nobody else counts.
+/// The results that a client saw of its counter. Nobody else counts with it.
 #[derive(Debug, Default)]
 struct Tally {
     /// The latest count that it was told, and how many calls since then may have been made.
@@ -83,7 +83,7 @@ impl Tally {
             Err(CallError::Unsure(_)) => return self.unsure += 1,
             Err(CallError::NotMade(why)) => return self.wrong.push(why),
         };
-        // Else the call came late to a process, or waited for too long.
+        // If there is no count, the call came to a process too late, or waited for too long.
         let Ok(count) = text.parse::<u64>() else {
             return self.unsure += u64::from(text.starts_with("unsure"));
         };
@@ -111,7 +111,7 @@ fn signal(process: &Process, signal: &str) {
     assert!(sent.unwrap().success());
 }
 
-/// Moves shards, then has a process stand still for longer than its lease, and kills another one.
+/// Moves shards, then stops a process for longer than its lease, and kills another one.
 fn disturb(fleet: &mut ExampleFleet) {
     for turn in 0..24 {
         fleet.migrate(turn % 12, turn as u16 % SERVERS + 1);
@@ -139,7 +139,7 @@ fn no_count_is_lost_or_made_twice_whatever_becomes_of_processes() {
             .map(|name| scope.spawn(move || (client(&name, router, stops), name)))
             .collect();
         let disturbed = catch_unwind(AssertUnwindSafe(|| disturb(&mut fleet)));
-        // Else a test that fails would go on.
+        // The clients must stop even if the test fails, because it would never end otherwise.
         stops.store(true, Ordering::SeqCst);
         disturbed.unwrap_or_else(|why| resume_unwind(why));
         let tallies = clients.into_iter().map(|it| it.join().unwrap());

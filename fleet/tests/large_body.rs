@@ -1,4 +1,4 @@
-//! The example of pages as two processes over etcd: a large body moves in pieces while it is called.
+//! Tests the example of pages with two processes over etcd. A large body moves in pieces while it is called.
 mod processes;
 
 use durkenzo_fleet::{Retry, Router};
@@ -9,13 +9,13 @@ use std::thread;
 use std::time::Duration;
 
 const PAGES: u64 = 64 << 10;
-/// How many KiB a process may have beside the pages: 64 MiB.
+/// The most KiB that a process may use besides the pages: 64 MiB.
 const BESIDE: u64 = 64 << 10;
 const CLIENTS: u64 = 4;
-/// How long a migration may take on a busy machine.
+/// The longest time for a migration, on a machine that may be busy.
 const LONG: Duration = Duration::from_secs(120);
 
-/// What clients see.
+/// The results that clients see.
 #[derive(Default)]
 struct Seen {
     stops: AtomicBool,
@@ -23,14 +23,14 @@ struct Seen {
     answered: [AtomicU64; 2],
 }
 
-/// Counts at pages of its own until it is to stop. Returns what was wrong.
+/// Counts at pages of its own until it must stop. Returns the wrong answers.
 fn client(number: u64, router: &Router, seen: &Seen) -> Vec<String> {
     let (mut wrong, own) = (Vec::new(), PAGES / CLIENTS);
     for turn in 0.. {
         if seen.stops.load(Ordering::SeqCst) {
             break;
         }
-        // Steps of a prime number reach each page before one comes again.
+        // The steps are a prime number, so they reach each page before any page comes again.
         let page = number * own + turn * 7919 % own;
         match router.call(b"", &page.to_be_bytes(), Retry::Until(PATIENCE)) {
             Ok(answer) if answer.bytes == (turn / own + 1).to_be_bytes() => {
@@ -44,7 +44,7 @@ fn client(number: u64, router: &Router, seen: &Seen) -> Vec<String> {
     wrong
 }
 
-/// How many KiB the process has had at most.
+/// Returns the most KiB that the process has had.
 fn peak(process: &Process) -> u64 {
     let status = fs::read_to_string(format!("/proc/{}/status", process.0.id())).unwrap();
     let line = status.lines().find_map(|it| it.strip_prefix("VmHWM:"));
@@ -52,14 +52,14 @@ fn peak(process: &Process) -> u64 {
     words.unwrap().parse().unwrap()
 }
 
-/// Has all pages be there.
+/// Fills all pages.
 fn fill(router: &Router) {
     let fill = [&b"fill"[..], &PAGES.to_be_bytes()].concat();
     let filled = router.call(b"", &fill, Retry::Until(LONG)).unwrap();
     assert_eq!(filled.bytes, PAGES.to_be_bytes());
 }
 
-/// Has the shard go to the second server, once that is there.
+/// Moves the shard to the second server, as soon as that server is there.
 fn migrate(router: &Router) {
     let migrate = || router.command(&["MIGRATE", "0", "2"], LONG).is_ok();
     until("the shard goes to the other server", migrate);

@@ -1,4 +1,4 @@
-//! The example of a rate limiter as three processes over etcd: shards move under load, and a process is killed.
+//! Tests the example of a rate limiter with three processes over etcd. Shards move under load, and a process is killed.
 mod processes;
 
 use durkenzo_fleet::{CallError, Retry, Router};
@@ -14,7 +14,7 @@ use std::time::{Duration, Instant};
 const SERVERS: u16 = 3;
 const CLIENTS: usize = 4;
 
-/// Begins a server of the example. Returns it with where it listens.
+/// Begins a server of the example. Returns its process and its address.
 fn server(program: &Path, etcd: &str, name: u16) -> (Process, String) {
     let name = name.to_string();
     processes::server(
@@ -23,7 +23,7 @@ fn server(program: &Path, etcd: &str, name: u16) -> (Process, String) {
     )
 }
 
-/// How many calls were answered, and may have been made; and why others weren't.
+/// How many calls were answered, how many may have been made, and why the others weren't made.
 #[derive(Debug, Default)]
 struct Tally {
     answered: usize,
@@ -31,7 +31,7 @@ struct Tally {
     not_made: Vec<String>,
 }
 
-/// Calls until it is to stop.
+/// Calls until it must stop.
 fn client(number: usize, router: &Router, stops: &AtomicBool) -> Tally {
     let mut tally = Tally::default();
     for turn in 0.. {
@@ -49,7 +49,7 @@ fn client(number: usize, router: &Router, stops: &AtomicBool) -> Tally {
     tally
 }
 
-/// Calls by these routers while this is done. Returns what became of the calls.
+/// Calls with these routers while the work is done. Returns the outcomes of the calls.
 fn under_load(routers: &[Arc<Router>], work: impl FnOnce()) -> Tally {
     let stops = Arc::<AtomicBool>::default();
     let clients: Vec<_> = (0..CLIENTS)
@@ -69,7 +69,7 @@ fn under_load(routers: &[Arc<Router>], work: impl FnOnce()) -> Tally {
     })
 }
 
-/// Has shards go from server to server for a while.
+/// Moves shards from server to server for a while.
 fn migrate(router: &Router) {
     let end = Instant::now() + Duration::from_secs(2);
     for turn in (0..).take_while(|_| Instant::now() < end) {
@@ -82,14 +82,14 @@ fn migrate(router: &Router) {
     }
 }
 
-/// Asks the process to end, and waits until it has.
+/// Asks the process to end, and waits until it has ended.
 fn stop(mut process: Process) {
     let id = process.0.id().to_string();
     let asked = Command::new("kill").args(["-TERM", &id]).status();
     assert!(asked.unwrap().success() && process.0.wait().unwrap().success());
 }
 
-/// Which servers own shards.
+/// Returns the servers that own shards.
 fn owned(router: &Router) -> BTreeSet<u16> {
     let lines = router.command(&["SHARDS"], PATIENCE).unwrap_or_default();
     let owners = lines.iter().skip(1).filter_map(|it| it.split(' ').nth(2));

@@ -1,5 +1,5 @@
-//! Clients that count, each by keys of its own, and read others' keys.
-use crate::counting::began_at;
+//! Clients that count, each with keys of its own, and read the keys of others.
+use crate::count_service::began_at;
 use crate::key::Key;
 use crate::message::{now, Asked, Told};
 use crate::permits::Permits;
@@ -10,19 +10,19 @@ use std::sync::{Arc, Mutex, MutexGuard, PoisonError};
 use std::thread;
 use std::time::Duration;
 
-/// One in so many calls reads an own key, and one in so many another client's.
+/// One in this many calls reads a key of the client, and one in this many reads any key.
 const READS: u64 = 8;
 
-/// What all clients share.
+/// The state that all clients share.
 #[derive(Debug)]
 pub struct Shared {
     pub tally: Tally,
     pub permits: Box<[Permits]>,
     /// When the last answered call of each shard began.
     pub answered: Box<[AtomicU64]>,
-    /// What the client of each key was told last: the beginning of the shard, and how many calls were counted since.
+    /// For each key, the last answer to its client: the beginning of the shard, and how many calls were counted since.
     told: Box<[Mutex<(u64, u64)>]>,
-    /// It rises as faults begin and end: it is odd while there are none.
+    /// A number that rises when a fault begins or ends. It is odd while there is no fault.
     pub calm: AtomicU64,
     /// When each fault began, and when all shards were answered after it.
     faults: Mutex<Vec<(u64, u64)>>,
@@ -41,7 +41,7 @@ pub struct Client {
     pub keys: Box<[Key]>,
 }
 
-/// Numbers by chance, the same ones by the same seed.
+/// Pseudo-random numbers. The same seed gives the same numbers.
 #[derive(Clone, Copy, Debug)]
 pub struct Chance(u64);
 
@@ -99,7 +99,7 @@ impl Shared {
         self.faults.lock().unwrap_or_else(PoisonError::into_inner)
     }
 
-    /// Whether there was no fault at this time.
+    /// Returns whether there was no fault at this time.
     fn was_calm(&self, time: u64) -> bool {
         let faults = self.faults();
         !faults.iter().any(|it| (it.0..=it.1).contains(&time))
@@ -119,7 +119,7 @@ impl Shared {
 }
 
 impl Client {
-    /// Calls until all is over.
+    /// Calls until the trial is over.
     pub fn run(mut self) {
         while !self.shared.is_over.load(Ordering::SeqCst) {
             match self.chance.below(READS) {
@@ -130,7 +130,7 @@ impl Client {
         }
     }
 
-    /// Counts by one of its keys, or reads it.
+    /// Counts with one of its keys, or reads the key.
     fn count(&mut self, is_read: bool) {
         let index = self.chance.below(self.keys.len() as u64) as usize;
         let key = self.first + index as u32;
@@ -161,7 +161,7 @@ impl Client {
         }
     }
 
-    /// Reads any key: what its client was told before is there, or was lost since.
+    /// Reads any key. The counts that its client was told before must still be there, unless they were lost since.
     fn read_other(&mut self) {
         let key = self.chance.below(self.shared.told.len() as u64) as u32;
         let (origin, count) = self.shared.told(key);
@@ -178,7 +178,7 @@ impl Client {
         }
     }
 
-    /// Calls by the map of the store or of servers.
+    /// Calls by the map of the store, or by the map of a server.
     fn call(&mut self, asked: Asked) -> Result<Option<Answered>, CallError> {
         let shared = &*self.shared;
         let router = &self.routers[self.chance.below(2) as usize];
@@ -218,7 +218,7 @@ impl Client {
         }
     }
 
-    /// Returns what was told, once it is noted who executed.
+    /// Returns the service's answer, after noting which process executed the call.
     fn told_by(&self, answered: &Answered) -> Option<Told> {
         let (tally, shard) = (&self.shared.tally, answered.shard);
         let Some(told) = Told::read(&answered.answer.bytes) else {

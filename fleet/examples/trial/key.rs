@@ -1,17 +1,17 @@
-//! What a client knows of one of its keys, and what it therefore finds wrong in an answer.
+//! The facts that a client knows of one of its keys, and the faults that it therefore finds in an answer.
 use crate::message::{Told, LAST};
 use std::collections::{BTreeSet, HashSet};
 
-/// A key that only one client counts by, one call after another.
+/// A key with which only one client counts, one call after another.
 #[derive(Debug, Default)]
 pub struct Key {
     /// The number of the last call.
     number: u64,
-    /// What was told last.
+    /// The last answer.
     told: Option<Told>,
-    /// Calls that may have been made, or may be made still: each at most once.
+    /// The calls that may have been made, or may still be made, each at most once.
     unsure: BTreeSet<u64>,
-    /// Beginnings of the shard whose counts were lost.
+    /// The beginnings of the shard whose counts were lost.
     left: HashSet<u64>,
 }
 
@@ -22,17 +22,17 @@ impl Key {
         self.number
     }
 
-    /// Notes that it isn't known whether the call of this number was made.
+    /// Notes that nobody knows whether the call with this number was made.
     pub fn unsure(&mut self, number: u64) {
         self.unsure.insert(number);
     }
 
-    /// Takes what was told once the call of this number was made, or once the key was read if it is 0. Returns how
-    /// many answered calls are lost, of which the service was told.
+    /// Takes the answer to the call with this number, or to a read if the number is 0. Returns how many answered calls
+    /// are lost, if the service was told of their loss.
     ///
     /// # Errors
     ///
-    /// What is wrong: that a call is lost or made twice, or that one is made that wasn't to be.
+    /// If a call is lost or made twice, or if a call is made that must not be made. The text says which.
     pub fn take(&mut self, told: Told, number: u64) -> Result<u64, String> {
         let before = self.told.take();
         let lost = match &before {
@@ -79,8 +79,8 @@ impl Key {
         }
     }
 
-    /// Notes that these calls were counted since the last answer: that of this number last, if it is none of 0, and
-    /// before it only some of those that may have been made.
+    /// Notes that these calls were counted since the last answer. If `number` isn't 0, the call with that number must
+    /// be the last one. The calls before it must be calls that may have been made.
     fn note_made(&mut self, new: &[u64], number: u64) -> Result<(), String> {
         let others = match (number, new.split_last()) {
             (0, _) => new,

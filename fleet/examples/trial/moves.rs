@@ -1,4 +1,4 @@
-//! Migrations and drains by chance, while clients call.
+//! Random migrations and drains, while clients call.
 use crate::client::{Chance, Shared};
 use durkenzo_fleet::Router;
 use std::collections::BTreeMap;
@@ -6,13 +6,13 @@ use std::sync::atomic::Ordering;
 use std::thread;
 use std::time::Duration;
 
-/// How long a command may take.
+/// The longest time for a command.
 const LONG: Duration = Duration::from_secs(20);
-/// After how many migrations a server is drained, and shards are spread.
+/// The number of migrations after which a server is drained, and shards are spread.
 const DRAIN: u64 = 100;
 
-/// Moves shards between so many servers until all is over, and rests so long between two moves. Returns why commands
-/// were refused, and how often.
+/// Moves shards between this many servers until the trial is over, and rests this long between two moves. Returns the
+/// reasons for which commands were refused, with their counts.
 pub fn run(
     shared: &Shared,
     router: &Router,

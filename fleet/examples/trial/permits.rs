@@ -1,13 +1,13 @@
-//! Who executed for a shard, and when: one process at a time.
+//! Records which process executed for a shard, and when. Only one process at a time may execute.
 use crate::message::Told;
 use std::collections::BTreeMap;
 use std::sync::atomic::{AtomicU64, Ordering};
 use std::sync::{Mutex, PoisonError};
 
-/// How many stretches of a shard are kept.
+/// The most stretches of a shard that are kept.
 const KEPT: usize = 256;
 
-/// The stretches in which processes executed for a shard, by the fence of each.
+/// The stretches of time in which processes executed for a shard, by the fence of each.
 #[derive(Debug, Default)]
 pub struct Permits {
     /// The greatest fence of an answer so far.
@@ -15,7 +15,7 @@ pub struct Permits {
     stretches: Mutex<BTreeMap<u64, Stretch>>,
 }
 
-/// When a process executed by a fence, as far as that was answered.
+/// The time in which a process executed under a fence, as far as answers tell it.
 #[derive(Clone, Copy, Debug)]
 struct Stretch {
     process: u64,
@@ -25,16 +25,17 @@ struct Stretch {
 }
 
 impl Permits {
-    /// Returns the fence below which no call that begins now is answered.
+    /// Returns the least fence with which a call that begins now may be answered.
     pub fn least(&self) -> u64 {
         self.greatest.load(Ordering::SeqCst)
     }
 
-    /// Notes what was answered by a fence to a call that began as `least` was the least one.
+    /// Notes an answer under this fence. When the call began, `least` was the least fence for it.
     ///
     /// # Errors
     ///
-    /// Two processes executed at a time, or by one fence, or what was lost is there again.
+    /// If two processes executed at the same time or under the same fence, if the fence is less than `least`, or if a
+    /// lost body is there again.
     pub fn note(&self, fence: u64, told: &Told, least: u64) -> Result<(), String> {
         self.greatest.fetch_max(fence, Ordering::SeqCst);
         if fence < least {

@@ -1,12 +1,13 @@
-//! What clients saw, in numbers.
+//! The counts of the outcomes that clients saw.
+use crate::message::by_monotonic;
 use std::fmt;
 use std::sync::atomic::{AtomicU64, Ordering};
 use std::sync::{Mutex, PoisonError};
 
-/// How many findings are told.
+/// The most findings that are printed.
 const MOST: usize = 20;
 
-/// What came of calls so far, by all clients.
+/// The outcomes of all clients' calls so far.
 #[derive(Debug, Default)]
 pub struct Tally {
     calls: AtomicU64,
@@ -23,21 +24,21 @@ pub struct Tally {
     findings: Mutex<Vec<String>>,
 }
 
-/// What a tally was at a moment.
+/// The numbers of a tally at a moment.
 #[derive(Clone, Copy, Debug, Default, PartialEq, Eq)]
 pub struct Sums {
     /// Calls that were answered, and how many of them only read.
     pub calls: u64,
     pub reads: u64,
     pub forwarded: u64,
-    /// Calls that may have been made, and calls of which nothing was done.
+    /// Calls that may have been made, and calls for which nothing was done.
     pub unsure: u64,
     pub refused: u64,
-    /// Answered calls that the service was told are lost.
+    /// Answered calls that are lost, as the service was told.
     pub lost: u64,
     pub migrations: u64,
     pub drains: u64,
-    /// What isn't to be as long as there are no faults, and what is never to be.
+    /// Events that must not happen while there are no faults, and events that must never happen.
     pub in_calm: u64,
     pub wrong: u64,
 }
@@ -47,7 +48,7 @@ fn one(of: &AtomicU64) {
 }
 
 impl Tally {
-    /// Notes an answer that took so many microseconds.
+    /// Notes an answer that took this many microseconds.
     pub fn answered(&self, is_read: bool, hops: u8, took: u64) {
         one(&self.calls);
         self.reads.fetch_add(u64::from(is_read), Ordering::Relaxed);
@@ -76,13 +77,13 @@ impl Tally {
         one(&self.drains);
     }
 
-    /// Notes what is wrong, if it isn't that a lease ended by itself, at this time.
+    /// Notes an event in calm, at this time. It is wrong unless a lease ended by itself.
     pub fn in_calm(&self, time: u64, what: String) {
         one(&self.in_calm);
-        println!("calm: {:.3} {what}", time as f64 / 1e9);
+        println!("calm: {:.3} {what}", by_monotonic(time) as f64 / 1e9);
     }
 
-    /// Notes what is wrong.
+    /// Notes an event that must never happen.
     pub fn wrong(&self, what: String) {
         one(&self.wrong);
         let mut all = self.findings.lock().unwrap_or_else(PoisonError::into_inner);
@@ -92,7 +93,7 @@ impl Tally {
         }
     }
 
-    /// How many milliseconds the longest answer took.
+    /// Returns how many milliseconds the longest answer took.
     pub fn longest(&self) -> u64 {
         self.longest.load(Ordering::Relaxed) / 1_000
     }
@@ -115,7 +116,7 @@ impl Tally {
 }
 
 impl Sums {
-    /// Returns what came since these earlier ones.
+    /// Returns the difference to these earlier sums.
     pub fn since(self, earlier: Sums) -> Sums {
         Sums {
             calls: self.calls - earlier.calls,

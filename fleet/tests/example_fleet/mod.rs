@@ -1,4 +1,4 @@
-//! A fleet of an example's processes, which shards are moved in.
+//! A fleet of processes of an example. The tests move its shards.
 #![allow(dead_code)]
 use crate::processes::{example, server, until, OwnEtcd, Process, PATIENCE};
 use durkenzo_fleet::Router;
@@ -11,15 +11,15 @@ use std::time::Duration;
 pub const SERVERS: u16 = 3;
 
 pub struct ExampleFleet {
-    /// Each with where it is, as it says.
+    /// Each process, with the address that it prints.
     pub servers: Vec<(Process, String)>,
     pub router: Arc<Router>,
     _etcd: OwnEtcd,
 }
 
 impl ExampleFleet {
-    /// Begins processes of the example with this in their environment, and waits until each owns shards; none if etcd
-    /// isn't installed.
+    /// Begins processes of the example with this variable in their environment, and waits until each of them owns
+    /// shards. Returns nothing if etcd isn't installed.
     pub fn begin(name: &str, variable: (&str, &Path)) -> Option<ExampleFleet> {
         let Some(etcd) = OwnEtcd::begin() else {
             println!("etcd isn't installed, so nothing was tried");
@@ -37,21 +37,21 @@ impl ExampleFleet {
         Some(fleet)
     }
 
-    /// Returns which servers own shards.
+    /// Returns the servers that own shards.
     pub fn owners(&self) -> BTreeSet<u16> {
         self.owner_of_each().into_iter().collect()
     }
 
     /// Returns the owner of each shard that has one.
     pub fn owner_of_each(&self) -> Vec<u16> {
-        // It is asked again, as the process that is asked may be stopped.
+        // If this fails, the caller asks again, because the process that is asked may be stopped.
         let lines = self.router.command(&["SHARDS"], Duration::from_secs(2));
         let lines = lines.unwrap_or_default();
         let owners = lines.iter().skip(1).filter_map(|it| it.split(' ').nth(2));
         owners.filter_map(|it| it.parse().ok()).collect()
     }
 
-    /// Moves a shard to a server, if it isn't there already.
+    /// Moves a shard to a server, unless it is there already.
     pub fn migrate(&self, shard: usize, to: u16) {
         let [shard, to] = [shard.to_string(), to.to_string()];
         let told = self.router.command(&["MIGRATE", &shard, &to], PATIENCE);
@@ -78,7 +78,7 @@ fn begun(
     )
 }
 
-/// An empty folder of the test, which is removed.
+/// An empty folder, which is removed after the test.
 pub struct Folder(pub PathBuf);
 
 impl Folder {
@@ -91,7 +91,7 @@ impl Folder {
 
 impl Drop for Folder {
     fn drop(&mut self) {
-        // What can't be removed lies in a temporary folder.
+        // If the folder can't be removed, it stays among the temporary files.
         let _ = fs::remove_dir_all(&self.0);
     }
 }

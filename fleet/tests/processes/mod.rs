@@ -1,4 +1,4 @@
-//! Processes of an example over an etcd of its own.
+//! Processes of an example, over an etcd of their own.
 use durkenzo_store::{Access, Etcd, Store};
 use std::fs;
 use std::io::{BufRead, BufReader};
@@ -9,7 +9,7 @@ use std::sync::Arc;
 use std::thread;
 use std::time::{Duration, Instant};
 
-/// How long a client tries a call, and the test waits for what comes.
+/// How long a client tries a call, and how long the test waits for an event that must come.
 pub const PATIENCE: Duration = Duration::from_secs(20);
 
 /// A process that is killed at the end.
@@ -17,7 +17,7 @@ pub struct Process(pub Child);
 
 impl Drop for Process {
     fn drop(&mut self) {
-        // It may have ended.
+        // The process may have ended already.
         let _ = self.0.kill();
         let _ = self.0.wait();
     }
@@ -31,7 +31,7 @@ pub struct OwnEtcd {
 }
 
 impl OwnEtcd {
-    /// Begins one; none if etcd isn't installed.
+    /// Begins an etcd. Returns nothing if etcd isn't installed.
     pub fn begin() -> Option<OwnEtcd> {
         let folder = std::env::temp_dir().join(format!("durkenzo-fleet-{}", std::process::id()));
         let [url, peer] = [free_port(), free_port()].map(|it| format!("http://127.0.0.1:{it}"));
@@ -74,7 +74,7 @@ impl OwnEtcd {
 
 impl Drop for OwnEtcd {
     fn drop(&mut self) {
-        // The process has a moment more; what it leaves lies in a temporary folder.
+        // The process still runs for a moment. Files that it leaves are in a temporary folder.
         let _ = fs::remove_dir_all(&self.folder);
     }
 }
@@ -84,11 +84,17 @@ fn free_port() -> u16 {
     listener.local_addr().unwrap().port()
 }
 
-/// Begins a server of the example with these options. Returns it with where it listens.
+/// Begins a server of the example with these options. Returns its process and its address.
 pub fn server(program: &Path, options: &[&str]) -> (Process, String) {
+    server_with_stderr(program, options, Stdio::inherit())
+}
+
+/// Begins a server as [`server`] does. Its lines for the operator go to `stderr`.
+pub fn server_with_stderr(program: &Path, options: &[&str], stderr: Stdio) -> (Process, String) {
     let mut child = Command::new(program)
         .args(options)
         .stdout(Stdio::piped())
+        .stderr(stderr)
         .spawn()
         .unwrap();
     let mut told = String::new();
@@ -99,7 +105,7 @@ pub fn server(program: &Path, options: &[&str]) -> (Process, String) {
     (Process(child), address.to_owned())
 }
 
-/// The program of the example, which cargo builds before tests are run.
+/// Returns the program of the example, which cargo builds before it runs tests.
 pub fn example(name: &str) -> PathBuf {
     let test = std::env::current_exe().unwrap();
     let folder = test.parent().and_then(Path::parent).unwrap();

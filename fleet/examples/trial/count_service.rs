@@ -1,22 +1,22 @@
-//! The service of the trial: it counts calls by key, and keeps the numbers of the last ones.
+//! The service of the trial. It counts calls by key, and keeps the numbers of the last calls.
 use crate::message::{now, numbers, spelled, Asked, Told, LAST};
 use durkenzo_fleet::{Call, Came, Changes, Fault, Piece, Service, Shard};
 use std::collections::{BTreeMap, BTreeSet, VecDeque};
 
-pub struct Counting {
+pub struct CountService {
     process: u64,
     moves_in_pieces: bool,
 }
 
-/// How many bytes a key has in a piece at most.
+/// The most bytes of a key in a piece.
 const KEY: usize = 8 * (3 + LAST);
 
-/// What is kept of a shard.
+/// The counts of a shard.
 pub struct Counts {
     origin: u64,
     is_new: bool,
     keys: BTreeMap<u32, Count>,
-    /// The keys that aren't copied to the next owner, or were counted since, if there is a copy.
+    /// The keys that aren't copied to the next owner, or were counted since. There are none if there is no copy.
     uncopied: Option<BTreeSet<u32>>,
 }
 
@@ -26,23 +26,23 @@ struct Count {
     last: VecDeque<u64>,
 }
 
-/// Returns when a shard began that is told by this number.
+/// Returns when the shard with this origin began.
 pub fn began_at(origin: u64) -> u64 {
     origin >> 8
 }
 
-impl Counting {
-    pub fn new(moves_in_pieces: bool) -> Counting {
+impl CountService {
+    pub fn new(moves_in_pieces: bool) -> CountService {
         let process = now() << 8 | u64::from(std::process::id() as u8);
-        Counting {
+        CountService {
             process,
             moves_in_pieces,
         }
     }
 
-    /// Returns what is kept of a shard that begins.
+    /// Returns the counts of a shard that begins.
     fn begun(&self, is_new: bool) -> Counts {
-        // No other shard begins in this nanosecond in a process of the same number.
+        // In this nanosecond, no other shard begins in a process with the same number.
         let origin = now() << 8 | self.process & 0xff;
         let keys = BTreeMap::new();
         Counts {
@@ -55,7 +55,7 @@ impl Counting {
 }
 
 impl Counts {
-    /// Returns the bytes that spell these keys of it.
+    /// Returns the bytes of these keys and their counts.
     fn bytes(&self, keys: &BTreeSet<u32>) -> Vec<u8> {
         let mut all = vec![self.origin, u64::from(self.is_new)];
         for (key, it) in self.keys.iter().filter(|it| keys.contains(it.0)) {
@@ -86,7 +86,7 @@ impl Counts {
     }
 }
 
-impl Service for Counting {
+impl Service for CountService {
     type Body = Counts;
 
     fn add(&self, _: Shard, came: Came<'_>) -> Result<Counts, Fault> {
@@ -134,7 +134,7 @@ impl Service for Counting {
     }
 }
 
-impl Changes<Counts> for Counting {
+impl Changes<Counts> for CountService {
     fn begin_copy(&self, counts: &mut Counts) {
         counts.uncopied = Some(counts.keys.keys().copied().collect());
     }

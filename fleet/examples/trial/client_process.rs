@@ -1,4 +1,4 @@
-//! The clients' process: it calls until standard input ends, and is told there of faults.
+//! The clients' process. It calls until standard input ends, which also tells it of faults.
 use crate::client::{Chance, Client, Shared};
 use crate::message::now;
 use crate::{moves, tally::Sums};
@@ -13,41 +13,41 @@ use std::sync::Arc;
 use std::thread::{self, JoinHandle};
 use std::time::{Duration, Instant};
 
-/// How often it is looked whether all shards are answered.
+/// How often the process looks whether all shards are answered.
 const LOOK: Duration = Duration::from_millis(2);
 
-/// How clients call.
+/// The process of the clients, and how they call.
 #[derive(Debug, Parser)]
-pub struct Calling {
-    /// Members of etcd
+pub struct ClientProcess {
+    /// Addresses of etcd's members
     #[arg(long, value_delimiter = ',')]
     etcd: Vec<String>,
 
-    /// Where servers are
+    /// Addresses of the servers
     #[arg(long, value_delimiter = ',')]
     servers: Vec<String>,
 
-    /// How many clients call
+    /// Number of clients that call
     #[arg(long, default_value_t = 8)]
     clients: u32,
 
-    /// How many keys each counts by
+    /// Number of keys that each client counts with
     #[arg(long, default_value_t = 24)]
     keys: u32,
 
-    /// How many milliseconds a client rests between two calls
+    /// Milliseconds that a client rests between two calls
     #[arg(long, default_value_t = 3)]
     rest: u64,
 
-    /// How many seconds a call is tried
+    /// Seconds for which a call is tried
     #[arg(long, default_value_t = 5)]
     patience: u64,
 
-    /// Within how many seconds all shards must be answered after a fault
+    /// Seconds within which all shards must be answered after a fault
     #[arg(long, default_value_t = 60)]
     bound: u64,
 
-    /// How many milliseconds pass between two migrations; 0 makes none
+    /// Milliseconds between two migrations; 0 makes none
     #[arg(long, default_value_t = 0)]
     moves: u64,
 
@@ -55,19 +55,19 @@ pub struct Calling {
     seed: u64,
 }
 
-/// What begins and ends by the lines of standard input.
+/// The faults that begin and end with the lines of standard input.
 struct Faults<'a> {
-    calling: &'a Calling,
+    process: &'a ClientProcess,
     shared: &'a Shared,
-    /// What is under way, since when, and what had been counted.
+    /// The fault that is under way, when it began, and the sums at that time.
     current: Option<(String, Instant, Sums)>,
 }
 
-impl Calling {
-    /// Calls until standard input ends. The status is 1 if anything is wrong.
+impl ClientProcess {
+    /// Calls until standard input ends. Returns status 1 if anything is wrong.
     pub fn run(&self) -> Result<ExitCode, Box<dyn Error>> {
         let store = Etcd::new(Access::new(self.etcd.iter()))?;
-        let watching = Arc::new(Router::watch(&store)?);
+        let watching = Arc::new(self.watching(&store)?);
         let first = self.servers.first().ok_or("--servers names none")?;
         let routers = [watching.clone(), Arc::new(Router::of(first)?)];
         let times = [
@@ -82,7 +82,7 @@ impl Calling {
         let clients = self.clients(&shared, &routers);
         let moves = self.moves(&shared, &watching);
         let mut faults = Faults {
-            calling: self,
+            process: self,
             shared: &shared,
             current: None,
         };
@@ -101,6 +101,17 @@ impl Calling {
         let sums = shared.tally.sums();
         println!("sums: {sums}, {} ms is the longest", shared.tally.longest());
         Ok(ExitCode::from(u8::from(sums.wrong > 0)))
+    }
+
+    /// Watches the map of the fleet, as soon as its first process has written the settings.
+    fn watching(&self, store: &Etcd) -> Result<Router, Box<dyn Error>> {
+        let end = Instant::now() + Duration::from_secs(self.bound);
+        loop {
+            match Router::watch(store) {
+                Err(_) if Instant::now() < end => thread::sleep(LOOK),
+                watched => return Ok(watched?),
+            }
+        }
     }
 
     /// Waits until each shard is answered.
@@ -140,11 +151,12 @@ impl Calling {
 }
 
 impl Faults<'_> {
-    /// Takes a line: a fault begins, or it is over, or it was no fault at all.
+    /// Takes a line. A fault begins, or it is over, or there was no fault at all.
     fn take(&mut self, line: &str) {
         match line.split_once(' ') {
             Some(("fault", name)) => {
                 self.shared.begin_fault();
+                println!("begun: {name}");
                 let sums = self.shared.tally.sums();
                 self.current = Some((name.to_owned(), Instant::now(), sums));
             }
@@ -152,7 +164,7 @@ impl Faults<'_> {
         }
     }
 
-    /// Waits until all shards are answered, and tells what the fault came to.
+    /// Waits until all shards are answered, and prints the results of the fault.
     fn heal(&mut self) {
         let Some((name, began, before)) = self.current.take() else {
             return;
@@ -170,9 +182,9 @@ impl Faults<'_> {
         self.shared.end_fault();
     }
 
-    /// Waits until a call of each shard is answered that began after this time. Returns of which ones none was.
+    /// Waits until each shard has answered a call that began after this time. Returns the shards that haven't.
     fn await_answers(&self, since: u64) -> Vec<usize> {
-        let end = Instant::now() + Duration::from_secs(self.calling.bound);
+        let end = Instant::now() + Duration::from_secs(self.process.bound);
         loop {
             let answered = self.shared.answered.iter().enumerate();
             let late = answered.filter(|it| it.1.load(Ordering::SeqCst) < since);
